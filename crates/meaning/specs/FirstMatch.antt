@@ -1,0 +1,186 @@
+-- The first match of a rule in a host, executable. A candidate is dropped as soon as the placement so far breaks a matching
+-- rule, and a node also where a left edge to an earlier node has no host edge, or where it must go and has edges that must
+-- dangle. Rests on Matching and Search.
+use mathlib.Core.Bool.{Bool, true, false, not}
+use mathlib.Core.Option.{Option, some, none}
+use mathlib.Core.List.{List, [], _∷_, _++_, map}
+use Prim.Native.Nat.{ℕ, zero, suc, _+_, _-_, _<_, max}
+use lib.ListN.{length, getD, take, drop}
+use lib.Dec.{eqb, leb, ltb}
+use Rattle.meaning.specs.Basics.{choose, both, either, clauses, all, any, count, every, absent, same, concat}
+use Rattle.meaning.specs.Layout.{Host, liveAt}
+use Rattle.meaning.specs.Image.{RuleNode, RuleEdge, Rule, anyMark}
+use Rattle.meaning.specs.References.{operandNames, conditionOperands, conditionNodes, labels, isInt, lists, takesList}
+use Rattle.meaning.specs.Matching.{nodeAt, edgeAt, leftNode, leftEdge, leftNodes, leftEdges, nodeSlot, edgeSlot, Assignment, instance, runs, testHolds}
+use Rattle.meaning.specs.Search.{deep}
+use Rattle.meaning.specs.declared.Element.{Element}
+use Rattle.meaning.specs.declared.Element.the-variants.{Constant, Variable, Sum, Difference}
+use Rattle.meaning.specs.declared.Test.{Test}
+
+-- The assignment that a placement gives: a variable has the value that it takes at the first left item that has it.
+
+unfoldable pub isVariable : ℕ → Element → Bool
+isVariable v (Constant c) = false
+isVariable v (Variable w) = eqb w v
+isVariable v (Sum a b) = false
+isVariable v (Difference a b) = false
+
+-- how many atoms an element takes, where a list takes `spare` of them
+abbrev pub share : Rule → ℕ → Element → ℕ
+share r spare e = choose (takesList r e) spare 1
+
+-- how many atoms are left for a list, of n in all
+abbrev pub spare : Rule → List Element → ℕ → ℕ
+spare r l n = n - (length l - lists r l)
+
+-- what variable v takes of the atoms at its first occurrence in the label
+unfoldable pub taken : Rule → ℕ → ℕ → List Element → List ℕ → Option (List ℕ)
+taken r v n [] atoms = none
+taken r v n (e ∷ l) atoms =
+    let later = taken r v n l (drop (share r n e) atoms) in
+    choose (isVariable v e) (some (take (share r n e) atoms)) later
+
+-- a left label and the host label that it is placed on
+pub record Item : Type 0 where
+  pub pattern : List Element
+  pub atoms : List ℕ
+
+unfoldable pub paired : List (List Element) → List (List ℕ) → List Item
+paired [] ms = []
+paired (l ∷ ls) [] = []
+paired (l ∷ ls) (m ∷ ms) = record { pattern = l; atoms = m } ∷ paired ls ms
+
+-- the host labels of a placement, or of the front of one: nodes', then edges'
+abbrev pub hostLabels : Host → Rule → List ℕ → List (List ℕ)
+hostLabels h r p =
+    map (λ x. nodeAt h x .label) (take (leftNodes r) p) ++ map (λ x. edgeAt h x .label) (drop (leftNodes r) p)
+
+abbrev pub placedItems : Host → Rule → List ℕ → List Item
+placedItems h r p = paired (labels (r .left)) (hostLabels h r p)
+
+unfoldable pub orElse : Option (List ℕ) → List ℕ → List ℕ
+orElse none d = d
+orElse (some l) d = l
+
+-- a variable that no item has: one atom for an int, none for a list
+unfoldable pub valueFrom : Rule → List Item → Assignment
+valueFrom r [] v = choose (isInt r v) (0 ∷ []) []
+valueFrom r (i ∷ is) v =
+    orElse (taken r v (spare r (i .pattern) (length (i .atoms))) (i .pattern) (i .atoms)) (valueFrom r is v)
+
+abbrev pub assigned : Host → Rule → List ℕ → Assignment
+assigned h r p = valueFrom r (placedItems h r p)
+
+-- Candidates.
+
+unfoldable pub marksAgree : ℕ → ℕ → Bool
+marksAgree left mark = either (eqb left anyMark) (eqb left mark)
+
+-- as many atoms as a left label can take: one for each element that is no list variable, more if it has a list variable
+unfoldable pub lengthFits : Rule → List Element → List ℕ → Bool
+lengthFits r l atoms =
+    choose (eqb (lists r l) 0) (eqb (length atoms) (length l)) (leb (length l - lists r l) (length atoms))
+
+unfoldable pub labelAgrees : Rule → Assignment → List Element → List ℕ → Bool
+labelAgrees r α l atoms = both (lengthFits r l atoms) (same atoms (instance α l))
+
+-- How many items must be placed before a test can be decided: those up to the last node that it names, and up to the first
+-- item that has each of its variables.
+
+unfoldable pub has : ℕ → List Element → Bool
+has v [] = false
+has v (e ∷ l) = either (isVariable v e) (has v l)
+
+-- the number of the first label that has variable v
+unfoldable pub firstWith : ℕ → List (List Element) → ℕ
+firstWith v [] = zero
+firstWith v (l ∷ ls) = let later = firstWith v ls in choose (has v l) zero (suc later)
+
+unfoldable pub highest : List ℕ → ℕ
+highest [] = zero
+highest (n ∷ l) = max n (highest l)
+
+unfoldable pub decidedAt : Rule → Test → ℕ
+decidedAt r t =
+    highest
+    (map suc
+    (conditionNodes (t .condition)
+    ++ map (λ v. firstWith v (labels (r .left))) (concat (map operandNames (conditionOperands (t .condition))))))
+
+module _ (h : Host) (r : Rule) where
+  -- the tests that the last item of the placement so far decides hold
+  unfoldable pub testsSoFar : List ℕ → Bool
+  testsSoFar p = every (λ t. choose (eqb (decidedAt r t) (length p)) (testHolds h p (assigned h r p) t) true) (r .tests)
+
+  -- host edge x can stand for left edge k, as far as its mark and its ends' slots in p go
+  unfoldable pub joins : List ℕ → ℕ → ℕ → Bool
+  joins p k x =
+      both (runs h (nodeSlot p (leftEdge r k .source)) (nodeSlot p (leftEdge r k .target)) x)
+      (marksAgree (leftEdge r k .mark) (edgeAt h x .mark))
+
+  -- some host edge can stand for left edge k, if left node i is the later of its ends
+  unfoldable pub linked : List ℕ → ℕ → ℕ → Bool
+  linked p i k =
+      let found = any (joins p k) (length (h .edges)) in
+      choose (eqb (max (leftEdge r k .source) (leftEdge r k .target)) i) found true
+
+  -- edge x is live and touches node slot c
+  unfoldable pub touches : ℕ → ℕ → Bool
+  touches c x = both (liveAt (h .edges) x) (either (eqb (edgeAt h x .source) c) (eqb (edgeAt h x .target) c))
+
+  unfoldable pub leftTouches : ℕ → ℕ → Bool
+  leftTouches i k = either (eqb (leftEdge r k .source) i) (eqb (leftEdge r k .target) i)
+
+  -- left node i stays, or slot c is touched by no more edges than left node i
+  unfoldable pub canGo : ℕ → ℕ → Bool
+  canGo i c =
+      either (ltb i (r .interface)) (leb (count (touches c) (length (h .edges))) (count (leftTouches i) (leftEdges r)))
+
+  -- slot c can stand for left node i behind the prefix p
+  unfoldable pub nodeFits : List ℕ → ℕ → ℕ → Bool
+  nodeFits p i c =
+      clauses
+      (liveAt (h .nodes) c
+      ∷ absent c p
+      ∷ marksAgree (leftNode r i .mark) (nodeAt h c .mark)
+      ∷ eqb (leftNode r i .root) (nodeAt h c .root)
+      ∷ labelAgrees r (assigned h r (p ++ c ∷ [])) (leftNode r i .label) (nodeAt h c .label)
+      ∷ all (linked (p ++ c ∷ []) i) (leftEdges r)
+      ∷ canGo i c
+      ∷ testsSoFar (p ++ c ∷ [])
+      ∷ [])
+
+  -- slot c can stand for left edge k behind the prefix p
+  unfoldable pub edgeFits : List ℕ → ℕ → ℕ → Bool
+  edgeFits p k c =
+      clauses
+      (joins p k c
+      ∷ absent c (drop (leftNodes r) p)
+      ∷ labelAgrees r (assigned h r (p ++ c ∷ [])) (leftEdge r k .label) (edgeAt h c .label)
+      ∷ testsSoFar (p ++ c ∷ [])
+      ∷ [])
+
+  unfoldable pub fits : List ℕ → ℕ → Bool
+  fits p c =
+      choose (ltb (length p) (leftNodes r)) (nodeFits p (length p) c) (edgeFits p (length p - leftNodes r) c)
+
+  unfoldable pub candidates : List ℕ → ℕ
+  candidates p = choose (ltb (length p) (leftNodes r)) (length (h .nodes)) (length (h .edges))
+
+  -- Full placements.
+
+  -- edge x touches the slot of left node j, which goes
+  unfoldable pub touchesGone : List ℕ → ℕ → ℕ → Bool
+  touchesGone p x j = both (leb (r .interface) j) (touches (nodeSlot p j) x)
+
+  -- edge x would dangle: it touches a node that goes, and is not placed itself
+  unfoldable pub dangles : List ℕ → ℕ → Bool
+  dangles p x = both (any (touchesGone p x) (leftNodes r)) (absent x (drop (leftNodes r) p))
+
+  unfoldable pub complete : List ℕ → Bool
+  complete p =
+      both (not (any (dangles p) (length (h .edges)))) (every (testHolds h p (assigned h r p)) (r .tests))
+
+  -- the first match, as its node slots in left order and then its edge slots
+  unfoldable pub firstMatch : Option (List ℕ)
+  firstMatch = deep candidates fits complete (leftNodes r + leftEdges r) [] 0

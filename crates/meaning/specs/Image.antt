@@ -1,0 +1,314 @@
+-- The program image: the tree that it stands for, and the reader of bytes, which succeeds exactly on what has the form
+-- of document 01 (answer 16). Rests on Basics, Numbers and, for marks, Layout.
+use mathlib.Core.Bool.{Bool, true, false}
+use mathlib.Core.Option.{Option, some, none}
+use mathlib.Core.List.{List, [], _∷_}
+use Prim.Native.Nat.{ℕ, zero, suc, _+_, _-_}
+use lib.ListN.{length, getD, take, drop}
+use lib.Dec.{eqb, leb}
+use Rattle.meaning.specs.Basics.{choose, both, either, every, isEmpty, ensure, _>>_, _>>=_}
+use Rattle.meaning.specs.Numbers.{number}
+use Rattle.meaning.specs.Layout.{isNodeMark, isEdgeMark}
+use Rattle.meaning.specs.declared.Operand.{Operand}
+use Rattle.meaning.specs.declared.Operand.the-variants.{Constant as constantOperand, Variable as variableOperand}
+use Rattle.meaning.specs.declared.Element.{Element}
+use Rattle.meaning.specs.declared.Element.the-variants.{Constant, Variable, Sum, Difference}
+use Rattle.meaning.specs.declared.Condition.{Condition}
+use Rattle.meaning.specs.declared.Condition.the-variants.{Edge, InDegree, OutDegree, Equal, Less}
+use Rattle.meaning.specs.declared.Test.{Test}
+
+-- The tree.
+
+pub record RuleNode : Type 0 where
+  pub mark : ℕ
+  pub root : ℕ
+  pub label : List Element
+
+pub record RuleEdge : Type 0 where
+  pub mark : ℕ
+  pub source : ℕ
+  pub target : ℕ
+  pub label : List Element
+
+pub record RuleGraph : Type 0 where
+  pub nodes : List RuleNode
+  pub edges : List RuleEdge
+
+-- variables: their types, 1 int, 2 list; nodes 0 to interface - 1 are the same on both sides
+pub record Rule : Type 0 where
+  pub variables : List ℕ
+  pub left : RuleGraph
+  pub right : RuleGraph
+  pub interface : ℕ
+  pub tests : List Test
+
+mutual
+  -- `guarded keep` is try where a successful guard's changes are kept, and if where they are not
+  pub data Command : Type 0 where
+    ruleSet : List ℕ → Command
+    sequence : Commands → Command
+    guarded : Bool → Command → Command → Command → Command
+    loop : Command → Command
+    skip : Command
+    fail : Command
+    break : Command
+
+  pub data Commands : Type 0 where
+    stop : Commands
+    then : Command → Commands → Commands
+
+pub record Program : Type 0 where
+  pub rules : List Rule
+  pub main : Command
+
+-- The limits of an image.
+
+pub record Limits : Type 0 where
+  pub bytes : ℕ
+  pub rules : ℕ
+  pub variables : ℕ
+  pub nodes : ℕ
+  pub edges : ℕ
+  pub elements : ℕ
+  pub tests : ℕ
+  pub numbers : ℕ
+  pub commands : ℕ
+  pub depth : ℕ
+
+abbrev pub limits : Limits
+limits =
+    record {
+      bytes = 8192;
+      rules = 32;
+      variables = 6;
+      nodes = 6;
+      edges = 6;
+      elements = 4;
+      tests = 4;
+      numbers = 8;
+      commands = 16;
+      depth = 16;
+    }
+
+-- Fields: a one-byte tag, a two-byte length and that many bytes.
+
+pub record Field : Type 0 where
+  pub tag : ℕ
+  pub payload : List ℕ
+  pub rest : List ℕ
+
+-- the length that a field states
+abbrev pub stated : List ℕ → ℕ
+stated bs = number (take 2 (drop 1 bs))
+
+-- the field at the front of the bytes, and what is behind it
+unfoldable pub field : List ℕ → Option Field
+field bs = do
+  ensure (leb 3 (length bs))
+  ensure (leb (stated bs) (length bs - 3))
+  some (record { tag = getD bs 0 0; payload = take (stated bs) (drop 3 bs); rest = drop (3 + stated bs) bs })
+
+unfoldable pub expect : ℕ → List ℕ → Option Field
+expect tag bs = do
+  d ← field bs
+  ensure (eqb (d .tag) tag)
+  some d
+
+pub record Read (A : Type 0) : Type 0 where
+  pub items : List A
+  pub rest : List ℕ
+
+-- at most n fields at the front whose tag passes, each read by `item` from its tag and payload, and what is behind them
+unfoldable pub leading : {A : Type 0} → (ℕ → Bool) → (ℕ → List ℕ → Option A) → ℕ → List ℕ → Option (Read A)
+leading passes item zero bs = some (record { items = []; rest = bs })
+leading passes item (suc n) [] = some (record { items = []; rest = [] })
+leading {A} passes item (suc n) (t ∷ bs) =
+    let next : Option (Read A) = do
+      d ← field (t ∷ bs)
+      a ← item (d .tag) (d .payload)
+      r ← leading passes item n (d .rest)
+      some (record { items = a ∷ r .items; rest = r .rest })
+    in
+    choose (passes t) next (some (record { items = []; rest = t ∷ bs }))
+
+-- the same, with nothing behind them
+unfoldable pub only : {A : Type 0} → (ℕ → Bool) → (ℕ → List ℕ → Option A) → ℕ → List ℕ → Option (List A)
+only passes item n bs = do
+  r ← leading passes item n bs
+  ensure (isEmpty (r .rest))
+  some (r .items)
+
+abbrev pub anyTag : ℕ → Bool
+anyTag t = true
+
+-- Operands and label elements.
+
+unfoldable pub constant : List ℕ → Option ℕ
+constant bs = do
+  ensure (eqb (length bs) 4)
+  some (number bs)
+
+unfoldable pub oneByte : List ℕ → Option ℕ
+oneByte bs = do
+  ensure (eqb (length bs) 1)
+  some (getD bs 0 0)
+
+unfoldable pub operand : ℕ → List ℕ → Option Operand
+operand tag bs =
+    choose (eqb tag 0x30) (constant bs >>= λ c. some (constantOperand c))
+    (choose (eqb tag 0x31) (oneByte bs >>= λ v. some (variableOperand v)) none)
+
+pub record Pair : Type 0 where
+  pub first : Operand
+  pub second : Operand
+
+unfoldable pub asPair : List Operand → Option Pair
+asPair [] = none
+asPair (a ∷ []) = none
+asPair (a ∷ b ∷ []) = some (record { first = a; second = b })
+asPair (a ∷ b ∷ c ∷ l) = none
+
+-- exactly two operands
+unfoldable pub twoOperands : List ℕ → Option Pair
+twoOperands bs = only anyTag operand 2 bs >>= asPair
+
+unfoldable pub element : ℕ → List ℕ → Option Element
+element tag bs =
+    choose (eqb tag 0x30) (constant bs >>= λ c. some (Constant c))
+    (choose (eqb tag 0x31) (oneByte bs >>= λ v. some (Variable v))
+    (choose (eqb tag 0x32) (twoOperands bs >>= λ p. some (Sum (p .first) (p .second)))
+    (choose (eqb tag 0x33) (twoOperands bs >>= λ p. some (Difference (p .first) (p .second))) none)))
+
+unfoldable pub label : List ℕ → Option (List Element)
+label bs = only anyTag element (limits .elements) bs
+
+-- Graphs. Mark 6, any, is legal in form on nodes and edges.
+
+abbrev pub anyMark : ℕ
+anyMark = 6
+
+unfoldable pub ruleNode : List ℕ → Option RuleNode
+ruleNode bs = do
+  ensure (leb 2 (length bs))
+  ensure (either (isNodeMark (getD bs 0 0)) (eqb (getD bs 0 0) anyMark))
+  ensure (leb (getD bs 1 0) 1)
+  l ← label (drop 2 bs)
+  some (record { mark = getD bs 0 0; root = getD bs 1 0; label = l })
+
+unfoldable pub ruleEdge : List ℕ → Option RuleEdge
+ruleEdge bs = do
+  ensure (leb 3 (length bs))
+  ensure (either (isEdgeMark (getD bs 0 0)) (eqb (getD bs 0 0) anyMark))
+  l ← label (drop 3 bs)
+  some
+      (record { mark = getD bs 0 0; source = getD bs 1 0; target = getD bs 2 0; label = l })
+
+-- nodes, then edges
+unfoldable pub ruleGraph : List ℕ → Option RuleGraph
+ruleGraph bs = do
+  n ← leading (eqb 0x20) (λ tag. ruleNode) (limits .nodes) bs
+  e ← only (eqb 0x21) (λ tag. ruleEdge) (limits .edges) (n .rest)
+  some (record { nodes = n .items; edges = e })
+
+-- Tests. The first byte says whether the test is negated.
+
+unfoldable pub relation : ℕ → Pair → Option Condition
+relation kind p =
+    choose (eqb kind 1) (some (Equal (p .first) (p .second)))
+    (choose (eqb kind 2) (some (Less (p .first) (p .second))) none)
+
+-- the condition of a test, from its tag and the bytes behind the first
+unfoldable pub condition : ℕ → List ℕ → Option Condition
+condition tag bs =
+    choose (eqb tag 0x40) (ensure (eqb (length bs) 2) >> some (Edge (getD bs 0 0) (getD bs 1 0)))
+    (choose (eqb tag 0x41) (ensure (eqb (length bs) 3) >> some (InDegree (getD bs 0 0) (number (drop 1 bs))))
+    (choose (eqb tag 0x42) (ensure (eqb (length bs) 3) >> some (OutDegree (getD bs 0 0) (number (drop 1 bs))))
+    (choose (eqb tag 0x43) (ensure (leb 1 (length bs)) >> (twoOperands (drop 1 bs) >>= relation (getD bs 0 0))) none)))
+
+unfoldable pub test : ℕ → List ℕ → Option Test
+test tag bs = do
+  ensure (leb 1 (length bs))
+  ensure (leb (getD bs 0 0) 1)
+  c ← condition tag (drop 1 bs)
+  some (record { negated = eqb (getD bs 0 0) 1; condition = c })
+
+-- Rules: exactly 0x11 to 0x15.
+
+unfoldable pub isType : ℕ → Bool
+isType t = either (eqb t 1) (eqb t 2)
+
+unfoldable pub types : List ℕ → Option (List ℕ)
+types bs = do
+  ensure (leb (length bs) (limits .variables))
+  ensure (every isType bs)
+  some bs
+
+unfoldable pub rule : List ℕ → Option Rule
+rule bs = do
+  v ← expect 0x11 bs
+  l ← expect 0x12 (v .rest)
+  r ← expect 0x13 (l .rest)
+  k ← expect 0x14 (r .rest)
+  t ← expect 0x15 (k .rest)
+  ensure (isEmpty (t .rest))
+  variables ← types (v .payload)
+  left ← ruleGraph (l .payload)
+  right ← ruleGraph (r .payload)
+  interface ← oneByte (k .payload)
+  tests ← only anyTag test (limits .tests) (t .payload)
+  some (record { variables = variables; left = left; right = right; interface = interface; tests = tests })
+
+-- Commands, nested at most n deep.
+
+unfoldable pub inOrder : List Command → Commands
+inOrder [] = stop
+inOrder (c ∷ l) = then c (inOrder l)
+
+unfoldable pub leaf : Command → List ℕ → Option Command
+leaf c bs = do
+  ensure (isEmpty bs)
+  some c
+
+unfoldable pub asRuleSet : List ℕ → Option Command
+asRuleSet bs = do
+  ensure (both (leb 1 (length bs)) (leb (length bs) (limits .numbers)))
+  some (ruleSet bs)
+
+unfoldable pub asSequence : List Command → Option Command
+asSequence [] = none
+asSequence (c ∷ l) = some (sequence (then c (inOrder l)))
+
+unfoldable pub asGuarded : Bool → List Command → Option Command
+asGuarded keep [] = none
+asGuarded keep (a ∷ []) = none
+asGuarded keep (a ∷ b ∷ []) = none
+asGuarded keep (a ∷ b ∷ c ∷ []) = some (guarded keep a b c)
+asGuarded keep (a ∷ b ∷ c ∷ d ∷ l) = none
+
+unfoldable pub asLoop : List Command → Option Command
+asLoop [] = none
+asLoop (c ∷ []) = some (loop c)
+asLoop (c ∷ d ∷ l) = none
+
+unfoldable pub command : ℕ → ℕ → List ℕ → Option Command
+command zero tag bs = none
+command (suc n) tag bs =
+    let parts = only anyTag (command n) (limits .commands) bs in
+    choose (eqb tag 0x50) (asRuleSet bs)
+    (choose (eqb tag 0x51) (parts >>= asSequence)
+    (choose (eqb tag 0x52) (parts >>= asGuarded false)
+    (choose (eqb tag 0x53) (parts >>= asGuarded true)
+    (choose (eqb tag 0x54) (parts >>= asLoop)
+    (choose (eqb tag 0x55) (leaf skip bs)
+    (choose (eqb tag 0x56) (leaf fail bs)
+    (choose (eqb tag 0x57) (leaf break bs) none)))))))
+
+-- The whole image: rules, then one command, then nothing.
+
+unfoldable pub program : List ℕ → Option Program
+program bs = do
+  r ← leading (eqb 0x10) (λ tag. rule) (limits .rules) bs
+  d ← field (r .rest)
+  ensure (isEmpty (d .rest))
+  c ← command (limits .depth) (d .tag) (d .payload)
+  some (record { rules = r .items; main = c })

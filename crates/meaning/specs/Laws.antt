@@ -1,0 +1,9 @@
+-- Laws of the definitions, one file a topic: what callers and proofs use instead of unfolding a definition.
+pub mod Tests
+pub mod Numbers
+pub mod Layout
+pub mod Image
+pub mod Search
+pub mod FirstMatch
+pub mod Applying
+pub mod Commands

@@ -1,0 +1,14 @@
+pub mod Basics
+pub mod Numbers
+pub mod Layout
+pub mod Image
+pub mod References
+pub mod Placement
+pub mod Matching
+pub mod Search
+pub mod FirstMatch
+pub mod Applying
+pub mod Commands
+pub mod Calls
+pub mod ProvedSet
+pub mod Laws

@@ -1,0 +1,180 @@
+-- The proved set: cases 1 to 12 and P of document 01, from bytes to bytes, and one claim that the call `run` gives what the
+-- paper says. Rests on Calls.
+use mathlib.Core.Path.{_≡_, refl}
+use mathlib.Core.List.{List, [], _∷_, _++_, map}
+use Prim.Native.Nat.{ℕ, _*_}
+use lib.ListN.{length, replicate}
+use Rattle.meaning.specs.Basics.{padded}
+use Rattle.meaning.specs.Numbers.{bytes}
+use Rattle.meaning.specs.Layout.{base, nodeLength, edgeLength, recordLength}
+use Rattle.meaning.specs.Calls.{Left, run, answerNumber, reportOf}
+use Rattle.meaning.specs.Basics
+use Rattle.meaning.specs.Numbers
+use Rattle.meaning.specs.Layout
+use Rattle.meaning.specs.Image
+use Rattle.meaning.specs.References
+use Rattle.meaning.specs.Placement
+use Rattle.meaning.specs.Matching
+use Rattle.meaning.specs.Search
+use Rattle.meaning.specs.FirstMatch
+use Rattle.meaning.specs.Applying
+use Rattle.meaning.specs.Commands
+use Rattle.meaning.specs.Calls
+
+-- A case: what is lent, and what the paper expects. The journal is lent full of ones, the report full of sevens.
+
+pub record Expected : Type 0 where
+  pub answer : ℕ
+  pub nodes : List ℕ
+  pub edges : List ℕ
+  pub journal : List ℕ
+  pub report : List ℕ
+
+pub record Case : Type 0 where
+  pub nodes : List ℕ
+  pub edges : List ℕ
+  pub records : ℕ
+  pub image : List ℕ
+  pub fuel : ℕ
+  pub expected : Expected
+
+abbrev pub given : Case → Expected
+given c =
+    let l : Left = run base (c .nodes) (c .edges) (replicate (c .records * recordLength base) 1) (c .image) (c .fuel) (replicate 8 7) in
+    record { answer = answerNumber (l .answer); nodes = l .nodes; edges = l .edges; journal = l .journal; report = l .report }
+
+-- Bytes of slots and of records.
+
+abbrev pub nodeSlot : ℕ → ℕ → List ℕ → List ℕ
+nodeSlot mark root atoms = padded (nodeLength base) (1 ∷ mark ∷ root ∷ atoms)
+
+abbrev pub freeNode : List ℕ
+freeNode = replicate (nodeLength base) 0
+
+abbrev pub edgeSlot : ℕ → ℕ → List ℕ
+edgeSlot source target = padded (edgeLength base) (1 ∷ 0 ∷ 0 ∷ 0 ∷ 0 ∷ source ∷ 0 ∷ target ∷ [])
+
+abbrev pub nodeRecord : ℕ → List ℕ → List ℕ
+nodeRecord slot before = 1 ∷ 0 ∷ 0 ∷ slot ∷ padded (edgeLength base) before
+
+abbrev pub edgeRecord : ℕ → List ℕ → List ℕ
+edgeRecord slot before = 2 ∷ 0 ∷ 0 ∷ slot ∷ padded (edgeLength base) before
+
+-- one unmarked, unlabelled, plain node, and the same in red
+abbrev pub plainNode : List ℕ
+plainNode = nodeSlot 0 0 (0 ∷ [])
+
+abbrev pub redNode : List ℕ
+redNode = nodeSlot 1 0 (0 ∷ [])
+
+-- Bytes of images.
+
+abbrev pub field : ℕ → List ℕ → List ℕ
+field tag payload = tag ∷ bytes 2 (length payload) ++ payload
+
+-- a rule of variables, left and right graph and interface, with no tests
+abbrev pub ruleField : List ℕ → List ℕ → List ℕ → ℕ → List ℕ
+ruleField variables left right k = field 0x10 (field 0x11 variables ++ field 0x12 left ++ field 0x13 right ++ field 0x14 (k ∷ []) ++ field 0x15 [])
+
+abbrev pub nodeField : ℕ → List ℕ → List ℕ
+nodeField mark label = field 0x20 (mark ∷ 0 ∷ label)
+
+abbrev pub edgeField : ℕ → ℕ → List ℕ
+edgeField source target = field 0x21 (0 ∷ source ∷ target ∷ [])
+
+abbrev pub variable : ℕ → List ℕ
+variable v = field 0x31 (v ∷ [])
+
+abbrev pub calls : ℕ → List ℕ
+calls i = field 0x50 (i ∷ [])
+
+abbrev pub skipField : List ℕ
+skipField = field 0x55 []
+
+abbrev pub failField : List ℕ
+failField = field 0x56 []
+
+abbrev pub breakField : List ℕ
+breakField = field 0x57 []
+
+-- D deletes one unmarked, unlabelled, plain node; M marks such a node red.
+abbrev pub deletes : List ℕ
+deletes = ruleField [] (nodeField 0 []) [] 0
+
+abbrev pub marks : List ℕ
+marks = ruleField [] (nodeField 0 []) (nodeField 1 []) 1
+
+-- a left side of two such nodes
+abbrev pub twoNodes : List ℕ
+twoNodes = ruleField [] (nodeField 0 [] ++ nodeField 0 []) (nodeField 0 [] ++ nodeField 0 []) 2
+
+-- one such node deleted and one added
+abbrev pub replaces : List ℕ
+replaces = ruleField [] (nodeField 0 []) (nodeField 0 []) 0
+
+-- grey x to grey y into red x, blue x + y, with the edge turned round
+abbrev pub turns : List ℕ
+turns =
+    ruleField (1 ∷ 1 ∷ [])
+    (nodeField 4 (variable 0) ++ nodeField 4 (variable 1) ++ edgeField 0 1)
+    (nodeField 1 (variable 0) ++ nodeField 3 (field 0x32 (variable 0 ++ variable 1)) ++ edgeField 1 0)
+    2
+
+-- What is expected, with 8 records lent.
+
+abbrev pub ends : ℕ → ℕ → List ℕ → List ℕ → Expected
+ends answer steps nodes edges =
+    record { answer = answer; nodes = nodes; edges = edges; journal = replicate (8 * recordLength base) 0; report = reportOf steps 0 }
+
+abbrev pub results : ℕ → ℕ → List ℕ → List ℕ → List ℕ → Expected
+results steps records nodes edges journal =
+    record { answer = 0; nodes = nodes; edges = edges; journal = padded (8 * recordLength base) journal; report = reportOf steps records }
+
+abbrev pub onPlainNode : ℕ → List ℕ → Expected → Case
+onPlainNode fuel image expected =
+    record { nodes = plainNode; edges = []; records = 8; image = image; fuel = fuel; expected = expected }
+
+abbrev pub cases : List Case
+cases =
+    -- 1, 2, 3: skip with fuel 1 and with none; a loop of skip with fuel 1,000
+    onPlainNode 1 skipField (results 1 0 plainNode [] [])
+    ∷ onPlainNode 0 skipField (ends 2 0 plainNode [])
+    ∷ onPlainNode 1000 (field 0x54 skipField) (ends 2 1000 plainNode [])
+    -- 4: a loop of fail, a loop of break
+    ∷ onPlainNode 100 (field 0x54 failField) (results 2 0 plainNode [] [])
+    ∷ onPlainNode 100 (field 0x54 breakField) (results 2 0 plainNode [] [])
+    -- 5: D, the node has a loop
+    ∷ record { nodes = plainNode; edges = edgeSlot 0 0; records = 8; image = deletes ++ calls 0; fuel = 100; expected = ends 1 1 plainNode (edgeSlot 0 0) }
+    -- 6: D, isolated
+    ∷ onPlainNode 100 (deletes ++ calls 0) (results 1 1 freeNode [] (nodeRecord 0 plainNode))
+    -- 7: a left side of two nodes on one
+    ∷ onPlainNode 100 (twoNodes ++ calls 0) (ends 1 1 plainNode [])
+    -- 8, 9: if and try M then skip else fail
+    ∷ onPlainNode 100 (marks ++ field 0x52 (calls 0 ++ skipField ++ failField)) (results 3 0 plainNode [] [])
+    ∷ onPlainNode 100 (marks ++ field 0x53 (calls 0 ++ skipField ++ failField)) (results 3 1 redNode [] (nodeRecord 0 plainNode))
+    -- 10, 11: a loop of (M; fail) and of (M; break)
+    ∷ onPlainNode 100 (marks ++ field 0x54 (field 0x51 (calls 0 ++ failField))) (results 4 0 plainNode [] [])
+    ∷ onPlainNode 100 (marks ++ field 0x54 (field 0x51 (calls 0 ++ breakField))) (results 4 1 redNode [] (nodeRecord 0 plainNode))
+    -- 12: delete one node and add one in a full table
+    ∷ onPlainNode 100 (replaces ++ calls 0) (results 1 2 plainNode [] (nodeRecord 0 plainNode ++ nodeRecord 0 freeNode))
+    -- P: two grey nodes labelled 5 and 7, an edge from 0 to 1, 8 records, fuel 10
+    ∷ record {
+      nodes = nodeSlot 4 0 (1 ∷ 0 ∷ 0 ∷ 0 ∷ 5 ∷ []) ++ nodeSlot 4 0 (1 ∷ 0 ∷ 0 ∷ 0 ∷ 7 ∷ []);
+      edges = edgeSlot 0 1;
+      records = 8;
+      image = turns ++ field 0x54 (calls 0);
+      fuel = 10;
+      expected =
+          results 3 4
+          (nodeSlot 1 0 (1 ∷ 0 ∷ 0 ∷ 0 ∷ 5 ∷ []) ++ nodeSlot 3 0 (1 ∷ 0 ∷ 0 ∷ 0 ∷ 12 ∷ []))
+          (edgeSlot 1 0)
+          (edgeRecord 0 (edgeSlot 0 1)
+          ++ nodeRecord 0 (nodeSlot 4 0 (1 ∷ 0 ∷ 0 ∷ 0 ∷ 5 ∷ []))
+          ++ nodeRecord 1 (nodeSlot 4 0 (1 ∷ 0 ∷ 0 ∷ 0 ∷ 7 ∷ []))
+          ++ edgeRecord 0 (replicate (edgeLength base) 0));
+    }
+    ∷ []
+
+pub proved-set : map given cases ≡ map (λ c. c .expected) cases
+unfolding Basics.choose Basics.both Basics.either Basics.clauses Basics.all Basics.any Basics.count Basics.every Basics.absent Basics.same Basics.zeros Basics.isEmpty Basics.concat Basics.isSome Basics._>>=_ Basics.ensure Basics._>>_ Basics.each Basics.firstFailing Numbers.number Numbers.bytes Numbers.height Numbers.less Numbers.sum Numbers.difference Layout.isLive Layout.put Layout.undone Layout.isNodeMark Layout.isEdgeMark Layout.fitsTable Layout.pieces Layout.readNode Layout.readEdge Layout.nodeBytes Layout.edgeBytes Layout.writeRecord Layout.keepsNode Layout.keepsEdge Layout.keepsLayout Image.field Image.expect Image.leading Image.only Image.constant Image.oneByte Image.operand Image.asPair Image.twoOperands Image.element Image.label Image.ruleNode Image.ruleEdge Image.ruleGraph Image.relation Image.condition Image.test Image.isType Image.types Image.rule Image.inOrder Image.leaf Image.asRuleSet Image.asSequence Image.asGuarded Image.asLoop Image.command Image.program References.operandNames References.elementOperands References.elementNames References.conditionOperands References.conditionNodes References.variablesExist References.endsExist References.testNodesExist References.interfaceFits References.isPlain References.leftPlain References.takesList References.lists References.leftSimple References.operandInt References.operandsInt References.variablesOnLeft References.anyKept References.anyPlaced References.ruleHolds References.references References.rulesExist References.allRulesExist Placement.placement Placement.breaksLie Placement.allBreaksLie Matching.nodeIn Matching.edgeIn Matching.atomsOf Matching.atomOf Matching.runs Matching.leaves Matching.arrives Matching.outDegree Matching.inDegree Matching.conditionHolds Matching.testHolds Search.scan Search.deep FirstMatch.isVariable FirstMatch.taken FirstMatch.paired FirstMatch.orElse FirstMatch.valueFrom FirstMatch.marksAgree FirstMatch.lengthFits FirstMatch.labelAgrees FirstMatch.has FirstMatch.firstWith FirstMatch.highest FirstMatch.decidedAt FirstMatch.testsSoFar FirstMatch.joins FirstMatch.linked FirstMatch.touches FirstMatch.leftTouches FirstMatch.canGo FirstMatch.nodeFits FirstMatch.edgeFits FirstMatch.fits FirstMatch.candidates FirstMatch.touchesGone FirstMatch.dangles FirstMatch.complete FirstMatch.firstMatch Applying.elementValue Applying.labelValue Applying.rightNode Applying.rightNodes Applying.rightEdge Applying.rightSide Applying.standing Applying.store Applying.stores Applying.lowestFree Applying.freeSlots Applying.nodesChange Applying.addNodes Applying.addEdges Applying.changed Applying.hindrance Applying.onFreeNode Applying.tested Applying.unhindered Applying.apply Commands.enterAt Commands.orLater Commands.firstRule Commands.afterApplying Commands.next Commands.decide Commands.again Commands.rounds Commands.call Commands.work Commands.works Calls.stopNumber Calls.refusalNumber Calls.answerNumber Calls.refused Calls.referencesHold Calls.placementHolds Calls.runRefusal Calls.finished Calls.started Calls.runOn Calls.run Calls.readRecord Calls.keepsRecord Calls.keepsRecords Calls.undoRefusal Calls.tablesUndone Calls.undoOn Calls.undo
+proved-set = refl

@@ -1,0 +1,48 @@
+//! The second interpreter's program: it runs an image and prints the listing, or makes a corpus.
+
+use std::io::{Read, Write};
+use std::process::ExitCode;
+
+use second::{corpus, listing};
+
+const USAGE: &str = "usage: second run IMAGE|-
+       second corpus --seed S --count N [-o FILE] [--listings FILE]";
+
+fn main() -> ExitCode {
+    let arguments: Vec<String> = std::env::args().skip(1).collect();
+    match chosen(&arguments) {
+        Ok(()) => ExitCode::SUCCESS,
+        Err(message) => {
+            eprintln!("second: {message}");
+            ExitCode::FAILURE
+        }
+    }
+}
+
+fn chosen(arguments: &[String]) -> Result<(), String> {
+    match arguments {
+        [word, image] if word == "run" => run(image),
+        [word, ..] if word == "run" => Err(format!("run takes one image\n{USAGE}")),
+        [word, rest @ ..] if word == "corpus" => corpus::main(rest),
+        [word, ..] => Err(format!("{word} is no subcommand\n{USAGE}")),
+        [] => Err(format!("a subcommand is missing\n{USAGE}")),
+    }
+}
+
+fn run(image: &str) -> Result<(), String> {
+    let bytes = read(image).map_err(|error| format!("{image} can't be read: {error}"))?;
+    let text = listing::listing(&bytes);
+    let mut out = std::io::stdout();
+    out.write_all(text.as_bytes())
+        .and_then(|()| out.flush())
+        .map_err(|error| format!("the listing can't be written: {error}"))
+}
+
+fn read(image: &str) -> std::io::Result<Vec<u8>> {
+    if image != "-" {
+        return std::fs::read(image);
+    }
+    let mut bytes = Vec::new();
+    std::io::stdin().read_to_end(&mut bytes)?;
+    Ok(bytes)
+}

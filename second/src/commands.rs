@@ -1,0 +1,166 @@
+//! Running commands. A command takes a state and gives a new one; whoever may have to go back keeps the
+//! state that it had, so nothing is ever undone through the records.
+
+use std::rc::Rc;
+
+use crate::applying::{apply, Record};
+use crate::calls::{answer, Exercised};
+use crate::host::Host;
+use crate::matching::first_match_counted;
+use crate::tree::{Command, Program};
+
+/// The graph and the records so far. An application makes a new graph, so a copy of a state stays what
+/// it was.
+#[derive(Clone, Debug)]
+pub struct State {
+    pub host: Rc<Host>,
+    pub records: Rc<Vec<Record>>,
+}
+
+/// How a command ends.
+#[derive(Clone, Debug)]
+pub enum Ending {
+    Success(State),
+    Fail,
+    Break(State),
+    /// One of the answers 2 to 7, which end the whole run.
+    Stop(u32),
+}
+
+/// A run of a program whose form, references and placement are right.
+pub struct Run<'a> {
+    pub program: &'a Program,
+    pub fuel_left: u32,
+    pub steps: u32,
+    /// The slots of the journal.
+    pub record_slots: usize,
+    pub exercised: &'a mut Exercised,
+}
+
+impl Run<'_> {
+    pub fn command(&mut self, command: &Command, state: State) -> Ending {
+        if self.fuel_left == 0 {
+            return Ending::Stop(answer::OUT_OF_FUEL);
+        }
+        self.fuel_left -= 1;
+        self.steps += 1;
+        self.exercised.steps += 1;
+        match command {
+            Command::RuleSet(numbers) => self.rule_set(numbers, state),
+            Command::Sequence(parts) => self.sequence(parts, state),
+            Command::If(guard, then, other) => self.if_command(guard, then, other, state),
+            Command::Try(guard, then, other) => self.try_command(guard, then, other, state),
+            Command::Loop(body) => self.loop_command(body, state),
+            Command::Skip => Ending::Success(state),
+            Command::Fail => Ending::Fail,
+            Command::Break => self.break_command(state),
+        }
+    }
+
+    /// The first listed rule that has a match is applied; fail if none has.
+    fn rule_set(&mut self, numbers: &[u8], state: State) -> Ending {
+        for number in numbers {
+            let rule = &self.program.rules[usize::from(*number)];
+            let Some(found) = first_match_counted(rule, &state.host, self.exercised) else {
+                continue;
+            };
+            let room = self.record_slots - state.records.len();
+            return match apply(rule, &found, &state.host, room, self.exercised) {
+                Ok((host, records)) => Ending::Success(with_records(state, host, &records)),
+                Err(answer) => Ending::Stop(answer),
+            };
+        }
+        Ending::Fail
+    }
+
+    fn sequence(&mut self, parts: &[Command], mut state: State) -> Ending {
+        for part in parts {
+            match self.command(part, state) {
+                Ending::Success(after) => state = after,
+                ending => return ending,
+            }
+        }
+        Ending::Success(state)
+    }
+
+    /// The guard's changes are undone, then the second command runs if it succeeded, else the third.
+    fn if_command(
+        &mut self,
+        guard: &Command,
+        then: &Command,
+        other: &Command,
+        state: State,
+    ) -> Ending {
+        let before = self.exercised.applications;
+        let ending = self.command(guard, state.clone());
+        match ending {
+            Ending::Success(_) | Ending::Break(_) => {
+                self.count_guard_undone(before);
+                self.command(then, state)
+            }
+            Ending::Fail => {
+                self.count_guard_undone(before);
+                self.command(other, state)
+            }
+            Ending::Stop(answer) => Ending::Stop(answer),
+        }
+    }
+
+    /// The same, but a successful guard's changes stay.
+    fn try_command(
+        &mut self,
+        guard: &Command,
+        then: &Command,
+        other: &Command,
+        state: State,
+    ) -> Ending {
+        let before = self.exercised.applications;
+        let ending = self.command(guard, state.clone());
+        match ending {
+            Ending::Success(after) | Ending::Break(after) => self.command(then, after),
+            Ending::Fail => {
+                self.count_guard_undone(before);
+                self.command(other, state)
+            }
+            Ending::Stop(answer) => Ending::Stop(answer),
+        }
+    }
+
+    /// A failing body is undone back to that iteration's start and the loop succeeds; a break keeps the
+    /// graph and the loop succeeds.
+    fn loop_command(&mut self, body: &Command, mut state: State) -> Ending {
+        loop {
+            let before = self.exercised.applications;
+            match self.command(body, state.clone()) {
+                Ending::Success(after) => state = after,
+                Ending::Fail => {
+                    self.count_body_undone(before);
+                    return Ending::Success(state);
+                }
+                Ending::Break(after) => return Ending::Success(after),
+                Ending::Stop(answer) => return Ending::Stop(answer),
+            }
+        }
+    }
+
+    fn break_command(&mut self, state: State) -> Ending {
+        self.exercised.breaks += 1;
+        Ending::Break(state)
+    }
+
+    /// A guard is counted where a rule was applied in it.
+    fn count_guard_undone(&mut self, before: u64) {
+        self.exercised.guards_undone += u64::from(self.exercised.applications > before);
+    }
+
+    /// A body is counted where a rule was applied in the failing iteration.
+    fn count_body_undone(&mut self, before: u64) {
+        self.exercised.bodies_undone += u64::from(self.exercised.applications > before);
+    }
+}
+
+fn with_records(mut state: State, host: Host, records: &[Record]) -> State {
+    Rc::make_mut(&mut state.records).extend(records);
+    state.host = Rc::new(host);
+    state
+}

@@ -1,0 +1,161 @@
+//! Damage to the fields of a runner input and to its tables: inputs that the runner refuses, and answers 10, 11,
+//! 13 and 15.
+
+use super::hosts::Host;
+use crate::encode::{field, runner_input, RunnerInput};
+use crate::random::Random;
+
+/// An input that isn't five fields in order, or whose journal or fuel field isn't what it should be.
+pub fn refused(random: &mut Random, input: &RunnerInput) -> Vec<u8> {
+    let bytes = runner_input(input);
+    let mut parts = parts(input);
+    match random.below(13) {
+        0 => return Vec::new(),
+        1 => return bytes[..random.below(bytes.len())].to_vec(),
+        2 => return [bytes, vec![random.byte()]].concat(),
+        3 => return [bytes.clone(), bytes].concat(),
+        4 => parts[2] = field(0x03, &too_many_records(random).to_be_bytes()),
+        5 => parts[2] = field(0x03, &vec![0; random.pick(&[0, 1, 3, 4])]),
+        6 => parts[3] = field(0x04, &vec![0; random.pick(&[0, 2, 3, 5, 8])]),
+        7 => drop(parts.remove(random.below(5))),
+        8 => parts.insert(random.below(6), parts[random.below(5)].clone()),
+        9 => swap_neighbours(random, &mut parts),
+        10 => parts[random.below(5)][0] = random.pick(&[0, 6, 7, 0x10, 0xFF]),
+        11 => shorten_length(random, &mut parts),
+        _ => lengthen_last(&mut parts),
+    }
+    parts.concat()
+}
+
+fn too_many_records(random: &mut Random) -> u16 {
+    let any = random.between(1026, 0xFFFE) as u16;
+    random.pick(&[1025, 0x0500, 0xFFFF, any])
+}
+
+fn parts(input: &RunnerInput) -> Vec<Vec<u8>> {
+    vec![
+        field(0x01, &input.nodes),
+        field(0x02, &input.edges),
+        field(0x03, &input.records.to_be_bytes()),
+        field(0x04, &input.fuel.to_be_bytes()),
+        field(0x05, &input.program),
+    ]
+}
+
+fn swap_neighbours(random: &mut Random, parts: &mut [Vec<u8>]) {
+    let first = random.below(4);
+    parts.swap(first, first + 1);
+}
+
+/// A length of one less than the payload has.
+fn shorten_length(random: &mut Random, parts: &mut [Vec<u8>]) {
+    let long: Vec<usize> = (0..5).filter(|index| parts[*index].len() > 3).collect();
+    let index = random.pick(&long);
+    set_length(&mut parts[index], -1);
+}
+
+/// A length of one more than the rest of the input has.
+fn lengthen_last(parts: &mut [Vec<u8>]) {
+    set_length(&mut parts[4], 1);
+}
+
+fn set_length(part: &mut [u8], more: isize) {
+    let length = (part.len() - 3) as isize + more;
+    part[1..3].copy_from_slice(&(length as u16).to_be_bytes());
+}
+
+/// Answer 10 or 11: a table that is no row of whole slots.
+pub fn odd_length(random: &mut Random, table: &mut Vec<u8>, slot: usize) {
+    let more = random.between(1, slot - 1);
+    if random.chance(50) || table.len() < slot {
+        table.extend(vec![0; more]);
+    } else {
+        table.truncate(table.len() - more);
+    }
+}
+
+/// Answer 13.
+pub fn too_much_fuel(random: &mut Random) -> u32 {
+    let any = 1_000_001 + random.below(4_000_000_000) as u32;
+    random.pick(&[
+        1_000_001,
+        1_000_002,
+        0x0100_0000,
+        0x8000_0000,
+        u32::MAX,
+        any,
+    ])
+}
+
+/// Answer 15: one slot of a table breaks the layout.
+pub fn break_layout(random: &mut Random, host: &Host, input: &mut RunnerInput) {
+    let edges = host.live_edges();
+    let nodes = host.live_nodes();
+    if !edges.is_empty() && random.chance(55) {
+        let slot = random.pick(&edges);
+        break_edge(random, host, &mut input.edges[slot * 24..][..24]);
+    } else if !nodes.is_empty() && random.chance(80) {
+        let slot = random.pick(&nodes);
+        break_node(random, &mut input.nodes[slot * 20..][..20]);
+    } else {
+        break_free_slot(random, host, input);
+    }
+}
+
+fn break_node(random: &mut Random, slot: &mut [u8]) {
+    match random.below(6) {
+        0 => slot[0] = random.pick(&[2, 3, 0xFF]),
+        1 => slot[1] = random.pick(&[5, 6, 7, 0xFF]),
+        2 => slot[2] = random.pick(&[2, 0xFF]),
+        3 => slot[3] = random.pick(&[5, 6, 0xFF]),
+        4 => slot[0] = 0,
+        _ => break_unused_atom(random, slot, 4),
+    }
+}
+
+fn break_edge(random: &mut Random, host: &Host, slot: &mut [u8]) {
+    let slots = host.nodes.len() as u16;
+    match random.below(8) {
+        0 => slot[0] = random.pick(&[2, 3, 0xFF]),
+        1 => slot[1] = random.pick(&[4, 6, 7, 0xFF]),
+        2 => slot[2] = random.pick(&[1, 2, 0xFF]),
+        3 => slot[3] = random.pick(&[5, 6, 0xFF]),
+        4 => slot[4..6].copy_from_slice(&random.pick(&[slots, slots + 1, 0xFFFF]).to_be_bytes()),
+        5 => slot[6..8].copy_from_slice(&random.pick(&[slots, slots + 1, 0x0100]).to_be_bytes()),
+        6 => aim_at_free(random, host, slot),
+        _ => break_unused_atom(random, slot, 8),
+    }
+}
+
+/// Lets one end lie on a free node slot, or outside the table if none is free.
+fn aim_at_free(random: &mut Random, host: &Host, slot: &mut [u8]) {
+    let nodes = &host.nodes;
+    let free = (0..nodes.len())
+        .find(|node| nodes[*node].is_none())
+        .unwrap_or(nodes.len());
+    let end = random.pick(&[4, 6]);
+    slot[end..end + 2].copy_from_slice(&(free as u16).to_be_bytes());
+}
+
+/// A nonzero byte behind the label's atoms, or a label that is too long if all four are used.
+fn break_unused_atom(random: &mut Random, slot: &mut [u8], atoms: usize) {
+    let used = slot[3] as usize;
+    if used == 4 {
+        slot[3] = 5;
+    } else {
+        slot[random.between(atoms + 4 * used, atoms + 15)] = random.pick(&[1, 0x80, 0xFF]);
+    }
+}
+
+/// A free slot that isn't all zero; one is added if there is none.
+fn break_free_slot(random: &mut Random, host: &Host, input: &mut RunnerInput) {
+    let nodes = &host.nodes;
+    match (0..nodes.len()).rev().find(|node| nodes[*node].is_none()) {
+        Some(slot) => input.nodes[slot * 20 + random.between(1, 19)] = 1,
+        None => {
+            input.edges.extend([0; 24]);
+            let last = input.edges.len() - 24;
+            input.edges[last + random.between(1, 23)] = 1;
+        }
+    }
+}

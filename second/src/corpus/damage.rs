@@ -1,0 +1,83 @@
+//! Damaged images: a legal draft with one thing wrong, sometimes two, so that the order of the answers shows.
+
+use super::broken_inputs::*;
+use super::broken_programs::*;
+use super::drafts::Draft;
+use crate::encode::runner_input;
+use crate::host::limit::{EDGE_SLOT, NODE_SLOT};
+use crate::random::Random;
+
+/// What is damaged, in the order in which two of them are done.
+#[derive(Clone, Copy, Debug, PartialEq, Eq, PartialOrd, Ord)]
+enum Kind {
+    Form,
+    References,
+    Placement,
+    Layout,
+    Bytes,
+    Length,
+    Nodes,
+    Edges,
+    Fuel,
+    Fields,
+    Anywhere,
+}
+
+/// Each kind with its weight.
+const KINDS: [(Kind, usize); 11] = [
+    (Kind::Form, 14),
+    (Kind::References, 24),
+    (Kind::Placement, 10),
+    (Kind::Layout, 16),
+    (Kind::Bytes, 11),
+    (Kind::Length, 1),
+    (Kind::Nodes, 6),
+    (Kind::Edges, 6),
+    (Kind::Fuel, 6),
+    (Kind::Fields, 10),
+    (Kind::Anywhere, 5),
+];
+
+pub fn damaged(random: &mut Random, mut draft: Draft) -> Vec<u8> {
+    let mut kinds = vec![kind(random)];
+    if random.chance(15) {
+        kinds.push(kind(random));
+        kinds.sort_unstable();
+    }
+    for kind in &kinds {
+        damage_tree(random, *kind, &mut draft);
+    }
+    let mut input = draft.input();
+    for kind in &kinds {
+        match kind {
+            Kind::Layout => break_layout(random, &draft.host, &mut input),
+            Kind::Bytes => mangle(random, &mut input.program),
+            Kind::Length => make_too_long(random, &mut input.program),
+            Kind::Nodes => odd_length(random, &mut input.nodes, NODE_SLOT),
+            Kind::Edges => odd_length(random, &mut input.edges, EDGE_SLOT),
+            Kind::Fuel => input.fuel = too_much_fuel(random),
+            _ => {}
+        }
+    }
+    if kinds.contains(&Kind::Fields) {
+        return refused(random, &input);
+    }
+    let mut bytes = runner_input(&input);
+    if kinds.contains(&Kind::Anywhere) {
+        flip_bits(random, &mut bytes);
+    }
+    bytes
+}
+
+fn kind(random: &mut Random) -> Kind {
+    KINDS[random.weighted(&KINDS.map(|(_, weight)| weight))].0
+}
+
+fn damage_tree(random: &mut Random, kind: Kind, draft: &mut Draft) {
+    match kind {
+        Kind::Form => bad_form(random, &mut draft.program),
+        Kind::References => bad_reference(random, &mut draft.program),
+        Kind::Placement => misplaced_break(random, &mut draft.program.main),
+        _ => {}
+    }
+}

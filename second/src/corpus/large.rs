@@ -1,0 +1,269 @@
+//! Images at the limits: full and nearly empty tables of the greatest size, programs of 8,192 bytes, as many rules
+//! as there may be, inputs of the greatest length that a corpus holds.
+
+use super::drafts::{Draft, Extent};
+use super::fixed::MOST_BYTES;
+use super::hosts::{new_edge, Host, Size};
+use super::palette::Palette;
+use crate::encode::{self, runner_input, RunnerInput};
+use crate::host::limit::{EDGE_SLOTS, NODE_SLOT, NODE_SLOTS};
+use crate::random::Random;
+use crate::tree::*;
+
+/// How many kinds of large images there are.
+pub const KINDS: u64 = 8;
+
+pub fn large(random: &mut Random, kind: u64) -> Vec<u8> {
+    let input = match kind {
+        0 => full_tables(random),
+        1 => scattered_in_tables(random),
+        2 => program_of(random, limit::IMAGE_BYTES),
+        3 => root_on_a_path(),
+        4 => filled_up(random),
+        5 => longest_program(random),
+        6 => longest_table(random),
+        _ => many_rules(random),
+    };
+    runner_input(&input)
+}
+
+fn small_draft(random: &mut Random) -> Draft {
+    let size = Size {
+        nodes: random.between(2, 6),
+        ..Size::draw(random)
+    };
+    let palette = Palette::draw(random);
+    let host = Host::draw(random, &palette, size);
+    let extent = Extent {
+        rules: 8,
+        commands: 12,
+        levels: limit::DEPTH - 1,
+    };
+    Draft::over(random, &palette, host, extent)
+}
+
+/// Every slot of both tables is live.
+fn full_tables(random: &mut Random) -> RunnerInput {
+    let palette = Palette::draw(random);
+    let size = Size {
+        nodes: NODE_SLOTS,
+        free_nodes: 0,
+        more_edges: 0,
+        free_edges: 0,
+    };
+    let mut host = Host::draw(random, &palette, size);
+    host.edges.truncate(EDGE_SLOTS);
+    while host.edges.len() < EDGE_SLOTS {
+        let (source, target) = (random.below(NODE_SLOTS), random.below(NODE_SLOTS));
+        host.edges
+            .push(Some(new_edge(random, &palette, source, target)));
+    }
+    over(random, &palette, host)
+}
+
+/// A few live slots anywhere in the greatest tables.
+fn scattered_in_tables(random: &mut Random) -> RunnerInput {
+    let palette = Palette::draw(random);
+    let size = Size {
+        nodes: 20,
+        free_nodes: 0,
+        more_edges: 8,
+        free_edges: 0,
+    };
+    let mut host = Host::draw(random, &palette, size);
+    let places = spread(random, host.nodes.len(), NODE_SLOTS);
+    for edge in host.edges.iter_mut().flatten() {
+        (edge.source, edge.target) = (places[edge.source], places[edge.target]);
+    }
+    let edge_places = spread(random, host.edges.len(), EDGE_SLOTS);
+    host.nodes = moved(host.nodes, &places, NODE_SLOTS);
+    host.edges = moved(host.edges, &edge_places, EDGE_SLOTS);
+    over(random, &palette, host)
+}
+
+/// Different places below `slots`, the last one among them.
+fn spread(random: &mut Random, count: usize, slots: usize) -> Vec<usize> {
+    let mut places: Vec<usize> = (0..slots - 1).collect();
+    random.shuffle(&mut places);
+    places.truncate(count);
+    if let Some(last) = places.last_mut() {
+        *last = slots - 1;
+    }
+    places
+}
+
+fn moved<T: Clone>(items: Vec<Option<T>>, places: &[usize], slots: usize) -> Vec<Option<T>> {
+    let mut table = vec![None; slots];
+    for (item, place) in items.into_iter().zip(places) {
+        table[*place] = item;
+    }
+    table
+}
+
+fn over(random: &mut Random, palette: &Palette, host: Host) -> RunnerInput {
+    let extent = Extent {
+        rules: 4,
+        commands: 8,
+        levels: 8,
+    };
+    let draft = Draft::over(random, palette, host, extent);
+    Draft {
+        records: 1024,
+        ..draft
+    }
+    .input()
+}
+
+/// A program of exactly so many bytes.
+fn program_of(random: &mut Random, bytes: usize) -> RunnerInput {
+    let mut draft = small_draft(random);
+    let (skip, main) = (
+        Box::new(Command::Skip),
+        Box::new(draft.program.main.clone()),
+    );
+    draft.program.main = Command::If(skip.clone(), main.clone(), skip.clone());
+    let missing = bytes - encode::program(&draft.program).len();
+    draft.program.main = Command::If(skip, main, Box::new(filler(missing + 3)));
+    draft.input()
+}
+
+/// A command of exactly so many bytes, at least 3.
+fn filler(bytes: usize) -> Command {
+    match bytes {
+        3 => Command::Skip,
+        4..=11 => Command::RuleSet(vec![0; bytes - 3]),
+        _ => {
+            let most = (bytes - 3).div_ceil(limit::COMMANDS).max(11);
+            let mut left = bytes - 3;
+            let mut parts = Vec::new();
+            while left > 0 {
+                let rest = left.saturating_sub(most);
+                let part = if (1..3).contains(&rest) {
+                    left - 3
+                } else {
+                    left - rest
+                };
+                parts.push(filler(part));
+                left -= part;
+            }
+            Command::Sequence(parts)
+        }
+    }
+}
+
+/// A root walks along a path whose slots have two-byte numbers, and takes the path away behind it.
+fn root_on_a_path() -> RunnerInput {
+    const LAST: u16 = 299;
+    let node = |slot: u16| encode::node_slot(mark::NONE, slot == 0, &[i32::from(slot)]);
+    let edge = |slot: u16| encode::edge_slot(mark::DASHED, slot, slot + 1, &[]);
+    RunnerInput {
+        nodes: (0..=LAST).flat_map(node).collect(),
+        edges: (0..LAST).flat_map(edge).collect(),
+        records: 1024,
+        fuel: 1000,
+        program: encode::program(&Program {
+            rules: vec![one_step()],
+            main: repeated(0),
+        }),
+    }
+}
+
+fn repeated(rule: u8) -> Command {
+    Command::Loop(Box::new(Command::RuleSet(vec![rule])))
+}
+
+/// A root over an edge to a plain node: the root moves and the edge goes.
+fn one_step() -> Rule {
+    let node = |root, variable| RuleNode {
+        mark: mark::NONE,
+        root,
+        label: vec![Element::Variable(variable)],
+    };
+    let edge = RuleEdge {
+        mark: mark::DASHED,
+        source: 0,
+        target: 1,
+        label: vec![],
+    };
+    Rule {
+        variables: vec![VariableType::List, VariableType::Int],
+        left: RuleGraph {
+            nodes: vec![node(true, 0), node(false, 1)],
+            edges: vec![edge],
+        },
+        right: RuleGraph {
+            nodes: vec![node(false, 0), node(true, 1)],
+            edges: vec![],
+        },
+        interface: 2,
+        tests: vec![],
+    }
+}
+
+/// The greatest node table, almost free, which one rule fills: it is full, or the journal is.
+fn filled_up(random: &mut Random) -> RunnerInput {
+    let new_nodes = random.between(1, 3);
+    let node = RuleNode {
+        mark: mark::GREY,
+        root: true,
+        label: vec![Element::Constant(-1)],
+    };
+    let rule = Rule {
+        variables: vec![],
+        left: RuleGraph::default(),
+        right: RuleGraph {
+            nodes: vec![node; new_nodes],
+            edges: vec![],
+        },
+        interface: 0,
+        tests: vec![],
+    };
+    RunnerInput {
+        nodes: vec![0; NODE_SLOTS * NODE_SLOT],
+        edges: vec![],
+        records: random.pick(&[511, 512, 1024]),
+        fuel: 1000,
+        program: encode::program(&Program {
+            rules: vec![rule],
+            main: repeated(0),
+        }),
+    }
+}
+
+/// An input of the greatest length that the corpus holds; its program is too long.
+fn longest_program(random: &mut Random) -> RunnerInput {
+    let mut input = small_draft(random).input();
+    let missing = MOST_BYTES - runner_input(&input).len();
+    input.program.extend(vec![0x55; missing]);
+    input
+}
+
+/// An input of the greatest length that the corpus holds; one of its tables is too long.
+fn longest_table(random: &mut Random) -> RunnerInput {
+    let mut input = small_draft(random).input();
+    let missing = MOST_BYTES - runner_input(&input).len();
+    let table = if random.chance(50) {
+        &mut input.nodes
+    } else {
+        &mut input.edges
+    };
+    table.extend(vec![0; missing]);
+    input
+}
+
+/// As many rules as there may be.
+fn many_rules(random: &mut Random) -> RunnerInput {
+    let palette = Palette::draw(random);
+    let size = Size {
+        nodes: 8,
+        ..Size::draw(random)
+    };
+    let host = Host::draw(random, &palette, size);
+    let extent = Extent {
+        rules: limit::RULES,
+        commands: 20,
+        levels: limit::DEPTH,
+    };
+    let draft = Draft::over(random, &palette, host, extent);
+    Draft { fuel: 400, ..draft }.input()
+}

@@ -1,0 +1,35 @@
+//! Room and fuel cut to what a run needs, or to one less: the bounds at which the answer changes.
+
+use crate::encode::RunnerInput;
+use crate::host::limit;
+use crate::listing::run_input;
+use crate::random::Random;
+
+pub fn narrow(random: &mut Random, input: &mut RunnerInput) {
+    input.records = limit::RECORDS as u16;
+    let outcome = run_input(input);
+    let less = random.pick(&[0, 0, 0, 1, 1, 2]);
+    match random.weighted(&[28, 18, 27, 27]) {
+        0 => input.fuel = reported(&outcome.report[..4]).saturating_sub(less),
+        1 => input.records = reported(&outcome.report[4..]).saturating_sub(less) as u16,
+        2 => cut(&mut input.nodes, &outcome.nodes, limit::NODE_SLOT, less),
+        _ => cut(&mut input.edges, &outcome.edges, limit::EDGE_SLOT, less),
+    }
+}
+
+fn reported(bytes: &[u8]) -> u32 {
+    u32::from_be_bytes(bytes.try_into().expect("four bytes"))
+}
+
+/// Leaves the table as many slots as the run used, less some, but none of its live slots is cut off.
+fn cut(table: &mut Vec<u8>, after: &[u8], slot: usize, less: u32) {
+    let used = slots_used(after, slot).saturating_sub(less as usize);
+    let length = used.max(slots_used(table, slot)) * slot;
+    table.truncate(length);
+}
+
+/// The number of slots up to the last live one.
+fn slots_used(table: &[u8], slot: usize) -> usize {
+    let live = table.chunks(slot).rposition(|bytes| bytes[0] == 1);
+    live.map_or(0, |last| last + 1)
+}

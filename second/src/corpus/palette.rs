@@ -1,0 +1,99 @@
+//! A palette: the few marks, atoms and label lengths that one image is drawn from. Host and rules share it, so
+//! that what a rule asks for occurs in the host, and what a rule makes can be asked for again.
+
+use crate::random::Random;
+use crate::tree::mark;
+
+const NODE_MARKS: [u8; 5] = [mark::NONE, mark::RED, mark::GREEN, mark::BLUE, mark::GREY];
+const EDGE_MARKS: [u8; 5] = [mark::NONE, mark::RED, mark::GREEN, mark::BLUE, mark::DASHED];
+
+/// Atoms at which a sum or difference leaves 32 bits easily.
+const EXTREMES: [i32; 5] = [i32::MAX, i32::MIN, i32::MAX - 1, i32::MIN + 1, 0x4000_0000];
+
+#[derive(Clone, Debug)]
+pub struct Palette {
+    pub node_marks: Vec<u8>,
+    pub edge_marks: Vec<u8>,
+    pub atoms: Vec<i32>,
+    node_lengths: Vec<usize>,
+    edge_lengths: Vec<usize>,
+    root_percent: usize,
+}
+
+impl Palette {
+    pub fn draw(random: &mut Random) -> Palette {
+        let node_kinds = random.between(1, 3);
+        let edge_kinds = random.between(1, 2);
+        Palette {
+            node_marks: some_marks(random, NODE_MARKS, node_kinds),
+            edge_marks: some_marks(random, EDGE_MARKS, edge_kinds),
+            atoms: some_atoms(random),
+            node_lengths: lengths(random, &[15, 40, 20, 15, 10]),
+            edge_lengths: lengths(random, &[50, 25, 10, 10, 5]),
+            root_percent: random.pick(&[0, 0, 10, 30, 60]),
+        }
+    }
+
+    pub fn node_mark(&self, random: &mut Random) -> u8 {
+        random.pick(&self.node_marks)
+    }
+
+    pub fn edge_mark(&self, random: &mut Random) -> u8 {
+        random.pick(&self.edge_marks)
+    }
+
+    pub fn root(&self, random: &mut Random) -> bool {
+        random.chance(self.root_percent)
+    }
+
+    pub fn atom(&self, random: &mut Random) -> i32 {
+        random.pick(&self.atoms)
+    }
+
+    pub fn node_label(&self, random: &mut Random) -> Vec<i32> {
+        let length = random.pick(&self.node_lengths);
+        self.label(random, length)
+    }
+
+    pub fn edge_label(&self, random: &mut Random) -> Vec<i32> {
+        let length = random.pick(&self.edge_lengths);
+        self.label(random, length)
+    }
+
+    fn label(&self, random: &mut Random, length: usize) -> Vec<i32> {
+        (0..length).map(|_| self.atom(random)).collect()
+    }
+}
+
+/// Some of the marks in rising order; none is among them mostly.
+fn some_marks(random: &mut Random, all: [u8; 5], count: usize) -> Vec<u8> {
+    let mut marks = all.to_vec();
+    random.shuffle(&mut marks);
+    marks.truncate(count);
+    if random.chance(60) && !marks.contains(&mark::NONE) {
+        marks[0] = mark::NONE;
+    }
+    marks.sort_unstable();
+    marks
+}
+
+fn some_atoms(random: &mut Random) -> Vec<i32> {
+    let count = random.between(2, 4);
+    let mut atoms: Vec<i32> = (0..count).map(|_| random.below(8) as i32).collect();
+    if random.chance(30) {
+        atoms[0] = -(random.between(1, 9) as i32);
+    }
+    if random.chance(20) {
+        atoms[1] = random.pick(&EXTREMES);
+    }
+    if random.chance(10) {
+        atoms[0] = random.next() as i32;
+    }
+    atoms
+}
+
+/// The lengths that a kind of label has: one to four values, shorter ones more often.
+fn lengths(random: &mut Random, weights: &[usize]) -> Vec<usize> {
+    let kinds = random.pick(&[1, 1, 2, 2, 4]);
+    (0..kinds).map(|_| random.weighted(weights)).collect()
+}

@@ -1,0 +1,161 @@
+//! Writing a program tree, a runner input and table slots as bytes. Nothing is checked here: an
+//! illegal tree gives an illegal image, which the refusal tests need.
+
+use crate::tree::*;
+
+/// Tag, two bytes of length, payload. A payload of more than 65,535 bytes can't be written.
+pub fn field(tag: u8, payload: &[u8]) -> Vec<u8> {
+    let length = u16::try_from(payload.len()).expect("a field holds at most 65,535 bytes");
+    let mut bytes = vec![tag];
+    bytes.extend(length.to_be_bytes());
+    bytes.extend(payload);
+    bytes
+}
+
+pub fn program(program: &Program) -> Vec<u8> {
+    let mut bytes: Vec<u8> = program.rules.iter().flat_map(rule).collect();
+    bytes.extend(command(&program.main));
+    bytes
+}
+
+pub fn rule(rule: &Rule) -> Vec<u8> {
+    let types: Vec<u8> = rule.variables.iter().map(|t| variable_type(*t)).collect();
+    let tests: Vec<u8> = rule.tests.iter().flat_map(test).collect();
+    let parts = [
+        field(0x11, &types),
+        field(0x12, &graph(&rule.left)),
+        field(0x13, &graph(&rule.right)),
+        field(0x14, &[rule.interface]),
+        field(0x15, &tests),
+    ];
+    field(0x10, &parts.concat())
+}
+
+fn variable_type(kind: VariableType) -> u8 {
+    match kind {
+        VariableType::Int => 1,
+        VariableType::List => 2,
+    }
+}
+
+pub fn graph(graph: &RuleGraph) -> Vec<u8> {
+    let nodes = graph.nodes.iter().flat_map(node);
+    let edges = graph.edges.iter().flat_map(edge);
+    nodes.chain(edges).collect()
+}
+
+pub fn node(node: &RuleNode) -> Vec<u8> {
+    let mut payload = vec![node.mark, node.root as u8];
+    payload.extend(node.label.iter().flat_map(element));
+    field(0x20, &payload)
+}
+
+pub fn edge(edge: &RuleEdge) -> Vec<u8> {
+    let mut payload = vec![edge.mark, edge.source, edge.target];
+    payload.extend(edge.label.iter().flat_map(element));
+    field(0x21, &payload)
+}
+
+pub fn element(element: &Element) -> Vec<u8> {
+    match element {
+        Element::Constant(value) => operand(&Operand::Constant(*value)),
+        Element::Variable(index) => operand(&Operand::Variable(*index)),
+        Element::Sum(a, b) => field(0x32, &[operand(a), operand(b)].concat()),
+        Element::Difference(a, b) => field(0x33, &[operand(a), operand(b)].concat()),
+    }
+}
+
+pub fn operand(operand: &Operand) -> Vec<u8> {
+    match operand {
+        Operand::Constant(value) => field(0x30, &value.to_be_bytes()),
+        Operand::Variable(index) => field(0x31, &[*index]),
+    }
+}
+
+pub fn test(test: &Test) -> Vec<u8> {
+    let mut payload = vec![test.negated as u8];
+    let tag = match test.kind {
+        TestKind::Edge(a, b) => {
+            payload.extend([a, b]);
+            0x40
+        }
+        TestKind::InDegree(node, number) => {
+            payload.push(node);
+            payload.extend(number.to_be_bytes());
+            0x41
+        }
+        TestKind::OutDegree(node, number) => {
+            payload.push(node);
+            payload.extend(number.to_be_bytes());
+            0x42
+        }
+        TestKind::Relation(relation, a, b) => {
+            payload.push(match relation {
+                Relation::Equal => 1,
+                Relation::Less => 2,
+            });
+            payload.extend(operand(&a));
+            payload.extend(operand(&b));
+            0x43
+        }
+    };
+    field(tag, &payload)
+}
+
+pub fn command(tree: &Command) -> Vec<u8> {
+    match tree {
+        Command::RuleSet(numbers) => field(0x50, numbers),
+        Command::Sequence(parts) => field(0x51, &parts.iter().flat_map(command).collect::<Vec<u8>>()),
+        Command::If(a, b, c) => field(0x52, &[command(a), command(b), command(c)].concat()),
+        Command::Try(a, b, c) => field(0x53, &[command(a), command(b), command(c)].concat()),
+        Command::Loop(body) => field(0x54, &command(body)),
+        Command::Skip => field(0x55, &[]),
+        Command::Fail => field(0x56, &[]),
+        Command::Break => field(0x57, &[]),
+    }
+}
+
+/// A live node slot of 20 bytes. At most four atoms.
+pub fn node_slot(mark: u8, root: bool, atoms: &[i32]) -> [u8; 20] {
+    let mut slot = [0; 20];
+    slot[..4].copy_from_slice(&[1, mark, root as u8, atoms.len() as u8]);
+    put_atoms(&mut slot[4..], atoms);
+    slot
+}
+
+/// A live edge slot of 24 bytes. At most four atoms.
+pub fn edge_slot(mark: u8, source: u16, target: u16, atoms: &[i32]) -> [u8; 24] {
+    let mut slot = [0; 24];
+    slot[..4].copy_from_slice(&[1, mark, 0, atoms.len() as u8]);
+    slot[4..6].copy_from_slice(&source.to_be_bytes());
+    slot[6..8].copy_from_slice(&target.to_be_bytes());
+    put_atoms(&mut slot[8..], atoms);
+    slot
+}
+
+fn put_atoms(place: &mut [u8], atoms: &[i32]) {
+    for (four, atom) in place.chunks_exact_mut(4).zip(atoms) {
+        four.copy_from_slice(&atom.to_be_bytes());
+    }
+}
+
+/// What the runner reads: both tables, the number of journal records, the fuel, the program.
+#[derive(Clone, Debug, PartialEq, Eq)]
+pub struct RunnerInput {
+    pub nodes: Vec<u8>,
+    pub edges: Vec<u8>,
+    pub records: u16,
+    pub fuel: u32,
+    pub program: Vec<u8>,
+}
+
+pub fn runner_input(input: &RunnerInput) -> Vec<u8> {
+    [
+        field(0x01, &input.nodes),
+        field(0x02, &input.edges),
+        field(0x03, &input.records.to_be_bytes()),
+        field(0x04, &input.fuel.to_be_bytes()),
+        field(0x05, &input.program),
+    ]
+    .concat()
+}

@@ -1,0 +1,117 @@
+//! The published programs, and families of host graphs to run them on.
+//!
+//! The graphs come from a small deterministic generator: shapes by rule (lists, cycles, trees, grids, stars and
+//! others) and random ones from fixed seeds. The same call gives the same bytes on any machine.
+
+mod graph;
+mod hosts;
+
+pub use graph::{Edge, Graph, Node};
+
+use crate::calls::MOST_FUEL;
+use crate::host::limit;
+
+/// A published program and what it expects of a host.
+#[derive(Clone, Copy, Debug)]
+pub struct Published {
+    pub name: &'static str,
+    /// Its text, which lies in `programs/NAME/NAME.gp2`.
+    pub source: &'static str,
+    pub input: Input,
+    /// The free node and edge slots that it may take on a host of so many nodes.
+    pub room: fn(usize) -> (usize, usize),
+}
+
+/// The graphs that a program is made for. Edges are unmarked, and there are no roots.
+#[derive(Clone, Copy, Debug, PartialEq, Eq)]
+pub enum Input {
+    Unmarked,
+    Grey,
+    GreyConnected,
+    /// Unmarked, nodes without and edges with a number as label.
+    Weighted,
+}
+
+macro_rules! published {
+    ($name:literal, $input:expr, $room:expr) => {
+        Published {
+            name: $name,
+            source: include_str!(concat!("../../programs/", $name, "/", $name, ".gp2")),
+            input: $input,
+            room: $room,
+        }
+    };
+}
+
+pub const PROGRAMS: [Published; 9] = [
+    published!("transitive-closure", Input::Unmarked, |nodes| (0, nodes * nodes.saturating_sub(1))),
+    published!("is-discrete", Input::Unmarked, |_| (0, 0)),
+    published!("is-cycle", Input::Grey, |_| (0, 0)),
+    published!("is-tree", Input::Grey, |_| (0, 0)),
+    published!("is-binary-dag", Input::Grey, |_| (0, 0)),
+    published!("is-connected", Input::Grey, |_| (0, 0)),
+    published!("2-colouring", Input::GreyConnected, |_| (0, 0)),
+    published!("topological-sorting", Input::GreyConnected, |nodes| (1, 2 * nodes)),
+    published!("minimum-spanning-tree", Input::Weighted, |_| (2, 0)),
+];
+
+/// The published program of that name.
+pub fn published(name: &str) -> Option<&'static Published> {
+    PROGRAMS.iter().find(|program| program.name == name)
+}
+
+/// A published program's run on one host: what a run is lent, but the program.
+#[derive(Clone, Debug, PartialEq, Eq)]
+pub struct ProgramRun {
+    pub program: &'static str,
+    pub host_name: String,
+    pub nodes: Vec<u8>,
+    pub edges: Vec<u8>,
+    pub fuel: u32,
+    pub records: u16,
+    /// The answer where the run is meant to end for lack of fuel or room, none where it is meant to finish.
+    pub runs_out: Option<u32>,
+}
+
+impl Published {
+    /// The run on a graph, which gets the marks that the program expects, with ample fuel and journal.
+    pub fn run_on(&self, host_name: impl Into<String>, graph: &Graph) -> ProgramRun {
+        let host = match self.input {
+            Input::Unmarked | Input::Weighted => graph.clone(),
+            Input::Grey | Input::GreyConnected => graph.grey(),
+        };
+        let (free_nodes, free_edges) = (self.room)(host.nodes.len());
+        self.run_on_tables(host_name, host.node_table(free_nodes), host.edge_table(free_edges))
+    }
+
+    /// The run on tables, with ample fuel and journal.
+    pub fn run_on_tables(&self, host_name: impl Into<String>, nodes: Vec<u8>, edges: Vec<u8>) -> ProgramRun {
+        ProgramRun {
+            program: self.name,
+            host_name: host_name.into(),
+            nodes,
+            edges,
+            fuel: MOST_FUEL,
+            records: limit::RECORDS as u16,
+            runs_out: None,
+        }
+    }
+}
+
+/// Every published program on every one of its hosts, in a fixed order.
+pub fn program_runs() -> Vec<ProgramRun> {
+    [
+        hosts::transitive_closure(),
+        hosts::is_discrete(),
+        hosts::is_cycle(),
+        hosts::is_tree(),
+        hosts::is_binary_dag(),
+        hosts::is_connected(),
+        hosts::two_colouring(),
+        hosts::topological_sorting(),
+        hosts::minimum_spanning_tree(),
+    ]
+    .into_iter()
+    .flat_map(|runs| runs.listed)
+    .collect()
+}

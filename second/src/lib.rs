@@ -1,0 +1,28 @@
+//! An independent second interpreter for graph program images, and the tools around it.
+//!
+//! It shares nothing with the proved interpreter but document 01, and works by another method: an image is
+//! decoded into a tree, placements are enumerated in order and tested rule by rule, and a graph is copied
+//! where a change may have to be given back.
+
+pub mod encode;
+pub mod tree;
+
+// The interpreter.
+pub mod applying;
+pub mod calls;
+pub mod commands;
+pub mod decode;
+pub mod host;
+pub mod listing;
+pub mod matching;
+pub mod placement;
+pub mod references;
+
+// The text tools.
+pub mod text;
+
+// Inputs made by a seeded generator.
+pub mod corpus;
+pub mod families;
+pub mod random;
+pub mod refusals;

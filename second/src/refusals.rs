@@ -1,0 +1,204 @@
+//! Inputs that are refused, one for each clause of document 01 that can refuse: each stands beside an
+//! accepted input from which it differs in that clause alone. The numbers come from the table of answers.
+
+mod form;
+mod form_of_commands;
+mod form_of_graphs;
+mod form_of_tests;
+mod placement;
+mod programs;
+mod references;
+mod runner;
+mod tables;
+mod undo;
+
+use crate::calls::{self, Outcome};
+use crate::encode::{self, RunnerInput};
+use crate::host::limit;
+use crate::listing::INPUT_BYTES;
+use crate::tree::{self, mark, Command, Program};
+
+pub use runner::of_runner;
+pub use undo::{of_undo, undo_refused_for};
+
+/// What the call run is given.
+#[derive(Clone, Debug, PartialEq, Eq)]
+pub struct RunCall {
+    pub nodes: Vec<u8>,
+    pub edges: Vec<u8>,
+    pub journal: Vec<u8>,
+    pub program: Vec<u8>,
+    pub fuel: u32,
+    pub report: Vec<u8>,
+}
+
+impl RunCall {
+    pub fn outcome(&self) -> Outcome {
+        calls::run(
+            &self.nodes,
+            &self.edges,
+            &self.journal,
+            &self.program,
+            self.fuel,
+            &self.report,
+        )
+    }
+
+    /// The runner input that leads to this call, where one does: the runner's report has 8 bytes, its
+    /// journal is as many records as it was told, and its fields are short enough for an input.
+    pub fn runner_input(&self) -> Option<RunnerInput> {
+        let records = self.journal.len() / limit::RECORD;
+        let whole = self.journal.len() % limit::RECORD == 0 && records <= limit::RECORDS;
+        let bytes = self.nodes.len() + self.edges.len() + self.program.len() + RUNNER_FRAME;
+        if self.report.len() != calls::REPORT_BYTES || !whole || bytes > INPUT_BYTES {
+            return None;
+        }
+        Some(RunnerInput {
+            nodes: self.nodes.clone(),
+            edges: self.edges.clone(),
+            records: records as u16,
+            fuel: self.fuel,
+            program: self.program.clone(),
+        })
+    }
+}
+
+/// The bytes of a runner input whose tables and program are empty.
+const RUNNER_FRAME: usize = 5 * 3 + 2 + 4;
+
+/// What the call undo is given.
+#[derive(Clone, Debug, PartialEq, Eq)]
+pub struct UndoCall {
+    pub nodes: Vec<u8>,
+    pub edges: Vec<u8>,
+    pub journal: Vec<u8>,
+    pub count: u32,
+    pub report: Vec<u8>,
+}
+
+impl UndoCall {
+    pub fn outcome(&self) -> Outcome {
+        calls::undo(
+            &self.nodes,
+            &self.edges,
+            &self.journal,
+            self.count,
+            &self.report,
+        )
+    }
+}
+
+/// A refused input and an accepted one, which differ in one clause.
+#[derive(Clone, Debug)]
+pub struct Refusal<Input> {
+    /// The clause, and how it is broken.
+    pub name: String,
+    pub accepted: Input,
+    pub refused: Input,
+    pub answer: u32,
+}
+
+/// The refusals of the call run, by number.
+pub fn of_run() -> Vec<Refusal<RunCall>> {
+    let mut refusals = tables::lengths();
+    refusals.extend(tables::fuel());
+    refusals.extend(programs::image_length());
+    refusals.extend(tables::layout());
+    refusals.extend(programs::refusals(16, form::images_of_form()));
+    refusals.extend(programs::refusals(17, references::images_of_references()));
+    refusals.extend(programs::refusals(18, placement::images_of_placement()));
+    refusals
+}
+
+/// Those of them that a runner input can lead to, with the answer of each.
+pub fn runner_inputs() -> Vec<(String, RunnerInput, u32)> {
+    let refusals = of_run().into_iter();
+    refusals
+        .filter_map(|it| Some((it.name, it.refused.runner_input()?, it.answer)))
+        .collect()
+}
+
+/// A call of run that is refused for each of these numbers from 9 to 18 and for no other.
+pub fn run_refused_for(numbers: &[u32]) -> RunCall {
+    let mut call = accepted_run();
+    let given = |number: u32| numbers.contains(&number);
+    if given(9) {
+        call.report.pop();
+    }
+    if given(15) {
+        call.nodes[0] = 2;
+    }
+    if given(10) {
+        call.nodes.push(0);
+    }
+    if given(11) {
+        call.edges.push(0);
+    }
+    if given(12) {
+        call.journal.push(0);
+    }
+    if given(13) {
+        call.fuel = calls::MOST_FUEL + 1;
+    }
+    call.program = program_refused_for(given(14), given(16), given(17), given(18));
+    call
+}
+
+fn program_refused_for(length: bool, form: bool, references: bool, placement: bool) -> Vec<u8> {
+    let mut commands = vec![Command::RuleSet(vec![if references { 1 } else { 0 }])];
+    if placement {
+        commands.push(Command::Break);
+    }
+    if length {
+        commands.push(programs::command_of_bytes(tree::limit::IMAGE_BYTES));
+    }
+    let mut image = encode::program(&Program {
+        rules: vec![programs::rule()],
+        main: Command::Sequence(commands),
+    });
+    if form {
+        image.push(0);
+    }
+    image
+}
+
+/// A byte that no field of the buffers' layout holds, so that a change of it shows.
+const UNTOUCHED: u8 = 0xA5;
+
+/// An accepted call: nodes 0 and 2 of three slots live, edges 0 and 2 of three likewise.
+fn accepted_run() -> RunCall {
+    RunCall {
+        nodes: [
+            encode::node_slot(mark::NONE, false, &[]),
+            [0; limit::NODE_SLOT],
+            encode::node_slot(mark::GREY, true, &[7, -7]),
+        ]
+        .concat(),
+        edges: [
+            encode::edge_slot(mark::NONE, 0, 2, &[]),
+            [0; limit::EDGE_SLOT],
+            encode::edge_slot(mark::DASHED, 2, 2, &[1, 2, 3]),
+        ]
+        .concat(),
+        journal: vec![UNTOUCHED; 4 * limit::RECORD],
+        program: programs::program(Command::Skip),
+        fuel: 100,
+        report: vec![UNTOUCHED; calls::REPORT_BYTES],
+    }
+}
+
+fn run_with(edit: impl Fn(&mut RunCall)) -> RunCall {
+    let mut call = accepted_run();
+    edit(&mut call);
+    call
+}
+
+fn refusal<Input>(name: &str, answer: u32, accepted: Input, refused: Input) -> Refusal<Input> {
+    let name = format!("{answer}: {name}");
+    Refusal {
+        name,
+        accepted,
+        refused,
+        answer,
+    }
+}

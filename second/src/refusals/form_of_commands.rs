@@ -1,0 +1,128 @@
+//! The refusals 16 of commands.
+
+use super::programs::{images, program, rule, Images};
+use crate::encode::{self, field};
+use crate::tree::Command;
+
+const SKIP: [u8; 3] = [0x55, 0, 0];
+const FAIL: [u8; 3] = [0x56, 0, 0];
+
+pub(super) fn images_of_commands() -> Vec<Images> {
+    let image = |command: &[u8]| [&encode::rule(&rule())[..], command].concat();
+    let mut list = form_of_rule_set();
+    list.extend(form_of_sequence());
+    list.extend(form_of_three_commands("if", 0x52));
+    list.extend(form_of_three_commands("try", 0x53));
+    list.extend(form_of_loop());
+    list.extend(form_of_empty_commands());
+    let commands = list.into_iter();
+    commands
+        .map(|(name, accepted, refused)| images(name, &image(&accepted), &image(&refused)))
+        .collect()
+}
+
+fn form_of_rule_set() -> Vec<Images> {
+    vec![
+        images("rule set of none", &field(0x50, &[0]), &field(0x50, &[])),
+        images(
+            "rule set of 9",
+            &field(0x50, &[0; 8]),
+            &field(0x50, &[0; 9]),
+        ),
+    ]
+}
+
+fn form_of_sequence() -> Vec<Images> {
+    let of = |commands: &[&[u8]]| field(0x51, &commands.concat());
+    let refused = |name: &str, command: &[u8]| images(name, &of(&[&SKIP]), command);
+    vec![
+        refused("sequence of none", &of(&[])),
+        images(
+            "sequence of 17",
+            &of(&[&SKIP[..]; 16]),
+            &of(&[&SKIP[..]; 17]),
+        ),
+        refused("sequence with a byte behind", &of(&[&SKIP, &[0]])),
+        refused(
+            "sequence that ends in a rule",
+            &of(&[&SKIP, &encode::rule(&rule())]),
+        ),
+        refused("sequence with tag 0x58", &of(&[&[0x58, 0, 0]])),
+        refused(
+            "sequence with a command longer than itself",
+            &of(&[&[0x55, 0, 1]]),
+        ),
+    ]
+}
+
+fn form_of_three_commands(words: &str, tag: u8) -> Vec<Images> {
+    let of = |commands: &[[u8; 3]]| field(tag, &commands.concat());
+    let mut list = Vec::new();
+    for count in [0, 1, 2, 4] {
+        let name = format!("{words} of {count} commands");
+        list.push(images(name, &of(&[SKIP; 3]), &of(&vec![SKIP; count])));
+    }
+    for place in 0..3 {
+        let mut commands = [SKIP; 3];
+        commands[place] = [0x4f, 0, 0];
+        let name = format!("{words} with tag 0x4f at {place}");
+        list.push(images(name, &of(&[SKIP; 3]), &of(&commands)));
+    }
+    list
+}
+
+fn form_of_loop() -> Vec<Images> {
+    let refused = |name: &str, body: &[u8]| images(name, &field(0x54, &FAIL), &field(0x54, body));
+    vec![
+        refused("loop of no command", &[]),
+        refused("loop of two commands", &[FAIL, FAIL].concat()),
+        refused("loop of tag 0x58", &[0x58, 0, 0]),
+    ]
+}
+
+fn form_of_empty_commands() -> Vec<Images> {
+    let breaks = |payload: &[u8]| field(0x54, &field(0x57, payload));
+    vec![
+        images("skip with a byte", &SKIP, &field(0x55, &[0])),
+        images("fail with a byte", &FAIL, &field(0x56, &[0])),
+        images("break with a byte", &breaks(&[]), &breaks(&[0])),
+    ]
+}
+
+/// A command of depth 17.
+pub(super) fn images_of_depth() -> Vec<Images> {
+    let skip = || Box::new(Command::Skip);
+    let wraps: [(&str, &dyn Fn(Command) -> Command); 8] = [
+        ("sequences", &|inner| Command::Sequence(vec![inner])),
+        ("loops", &|inner| Command::Loop(Box::new(inner))),
+        ("if guards", &|inner| {
+            Command::If(Box::new(inner), skip(), skip())
+        }),
+        ("if thens", &|inner| {
+            Command::If(skip(), Box::new(inner), skip())
+        }),
+        ("if elses", &|inner| {
+            Command::If(skip(), skip(), Box::new(inner))
+        }),
+        ("try guards", &|inner| {
+            Command::Try(Box::new(inner), skip(), skip())
+        }),
+        ("try thens", &|inner| {
+            Command::Try(skip(), Box::new(inner), skip())
+        }),
+        ("try elses", &|inner| {
+            Command::Try(skip(), skip(), Box::new(inner))
+        }),
+    ];
+    let mut list = Vec::new();
+    for (words, wrap) in wraps {
+        let nested = |inner: &Command, wraps: usize| {
+            program((0..wraps).fold(inner.clone(), |command, _| wrap(command)))
+        };
+        for inner in [Command::Skip, Command::Fail, Command::RuleSet(vec![0])] {
+            let name = format!("depth 17 by {words} around {inner:?}");
+            list.push(images(name, &nested(&inner, 15), &nested(&inner, 16)));
+        }
+    }
+    list
+}

@@ -1,0 +1,133 @@
+//! What the refusals 14 to 18 share: a legal rule, and images made from it. With the refusal 14.
+
+use super::{refusal, run_with, Refusal, RunCall};
+use crate::encode;
+use crate::tree::{
+    mark, Command, Element, Operand, Program, Relation, Rule, RuleEdge, RuleGraph, RuleNode, Test,
+    TestKind, VariableType,
+};
+
+/// A clause with an accepted and a refused image.
+pub(super) type Images = (String, Vec<u8>, Vec<u8>);
+
+pub(super) fn images(name: impl Into<String>, accepted: &[u8], refused: &[u8]) -> Images {
+    (name.into(), accepted.to_vec(), refused.to_vec())
+}
+
+pub(super) fn refusals(answer: u32, images: Vec<Images>) -> Vec<Refusal<RunCall>> {
+    let call = |image: &Vec<u8>| run_with(|call| call.program = image.clone());
+    let images = images.iter();
+    images
+        .map(|(name, accepted, refused)| refusal(name, answer, call(accepted), call(refused)))
+        .collect()
+}
+
+/// The number 14.
+pub(super) fn image_length() -> Vec<Refusal<RunCall>> {
+    let of_bytes = |bytes| {
+        run_with(|call| {
+            let rule = encode::rule(&rule());
+            let command = encode::command(&command_of_bytes(bytes - rule.len()));
+            call.program = [rule, command].concat();
+        })
+    };
+    let refused = |words: &str, bytes| refusal(words, 14, of_bytes(8192), of_bytes(bytes));
+    vec![
+        refused("image of 8,193 bytes", 8193),
+        refused("image of 60,000 bytes", 60_000),
+    ]
+}
+
+/// A command that takes so many bytes, 3 or more.
+pub(super) fn command_of_bytes(bytes: usize) -> Command {
+    match bytes {
+        0..=3 => Command::Skip,
+        4..=11 => Command::RuleSet(vec![0; bytes - 3]),
+        _ => {
+            let payload = bytes - 3;
+            let parts = (payload / 3).min(16);
+            let share = |part| payload / parts + usize::from(part < payload % parts);
+            Command::Sequence(
+                (0..parts)
+                    .map(|part| command_of_bytes(share(part)))
+                    .collect(),
+            )
+        }
+    }
+}
+
+/// An image of one legal rule and this command.
+pub(super) fn program(main: Command) -> Vec<u8> {
+    let rules = vec![rule()];
+    encode::program(&Program { rules, main })
+}
+
+/// A rule that uses each kind of reference. Its variables are an int, a list and an int that it doesn't use.
+pub(super) fn rule() -> Rule {
+    let x = Element::Variable(0);
+    let list = Element::Variable(1);
+    Rule {
+        variables: vec![VariableType::Int, VariableType::List, VariableType::Int],
+        left: RuleGraph {
+            nodes: vec![node(mark::ANY, vec![x]), node(mark::NONE, vec![list])],
+            edges: vec![edge(mark::ANY, 0, 1, vec![x])],
+        },
+        right: RuleGraph {
+            nodes: vec![
+                node(mark::ANY, vec![x]),
+                node(mark::RED, vec![list]),
+                node(mark::GREY, vec![Element::Sum(Operand::Variable(0), one())]),
+            ],
+            edges: vec![edge(mark::DASHED, 1, 2, vec![x])],
+        },
+        interface: 2,
+        tests: vec![
+            test(TestKind::Edge(0, 1)),
+            test(TestKind::InDegree(0, 0)),
+            test(TestKind::OutDegree(1, 0)),
+            test(TestKind::Relation(
+                Relation::Less,
+                one(),
+                Operand::Variable(0),
+            )),
+        ],
+    }
+}
+
+pub(super) fn empty_rule() -> Rule {
+    Rule {
+        variables: vec![],
+        left: RuleGraph::default(),
+        right: RuleGraph::default(),
+        interface: 0,
+        tests: vec![],
+    }
+}
+
+pub(super) fn node(mark: u8, label: Vec<Element>) -> RuleNode {
+    RuleNode {
+        mark,
+        root: false,
+        label,
+    }
+}
+
+pub(super) fn edge(mark: u8, source: u8, target: u8, label: Vec<Element>) -> RuleEdge {
+    RuleEdge {
+        mark,
+        source,
+        target,
+        label,
+    }
+}
+
+fn test(kind: TestKind) -> Test {
+    Test {
+        negated: false,
+        kind,
+    }
+}
+
+pub(super) fn one() -> Operand {
+    Operand::Constant(1)
+}

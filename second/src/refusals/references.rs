@@ -1,0 +1,232 @@
+//! The refusals 17.
+
+use super::programs::{images, one, program, rule, Images};
+use crate::encode;
+use crate::tree::{
+    mark, Command, Element, Operand, Program, Relation, Rule, TestKind, VariableType,
+};
+
+/// The number 17.
+pub(super) fn images_of_references() -> Vec<Images> {
+    let mut images = references_of_commands();
+    images.extend(references_to_variables());
+    images.extend(references_to_nodes());
+    images.extend(references_of_left_labels());
+    images.extend(references_of_operands());
+    images.extend(references_of_marks());
+    images
+}
+
+fn references_of_commands() -> Vec<Images> {
+    let set = |number: u8| Box::new(Command::RuleSet(vec![number]));
+    let skip = || Box::new(Command::Skip);
+    let places: [(&str, &dyn Fn(u8) -> Command); 9] = [
+        ("alone", &|n| Command::RuleSet(vec![n])),
+        ("last of eight", &|n| {
+            Command::RuleSet(vec![0, 0, 0, 0, 0, 0, 0, n])
+        }),
+        ("in a sequence", &|n| {
+            Command::Sequence(vec![Command::Skip, *set(n)])
+        }),
+        ("in an if guard", &|n| Command::If(set(n), skip(), skip())),
+        ("in an if then", &|n| Command::If(skip(), set(n), skip())),
+        ("in an if else", &|n| Command::If(skip(), skip(), set(n))),
+        ("in a try guard", &|n| Command::Try(set(n), skip(), skip())),
+        ("in a try else", &|n| Command::Try(skip(), skip(), set(n))),
+        ("in a loop", &|n| Command::Loop(set(n))),
+    ];
+    let mut list = Vec::new();
+    for (words, command) in places {
+        for number in [1, 255] {
+            let name = format!("rule {number} of one, {words}");
+            list.push(images(
+                name,
+                &program(command(0)),
+                &program(command(number)),
+            ));
+        }
+    }
+    let without_rules = encode::command(&Command::RuleSet(vec![0]));
+    list.push(images(
+        "rule 0 of none",
+        &program(Command::RuleSet(vec![0])),
+        &without_rules,
+    ));
+    list
+}
+
+/// The legal rule, and the same with an edit.
+fn edited(name: impl Into<String>, edit: impl Fn(&mut Rule)) -> Images {
+    let image = |rule: Rule| {
+        encode::program(&Program {
+            rules: vec![rule],
+            main: Command::Skip,
+        })
+    };
+    let mut refused = rule();
+    edit(&mut refused);
+    images(name, &image(rule()), &image(refused))
+}
+
+/// A place for an element on the right side, or for the first or second operand of a sum, a difference or
+/// a relation test.
+fn places_of_right_side_and_tests() -> Vec<(&'static str, fn(&mut Rule, u8))> {
+    vec![
+        ("on a right node", |rule, v| {
+            rule.right.nodes[1].label[0] = Element::Variable(v)
+        }),
+        ("on a new node", |rule, v| {
+            rule.right.nodes[2].label[0] = Element::Variable(v)
+        }),
+        ("on a right edge", |rule, v| {
+            rule.right.edges[0].label[0] = Element::Variable(v)
+        }),
+        ("first in a sum", |rule, v| {
+            rule.right.nodes[0].label[0] = Element::Sum(Operand::Variable(v), one())
+        }),
+        ("second in a sum", |rule, v| {
+            rule.right.edges[0].label[0] = Element::Sum(one(), Operand::Variable(v))
+        }),
+        ("first in a difference", |rule, v| {
+            rule.right.edges[0].label[0] = Element::Difference(Operand::Variable(v), one())
+        }),
+        ("second in a difference", |rule, v| {
+            rule.right.nodes[2].label[0] = Element::Difference(one(), Operand::Variable(v))
+        }),
+        ("first in equal", |rule, v| {
+            rule.tests[3].kind = TestKind::Relation(Relation::Equal, Operand::Variable(v), one())
+        }),
+        ("second in equal", |rule, v| {
+            rule.tests[3].kind = TestKind::Relation(Relation::Equal, one(), Operand::Variable(v))
+        }),
+        ("first in less", |rule, v| {
+            rule.tests[3].kind = TestKind::Relation(Relation::Less, Operand::Variable(v), one())
+        }),
+        ("second in less", |rule, v| {
+            rule.tests[3].kind = TestKind::Relation(Relation::Less, one(), Operand::Variable(v))
+        }),
+    ]
+}
+
+fn references_to_variables() -> Vec<Images> {
+    let mut list = vec![
+        edited("variable 3 of three on a left node", |rule| {
+            rule.left.nodes[0].label.push(Element::Variable(3));
+        }),
+        edited("variable 255 on a left node", |rule| {
+            rule.left.nodes[1].label.push(Element::Variable(255));
+        }),
+        edited("variable 3 of three on a left edge", |rule| {
+            rule.left.edges[0].label.push(Element::Variable(3));
+        }),
+    ];
+    for (place, put) in places_of_right_side_and_tests() {
+        let undeclared = format!("variable 3 of three {place}");
+        list.push(edited(undeclared, |rule| put(rule, 3)));
+        let not_on_the_left = format!("variable that is not on the left {place}");
+        list.push(edited(not_on_the_left, |rule| put(rule, 2)));
+    }
+    list
+}
+
+fn references_to_nodes() -> Vec<Images> {
+    vec![
+        edited("left source 2 of two", |rule| rule.left.edges[0].source = 2),
+        edited("left target 2 of two", |rule| rule.left.edges[0].target = 2),
+        edited("left source 255", |rule| rule.left.edges[0].source = 255),
+        edited("right source 3 of three", |rule| {
+            rule.right.edges[0].source = 3
+        }),
+        edited("right target 3 of three", |rule| {
+            rule.right.edges[0].target = 3
+        }),
+        edited("right target 255", |rule| rule.right.edges[0].target = 255),
+        edited("edge test from the right's node 2", |rule| {
+            rule.tests[0].kind = TestKind::Edge(2, 0)
+        }),
+        edited("edge test to the right's node 2", |rule| {
+            rule.tests[0].kind = TestKind::Edge(0, 2)
+        }),
+        edited("in-degree of the right's node 2", |rule| {
+            rule.tests[1].kind = TestKind::InDegree(2, 0)
+        }),
+        edited("out-degree of the right's node 2", |rule| {
+            rule.tests[2].kind = TestKind::OutDegree(2, 0)
+        }),
+        edited("interface larger than the left side", |rule| {
+            rule.interface = 3
+        }),
+        edited("interface larger than the right side", |rule| {
+            rule.right.nodes.truncate(1);
+            rule.right.edges.clear();
+        }),
+        edited("interface of 255 nodes", |rule| rule.interface = 255),
+    ]
+}
+
+fn references_of_left_labels() -> Vec<Images> {
+    let sum = Element::Sum(one(), one());
+    let difference = Element::Difference(Operand::Variable(0), one());
+    let list = Element::Variable(1);
+    vec![
+        edited("sum on a left node", |rule| {
+            rule.left.nodes[0].label.push(sum)
+        }),
+        edited("sum on a left edge", |rule| {
+            rule.left.edges[0].label.push(sum)
+        }),
+        edited("difference on a left node", |rule| {
+            rule.left.nodes[1].label.push(difference)
+        }),
+        edited("difference on a left edge", |rule| {
+            rule.left.edges[0].label.push(difference)
+        }),
+        edited("one list variable twice on a left node", |rule| {
+            rule.left.nodes[1].label.push(list)
+        }),
+        edited("one list variable twice on a left edge", |rule| {
+            rule.left.edges[0].label.extend([list, list])
+        }),
+        edited("two list variables on a left node", |rule| {
+            rule.variables[2] = VariableType::List;
+            rule.left.nodes[1].label.push(Element::Variable(2));
+        }),
+        edited("two list variables on a left edge", |rule| {
+            rule.variables[2] = VariableType::List;
+            rule.left.edges[0]
+                .label
+                .extend([list, Element::Variable(2)]);
+        }),
+    ]
+}
+
+fn references_of_operands() -> Vec<Images> {
+    let operands = places_of_right_side_and_tests().into_iter();
+    operands
+        .filter(|(place, _)| place.starts_with("first") || place.starts_with("second"))
+        .map(|(place, put)| edited(format!("list variable {place}"), |rule| put(rule, 1)))
+        .collect()
+}
+
+fn references_of_marks() -> Vec<Images> {
+    vec![
+        edited("any on a new node", |rule| {
+            rule.right.nodes[2].mark = mark::ANY
+        }),
+        edited(
+            "any on an interface node that is none on the left",
+            |rule| {
+                rule.right.nodes[1].mark = mark::ANY;
+            },
+        ),
+        edited("any on the right where the left is red", |rule| {
+            rule.left.nodes[0].mark = mark::RED
+        }),
+        edited("any on a right edge", |rule| {
+            rule.right.edges[0].mark = mark::ANY
+        }),
+        edited("any on a node that leaves the interface", |rule| {
+            rule.interface = 0
+        }),
+    ]
+}

@@ -1,0 +1,138 @@
+//! The command line of `gp2`.
+
+use super::sizes::Sizes;
+
+pub const HELP: &str = "\
+gp2: text tools for graph program images
+
+gp2 asm PROGRAM [--host GRAPH] [--fuel N] [--records N] [--nodes N] [--edges N] -o IMAGE
+    Assembles a program in GP 2 notation. Without a host graph IMAGE is a program
+    image; with one (from GRAPH, or in PROGRAM behind the word `host`) it is a whole
+    runner image.
+      --host GRAPH   the host graph, as [ nodes | edges ]
+      --fuel N       0 to 1000000, usually 100000
+      --records N    journal records, 0 to 1024, usually 1024
+      --nodes N      node slots, up to 512, usually the graph's and 16 free ones
+      --edges N      edge slots, up to 1024, usually the graph's and 16 free ones
+      -o IMAGE       the file to write
+
+gp2 dis IMAGE [--host]
+    Prints an image as text that assembles to the same bytes. A runner image's text
+    has its host graph and numbers behind the program; --host prints the graph alone.
+
+gp2 dot IMAGE [--after]
+    Draws the host graph of a runner image as Graphviz text: marks as colours, roots
+    as double circles. --after draws the result of the run.
+
+gp2 --help
+    Prints this page.
+
+A file named - is the standard input, or the standard output for -o. Refusals are
+written to the standard error as FILE:LINE:COLUMN: what is wrong and what is expected
+(for images FILE: offset, field, what is expected, and what a run answers). The exit
+status is 0 on success, 1 where an input is refused, 2 where the command line is.
+";
+
+#[derive(Clone, Debug, PartialEq, Eq)]
+pub enum Task {
+    Assemble(AssembleTask),
+    Disassemble { image: String, host_only: bool },
+    Draw { image: String, after: bool },
+    Help,
+}
+
+#[derive(Clone, Debug, PartialEq, Eq)]
+pub struct AssembleTask {
+    pub program: String,
+    pub host: Option<String>,
+    pub sizes: Sizes,
+    pub image: String,
+}
+
+/// What a command line asks for.
+pub fn task(arguments: &[String]) -> Result<Task, String> {
+    let Some((word, rest)) = arguments.split_first() else {
+        return Err("no subcommand, expected asm, dis, dot or --help".to_string());
+    };
+    if rest.iter().any(|argument| is_help(argument)) {
+        return Ok(Task::Help);
+    }
+    match word.as_str() {
+        "asm" => Ok(Task::Assemble(assemble_task(rest)?)),
+        "dis" => {
+            let (image, host_only) = image_and_flag(rest, "--host")?;
+            Ok(Task::Disassemble { image, host_only })
+        }
+        "dot" => {
+            let (image, after) = image_and_flag(rest, "--after")?;
+            Ok(Task::Draw { image, after })
+        }
+        "help" => Ok(Task::Help),
+        word if is_help(word) => Ok(Task::Help),
+        word => Err(format!(
+            "no subcommand `{word}`, expected asm, dis, dot or --help"
+        )),
+    }
+}
+
+fn is_help(argument: &str) -> bool {
+    argument == "--help" || argument == "-h"
+}
+
+/// A file's name or `-`, not an option.
+fn is_file(argument: &str) -> bool {
+    argument == "-" || !argument.starts_with('-')
+}
+
+fn image_and_flag(arguments: &[String], flag: &str) -> Result<(String, bool), String> {
+    let mut image = None;
+    let mut flagged = false;
+    for argument in arguments {
+        if argument == flag {
+            flagged = true;
+        } else if is_file(argument) {
+            set_file(&mut image, argument, "IMAGE")?;
+        } else {
+            return Err(format!("no option `{argument}`, expected {flag}"));
+        }
+    }
+    Ok((image.ok_or("no IMAGE, expected a file or -")?, flagged))
+}
+
+fn set_file(place: &mut Option<String>, argument: &str, what: &str) -> Result<(), String> {
+    match place.replace(argument.to_string()) {
+        None => Ok(()),
+        Some(_) => Err(format!("`{argument}` beside another {what}, expected one")),
+    }
+}
+
+fn assemble_task(arguments: &[String]) -> Result<AssembleTask, String> {
+    let (mut program, mut host, mut image) = (None, None, None);
+    let mut sizes = Sizes::default();
+    let mut rest = arguments.iter();
+    while let Some(argument) = rest.next() {
+        let mut value = || {
+            rest.next()
+                .ok_or(format!("nothing behind `{argument}`, expected its value"))
+        };
+        match argument.as_str() {
+            "-o" => set_file(&mut image, value()?, "-o")?,
+            "--host" => set_file(&mut host, value()?, "--host")?,
+            "--fuel" | "--records" | "--nodes" | "--edges" => {
+                let set = sizes.set(&argument[2..], value()?);
+                set.map_err(|reason| format!("{argument}: {reason}"))?;
+            }
+            file if is_file(file) => set_file(&mut program, file, "PROGRAM")?,
+            option => {
+                let options = "--host, --fuel, --records, --nodes, --edges or -o";
+                return Err(format!("no option `{option}`, expected {options}"));
+            }
+        }
+    }
+    Ok(AssembleTask {
+        program: program.ok_or("no PROGRAM, expected a file or -")?,
+        host,
+        sizes,
+        image: image.ok_or("no -o, expected the image's file or -")?,
+    })
+}

@@ -1,0 +1,213 @@
+//! A host graph as read from text, and the tables that hold it.
+
+use super::complaint::Problem;
+use super::syntax::*;
+use crate::encode::{edge_slot, node_slot};
+use crate::host::limit as slots;
+use crate::tree::{limit, mark};
+use std::collections::HashMap;
+
+/// The free slots behind a host graph where no number of slots is asked for.
+pub const FREE_SLOTS: usize = 16;
+
+/// Nodes and edges in the order read.
+#[derive(Clone, Debug, PartialEq, Eq)]
+pub struct HostGraph {
+    pub nodes: Vec<HostNode>,
+    pub edges: Vec<HostEdge>,
+    /// How many node slots the text speaks of, those kept free included.
+    pub listed_nodes: usize,
+    /// How many edge slots the text speaks of, those kept free included.
+    pub listed_edges: usize,
+}
+
+#[derive(Clone, Debug, PartialEq, Eq)]
+pub struct HostNode {
+    pub slot: usize,
+    pub identifier: String,
+    pub mark: u8,
+    pub root: bool,
+    pub atoms: Vec<i32>,
+}
+
+#[derive(Clone, Debug, PartialEq, Eq)]
+pub struct HostEdge {
+    pub slot: usize,
+    pub identifier: String,
+    /// A place in the list of nodes.
+    pub source: usize,
+    /// A place in the list of nodes.
+    pub target: usize,
+    pub mark: u8,
+    pub atoms: Vec<i32>,
+}
+
+impl HostGraph {
+    /// The node and edge table with that many slots each, at least as many as the text speaks of.
+    pub fn tables(
+        &self,
+        node_slots: usize,
+        edge_slots: usize,
+    ) -> Result<(Vec<u8>, Vec<u8>), String> {
+        check_slots("node", node_slots, self.listed_nodes, slots::NODE_SLOTS)?;
+        check_slots("edge", edge_slots, self.listed_edges, slots::EDGE_SLOTS)?;
+        let mut nodes = vec![0; node_slots * slots::NODE_SLOT];
+        for node in &self.nodes {
+            let slot = node_slot(node.mark, node.root, &node.atoms);
+            nodes[node.slot * slots::NODE_SLOT..][..slots::NODE_SLOT].copy_from_slice(&slot);
+        }
+        let mut edges = vec![0; edge_slots * slots::EDGE_SLOT];
+        for edge in &self.edges {
+            let (source, target) = (
+                self.nodes[edge.source].slot as u16,
+                self.nodes[edge.target].slot as u16,
+            );
+            let slot = edge_slot(edge.mark, source, target, &edge.atoms);
+            edges[edge.slot * slots::EDGE_SLOT..][..slots::EDGE_SLOT].copy_from_slice(&slot);
+        }
+        Ok((nodes, edges))
+    }
+
+    /// As many node slots as the text speaks of and some free ones.
+    pub fn usual_node_slots(&self) -> usize {
+        (self.listed_nodes + FREE_SLOTS).min(slots::NODE_SLOTS)
+    }
+
+    /// As many edge slots as the text speaks of and some free ones.
+    pub fn usual_edge_slots(&self) -> usize {
+        (self.listed_edges + FREE_SLOTS).min(slots::EDGE_SLOTS)
+    }
+}
+
+fn check_slots(kind: &str, slots: usize, least: usize, most: usize) -> Result<(), String> {
+    if (least..=most).contains(&slots) {
+        return Ok(());
+    }
+    Err(format!(
+        "{slots} {kind} slots, expected from {least} (the host graph's) to {most}"
+    ))
+}
+
+pub fn host_graph(text: &HostGraphText) -> Result<HostGraph, Problem> {
+    let mut graph = HostGraph {
+        nodes: Vec::new(),
+        edges: Vec::new(),
+        listed_nodes: text.nodes.len(),
+        listed_edges: text.edges.len(),
+    };
+    let mut nodes = HashMap::new();
+    for (slot, node) in numbered(&text.nodes) {
+        check_new(
+            nodes
+                .insert(node.identifier.text.as_str(), graph.nodes.len())
+                .is_none(),
+            &node.identifier,
+            "node",
+        )?;
+        graph.nodes.push(host_node(slot, node)?);
+    }
+    let mut edges = HashMap::new();
+    for (slot, edge) in numbered(&text.edges) {
+        check_new(
+            edges.insert(edge.identifier.text.as_str(), ()).is_none(),
+            &edge.identifier,
+            "edge",
+        )?;
+        graph.edges.push(host_edge(slot, edge, &nodes)?);
+    }
+    Ok(graph)
+}
+
+/// The slots that are not kept free, with their numbers.
+fn numbered<T>(slots: &[Option<T>]) -> impl Iterator<Item = (usize, &T)> {
+    slots
+        .iter()
+        .enumerate()
+        .filter_map(|(number, slot)| slot.as_ref().map(|item| (number, item)))
+}
+
+fn check_new(is_new: bool, name: &Name, kind: &str) -> Result<(), Problem> {
+    if is_new {
+        return Ok(());
+    }
+    Err(Problem::new(
+        name.place,
+        format!(
+            "the {kind} `{}` twice, expected each identifier once",
+            name.text
+        ),
+    ))
+}
+
+fn host_node(slot: usize, text: &NodeText) -> Result<HostNode, Problem> {
+    let (mark, atoms) = host_label(&text.label)?;
+    Ok(HostNode {
+        slot,
+        identifier: text.identifier.text.clone(),
+        mark,
+        root: text.root,
+        atoms,
+    })
+}
+
+fn host_edge(
+    slot: usize,
+    text: &EdgeText,
+    nodes: &HashMap<&str, usize>,
+) -> Result<HostEdge, Problem> {
+    if text.bidirectional {
+        let message =
+            "a bidirectional edge in a host graph, expected no `(B)`: its edges run one way";
+        return Err(Problem::new(text.identifier.place, message));
+    }
+    let end = |name: &Name| {
+        let message = format!(
+            "no node `{}`, expected one of the host graph's identifiers",
+            name.text
+        );
+        nodes
+            .get(name.text.as_str())
+            .copied()
+            .ok_or_else(|| Problem::new(name.place, message))
+    };
+    let (source, target) = (end(&text.source)?, end(&text.target)?);
+    let (mark, atoms) = host_label(&text.label)?;
+    Ok(HostEdge {
+        slot,
+        identifier: text.identifier.text.clone(),
+        source,
+        target,
+        mark,
+        atoms,
+    })
+}
+
+fn host_label(label: &LabelText) -> Result<(u8, Vec<i32>), Problem> {
+    if label.mark == mark::ANY {
+        return Err(Problem::new(
+            label.mark_place,
+            "mark any in a host graph, expected another mark or none",
+        ));
+    }
+    if let Some(extra) = label.elements.get(limit::ELEMENTS) {
+        return Err(Problem::new(
+            extra.place,
+            format!("an atom too many, expected at most {}", limit::ELEMENTS),
+        ));
+    }
+    let atoms: Result<Vec<i32>, Problem> = label.elements.iter().map(atom).collect();
+    Ok((label.mark, atoms?))
+}
+
+fn atom(element: &ElementText) -> Result<i32, Problem> {
+    match &element.kind {
+        ElementKind::Single(OperandText {
+            kind: OperandKind::Number(value),
+            ..
+        }) => Ok(*value),
+        _ => Err(Problem::new(
+            element.place,
+            "a host label has integers alone, expected one",
+        )),
+    }
+}

@@ -1,0 +1,303 @@
+//! Reading an image of either kind, with the place and the reason where it can't be read.
+
+use crate::calls::{answer, MOST_FUEL};
+use crate::encode::{self, RunnerInput};
+use crate::host::{limit, Host};
+use crate::listing::INPUT_BYTES;
+use crate::tree::{self, Command, Program, Rule};
+use crate::{decode, references};
+use std::fmt;
+
+/// Where reading an image stopped, and why.
+#[derive(Clone, Debug, PartialEq, Eq)]
+pub struct Fault {
+    /// Offset in the image.
+    pub at: usize,
+    /// The field that was being read.
+    pub field: String,
+    pub expected: String,
+    /// The number that a run answers, or none where the runner refuses its input.
+    pub answer: Option<u32>,
+}
+
+impl fmt::Display for Fault {
+    fn fmt(&self, out: &mut fmt::Formatter) -> fmt::Result {
+        write!(
+            out,
+            "offset {}, {}: {}; ",
+            self.at, self.field, self.expected
+        )?;
+        match self.answer {
+            Some(number) => write!(out, "a run answers {number}"),
+            None => write!(out, "the runner prints `input refused`"),
+        }
+    }
+}
+
+/// A runner image begins with the tag of its node table, which no program image does.
+pub fn is_runner_image(bytes: &[u8]) -> bool {
+    bytes.first() == Some(&0x01)
+}
+
+/// The runner's five fields, and where the payloads of tables, fuel and program start.
+#[derive(Clone, Debug)]
+pub struct RunnerImage {
+    pub input: RunnerInput,
+    nodes_at: usize,
+    edges_at: usize,
+    fuel_at: usize,
+    program_at: usize,
+}
+
+/// The fields of a runner image, whatever tables and program hold.
+pub fn runner_image(bytes: &[u8]) -> Result<RunnerImage, Fault> {
+    if bytes.len() > INPUT_BYTES {
+        return Err(input_refused(
+            INPUT_BYTES,
+            "runner image",
+            "expected at most 65,536 bytes",
+        ));
+    }
+    let mut fields = Fields { bytes, at: 0 };
+    let (nodes_at, nodes) = fields.next(0x01, "node table")?;
+    let (edges_at, edges) = fields.next(0x02, "edge table")?;
+    let (records_at, records) = fields.next(0x03, "journal records")?;
+    let (fuel_at, fuel) = fields.next(0x04, "fuel")?;
+    let (program_at, program) = fields.next(0x05, "program")?;
+    if fields.at < bytes.len() {
+        return Err(input_refused(
+            fields.at,
+            "runner image",
+            "expected nothing behind the program",
+        ));
+    }
+    let records = records_number(records_at, records)?;
+    let fuel = <[u8; 4]>::try_from(fuel)
+        .map_err(|_| input_refused(fuel_at, "fuel", "expected four bytes"))?;
+    let input = RunnerInput {
+        nodes: nodes.to_vec(),
+        edges: edges.to_vec(),
+        records,
+        fuel: u32::from_be_bytes(fuel),
+        program: program.to_vec(),
+    };
+    Ok(RunnerImage {
+        input,
+        nodes_at,
+        edges_at,
+        fuel_at,
+        program_at,
+    })
+}
+
+fn records_number(at: usize, payload: &[u8]) -> Result<u16, Fault> {
+    let bytes = <[u8; 2]>::try_from(payload)
+        .map_err(|_| input_refused(at, "journal records", "expected two bytes"))?;
+    let records = u16::from_be_bytes(bytes);
+    if usize::from(records) > limit::RECORDS {
+        return Err(input_refused(
+            at,
+            "journal records",
+            "expected at most 1,024 records",
+        ));
+    }
+    Ok(records)
+}
+
+fn input_refused(at: usize, field: &str, expected: &str) -> Fault {
+    Fault {
+        at,
+        field: field.to_string(),
+        expected: expected.to_string(),
+        answer: None,
+    }
+}
+
+struct Fields<'a> {
+    bytes: &'a [u8],
+    at: usize,
+}
+
+impl<'a> Fields<'a> {
+    /// The next field's payload and where it starts.
+    fn next(&mut self, tag: u8, words: &str) -> Result<(usize, &'a [u8]), Fault> {
+        let rest = &self.bytes[self.at..];
+        if rest.first() != Some(&tag) {
+            let expected = format!("expected a field with tag {tag:#04x}");
+            return Err(input_refused(self.at, words, &expected));
+        }
+        let Some((head, rest)) = rest.split_at_checked(3) else {
+            let expected = "expected the two bytes of a length";
+            return Err(input_refused(self.at + 1, words, expected));
+        };
+        let start = self.at + head.len();
+        let length = usize::from(u16::from_be_bytes([head[1], head[2]]));
+        let Some(payload) = rest.get(..length) else {
+            let expected = format!("expected a payload of {length} bytes, found {}", rest.len());
+            return Err(input_refused(start, words, &expected));
+        };
+        self.at = start + length;
+        Ok((start, payload))
+    }
+}
+
+impl RunnerImage {
+    /// Host and program, or the fault with the lowest number.
+    pub fn contents(&self) -> Result<(Host, Program), Fault> {
+        self.check_table_lengths()?;
+        if self.input.fuel > MOST_FUEL {
+            let expected = format!("expected at most {MOST_FUEL}, found {}", self.input.fuel);
+            return Err(fault(self.fuel_at, "fuel", expected, answer::FUEL));
+        }
+        check_image_length(&self.input.program, self.program_at)?;
+        let host = self.host()?;
+        Ok((host, program(&self.input.program, self.program_at)?))
+    }
+
+    /// The host graph of the tables, whatever the program holds.
+    pub fn host(&self) -> Result<Host, Fault> {
+        self.check_table_lengths()?;
+        let (nodes, edges) = (&self.input.nodes, &self.input.edges);
+        for (number, slot) in nodes.chunks(limit::NODE_SLOT).enumerate() {
+            let at = self.nodes_at + number * limit::NODE_SLOT;
+            Host::read(slot, &[]).map_err(|reason| layout(at, "node", number, &reason))?;
+        }
+        for (number, slot) in edges.chunks(limit::EDGE_SLOT).enumerate() {
+            let at = self.edges_at + number * limit::EDGE_SLOT;
+            Host::read(nodes, slot).map_err(|reason| layout(at, "edge", number, &reason))?;
+        }
+        Host::read(nodes, edges)
+            .map_err(|reason| fault(self.nodes_at, "host tables", reason, answer::LAYOUT))
+    }
+
+    fn check_table_lengths(&self) -> Result<(), Fault> {
+        let (nodes, edges) = (self.input.nodes.len(), self.input.edges.len());
+        if nodes % limit::NODE_SLOT != 0 || nodes / limit::NODE_SLOT > limit::NODE_SLOTS {
+            let expected = format!("expected 0 to 512 slots of 20 bytes, found {nodes} bytes");
+            return Err(fault(
+                self.nodes_at,
+                "node table",
+                expected,
+                answer::NODE_TABLE,
+            ));
+        }
+        if edges % limit::EDGE_SLOT != 0 || edges / limit::EDGE_SLOT > limit::EDGE_SLOTS {
+            let expected = format!("expected 0 to 1,024 slots of 24 bytes, found {edges} bytes");
+            return Err(fault(
+                self.edges_at,
+                "edge table",
+                expected,
+                answer::EDGE_TABLE,
+            ));
+        }
+        Ok(())
+    }
+}
+
+fn fault(at: usize, field: &str, expected: impl Into<String>, answer: u32) -> Fault {
+    Fault {
+        at,
+        field: field.to_string(),
+        expected: expected.into(),
+        answer: Some(answer),
+    }
+}
+
+/// The fault of one slot, whose reason was found with the slot alone in its table.
+fn layout(at: usize, kind: &str, number: usize, reason: &str) -> Fault {
+    let reason = reason.split_once(": ").map_or(reason, |(_, reason)| reason);
+    fault(at, &format!("{kind} slot {number}"), reason, answer::LAYOUT)
+}
+
+/// The tree of a program image that starts at offset `start`.
+pub fn program(image: &[u8], start: usize) -> Result<Program, Fault> {
+    check_image_length(image, start)?;
+    let program = decode::program(image).map_err(|damage| {
+        let expected = format!("expected {}", damage.expected);
+        fault(start + damage.at, &damage.field, expected, answer::FORM)
+    })?;
+    check_references(&program, start)?;
+    check_placement(&program, start)?;
+    Ok(program)
+}
+
+fn check_image_length(image: &[u8], start: usize) -> Result<(), Fault> {
+    let (most, found) = (tree::limit::IMAGE_BYTES, image.len());
+    if found > most {
+        let expected = format!("expected at most {most} bytes, found {found}");
+        return Err(fault(start + most, "program", expected, answer::IMAGE));
+    }
+    Ok(())
+}
+
+fn check_references(program: &Program, start: usize) -> Result<(), Fault> {
+    let Err(reason) = references::check(program) else {
+        return Ok(());
+    };
+    let broken = program
+        .rules
+        .iter()
+        .position(|rule| references::check_rule(rule).is_err());
+    if let Some(number) = broken {
+        let at = start + rules_length(&program.rules[..number]);
+        return Err(fault(at, "references", reason, answer::REFERENCES));
+    }
+    let rules = program.rules.len();
+    let names_too_much = |command: &Command, _| match command {
+        Command::RuleSet(numbers) => numbers.iter().any(|number| usize::from(*number) >= rules),
+        _ => false,
+    };
+    let at = start + main_offset_of(program, &names_too_much);
+    Err(fault(at, "references", reason, answer::REFERENCES))
+}
+
+fn check_placement(program: &Program, start: usize) -> Result<(), Fault> {
+    if crate::placement::check(program) {
+        return Ok(());
+    }
+    let at = start
+        + main_offset_of(program, &|command, in_body| {
+            *command == Command::Break && !in_body
+        });
+    let expected = "expected a loop around the break with no guard of if or try between";
+    Err(fault(at, "placement", expected, answer::PLACEMENT))
+}
+
+fn rules_length(rules: &[Rule]) -> usize {
+    rules.iter().map(|rule| encode::rule(rule).len()).sum()
+}
+
+/// The offset of the first command that is wrong, or of the main command.
+fn main_offset_of(program: &Program, wrong: &dyn Fn(&Command, bool) -> bool) -> usize {
+    let start = rules_length(&program.rules);
+    offset_of(&program.main, start, false, wrong).unwrap_or(start)
+}
+
+/// The offset of the first wrong command; `in_body` says whether a break may stand at the command.
+fn offset_of(
+    command: &Command,
+    at: usize,
+    in_body: bool,
+    wrong: &dyn Fn(&Command, bool) -> bool,
+) -> Option<usize> {
+    const HEAD: usize = 3;
+    if wrong(command, in_body) {
+        return Some(at);
+    }
+    let parts: Vec<(&Command, bool)> = match command {
+        Command::Sequence(parts) => parts.iter().map(|part| (part, in_body)).collect(),
+        Command::If(guard, then, other) | Command::Try(guard, then, other) => {
+            vec![(guard, false), (then, in_body), (other, in_body)]
+        }
+        Command::Loop(body) => vec![(body, true)],
+        _ => Vec::new(),
+    };
+    let mut at = at + HEAD;
+    for (part, in_body) in parts {
+        if let Some(found) = offset_of(part, at, in_body, wrong) {
+            return Some(found);
+        }
+        at += encode::command(part).len();
+    }
+    None
+}

@@ -1,0 +1,43 @@
+//! The text tools: the notation of GP 2 programs and host graphs, read and written.
+//!
+//! A text is cut into tokens (`lexer`), read as it is written (`parse_*` into `syntax`), and put in terms of
+//! the image (`scopes`, `lower_*`, `variables`, `host_graph`). The other way, `image` reads bytes and
+//! `print_*` and `dot` write text.
+
+mod arguments;
+mod assemble;
+mod complaint;
+mod cursor;
+mod dot;
+mod files;
+mod host_graph;
+mod image;
+mod lexer;
+mod lower_commands;
+mod lower_rules;
+mod lower_tests;
+mod parse_commands;
+mod parse_conditions;
+mod parse_host;
+mod parse_labels;
+mod parse_program;
+mod parse_rules;
+mod print_commands;
+mod print_host;
+mod print_program;
+mod scopes;
+mod sizes;
+mod syntax;
+mod tools;
+mod variables;
+
+pub use arguments::{task, Task};
+pub use assemble::{assemble, assemble_program, read_graph, runner_input, Assembly, HostSection};
+pub use complaint::{Complaint, Place};
+pub use dot::drawing;
+pub use host_graph::{HostEdge, HostGraph, HostNode};
+pub use image::Fault;
+pub use print_host::host_graph_text;
+pub use print_program::program_text;
+pub use sizes::Sizes;
+pub use tools::{disassemble, draw, draw_after, image_graph, perform};

@@ -1,0 +1,127 @@
+//! A command as text. A sequence inside another command stands in parentheses, one of a single command as
+//! `(P;)`; what is too long for a line is broken and indented.
+
+use crate::tree::Command;
+
+const WIDTH: usize = 90;
+const INDENT: usize = 2;
+
+/// Where a command stands, which decides whether it needs parentheses.
+#[derive(Clone, Copy, PartialEq)]
+enum Role {
+    /// A part of a sequence or a whole of parentheses.
+    Part,
+    /// A guard, a branch or the body of a loop.
+    Block,
+}
+
+/// The line or lines of `Main`.
+pub fn main_text(main: &Command) -> String {
+    let head = "Main = ";
+    let indent = head.len();
+    match main {
+        Command::Sequence(parts) if parts.len() > 1 => {
+            let line = parts
+                .iter()
+                .map(|part| flat(part, Role::Part))
+                .collect::<Vec<_>>()
+                .join("; ");
+            if indent + line.len() <= WIDTH {
+                return format!("{head}{line}\n");
+            }
+            format!("{head}{}\n", broken_parts(parts, indent))
+        }
+        _ => format!("{head}{}\n", text(main, indent, Role::Part)),
+    }
+}
+
+/// The command, on one line if it fits behind `indent` blanks.
+fn text(command: &Command, indent: usize, role: Role) -> String {
+    let line = flat(command, role);
+    if indent + line.len() <= WIDTH {
+        return line;
+    }
+    match command {
+        Command::Sequence(parts) => {
+            let inner = indent + INDENT;
+            let end = if parts.len() == 1 { ";" } else { "" };
+            let parts = broken_parts(parts, inner);
+            format!("({}{parts}{end}{})", new_line(inner), new_line(indent))
+        }
+        Command::If(guard, then, otherwise) => in_role(
+            broken_branches("if", [guard, then, otherwise], indent),
+            role,
+        ),
+        Command::Try(guard, then, otherwise) => in_role(
+            broken_branches("try", [guard, then, otherwise], indent),
+            role,
+        ),
+        Command::Loop(body) => format!("{}!", text(body, indent, Role::Block)),
+        _ => line,
+    }
+}
+
+fn broken_parts(parts: &[Command], indent: usize) -> String {
+    let parts: Vec<String> = parts
+        .iter()
+        .map(|part| text(part, indent, Role::Part))
+        .collect();
+    parts.join(&format!(";{}", new_line(indent)))
+}
+
+fn broken_branches(word: &str, [guard, then, otherwise]: [&Command; 3], indent: usize) -> String {
+    let branch = |command| text(command, indent + INDENT, Role::Block);
+    let (guard, then, otherwise) = (branch(guard), branch(then), branch(otherwise));
+    let line = new_line(indent);
+    format!("{word} {guard}{line}then {then}{line}else {otherwise}")
+}
+
+fn new_line(indent: usize) -> String {
+    format!("\n{}", " ".repeat(indent))
+}
+
+fn flat(command: &Command, role: Role) -> String {
+    match command {
+        Command::RuleSet(numbers) => rule_set(numbers),
+        Command::Sequence(parts) => {
+            let end = if parts.len() == 1 { ";" } else { "" };
+            let parts: Vec<String> = parts.iter().map(|part| flat(part, Role::Part)).collect();
+            format!("({}{end})", parts.join("; "))
+        }
+        Command::If(guard, then, otherwise) => {
+            in_role(flat_branches("if", [guard, then, otherwise]), role)
+        }
+        Command::Try(guard, then, otherwise) => {
+            in_role(flat_branches("try", [guard, then, otherwise]), role)
+        }
+        Command::Loop(body) => format!("{}!", flat(body, Role::Block)),
+        Command::Skip => "skip".to_string(),
+        Command::Fail => "fail".to_string(),
+        Command::Break => "break".to_string(),
+    }
+}
+
+fn flat_branches(word: &str, [guard, then, otherwise]: [&Command; 3]) -> String {
+    let branch = |command| flat(command, Role::Block);
+    format!(
+        "{word} {} then {} else {}",
+        branch(guard),
+        branch(then),
+        branch(otherwise)
+    )
+}
+
+fn in_role(branching: String, role: Role) -> String {
+    match role {
+        Role::Part => branching,
+        Role::Block => format!("({branching})"),
+    }
+}
+
+fn rule_set(numbers: &[u8]) -> String {
+    let names: Vec<String> = numbers.iter().map(|number| format!("r{number}")).collect();
+    match names.as_slice() {
+        [alone] => alone.clone(),
+        several => format!("{{{}}}", several.join(", ")),
+    }
+}

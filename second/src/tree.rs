@@ -1,0 +1,124 @@
+//! The tree that a program image stands for: rules and one command.
+//!
+//! Every type follows a bullet of the section "The program image" of the scope document. A tree can hold
+//! what *form* allows, so references may still dangle and a break may still stand in a wrong place.
+
+/// Mark numbers, as tables and images write them.
+pub mod mark {
+    pub const NONE: u8 = 0;
+    pub const RED: u8 = 1;
+    pub const GREEN: u8 = 2;
+    pub const BLUE: u8 = 3;
+    /// On nodes only.
+    pub const GREY: u8 = 4;
+    /// On edges only.
+    pub const DASHED: u8 = 5;
+    /// In rules only.
+    pub const ANY: u8 = 6;
+
+    /// The word for a mark, indexed by its number.
+    pub const NAMES: [&str; 7] = ["none", "red", "green", "blue", "grey", "dashed", "any"];
+}
+
+/// The limits of an image.
+pub mod limit {
+    pub const IMAGE_BYTES: usize = 8192;
+    pub const RULES: usize = 32;
+    pub const VARIABLES: usize = 6;
+    pub const NODES: usize = 6;
+    pub const EDGES: usize = 6;
+    pub const ELEMENTS: usize = 4;
+    pub const TESTS: usize = 4;
+    pub const RULE_NUMBERS: usize = 8;
+    pub const COMMANDS: usize = 16;
+    pub const DEPTH: usize = 16;
+}
+
+#[derive(Clone, Debug, PartialEq, Eq)]
+pub struct Program {
+    pub rules: Vec<Rule>,
+    pub main: Command,
+}
+
+#[derive(Clone, Debug, PartialEq, Eq)]
+pub struct Rule {
+    pub variables: Vec<VariableType>,
+    pub left: RuleGraph,
+    pub right: RuleGraph,
+    /// Nodes 0 to interface - 1 are the same on both sides.
+    pub interface: u8,
+    pub tests: Vec<Test>,
+}
+
+#[derive(Clone, Copy, Debug, PartialEq, Eq)]
+pub enum VariableType {
+    Int,
+    List,
+}
+
+#[derive(Clone, Debug, PartialEq, Eq, Default)]
+pub struct RuleGraph {
+    pub nodes: Vec<RuleNode>,
+    pub edges: Vec<RuleEdge>,
+}
+
+#[derive(Clone, Debug, PartialEq, Eq)]
+pub struct RuleNode {
+    pub mark: u8,
+    pub root: bool,
+    pub label: Vec<Element>,
+}
+
+#[derive(Clone, Debug, PartialEq, Eq)]
+pub struct RuleEdge {
+    pub mark: u8,
+    pub source: u8,
+    pub target: u8,
+    pub label: Vec<Element>,
+}
+
+#[derive(Clone, Copy, Debug, PartialEq, Eq)]
+pub enum Element {
+    Constant(i32),
+    Variable(u8),
+    Sum(Operand, Operand),
+    Difference(Operand, Operand),
+}
+
+#[derive(Clone, Copy, Debug, PartialEq, Eq)]
+pub enum Operand {
+    Constant(i32),
+    Variable(u8),
+}
+
+#[derive(Clone, Copy, Debug, PartialEq, Eq)]
+pub struct Test {
+    pub negated: bool,
+    pub kind: TestKind,
+}
+
+#[derive(Clone, Copy, Debug, PartialEq, Eq)]
+pub enum TestKind {
+    Edge(u8, u8),
+    InDegree(u8, u16),
+    OutDegree(u8, u16),
+    Relation(Relation, Operand, Operand),
+}
+
+#[derive(Clone, Copy, Debug, PartialEq, Eq)]
+pub enum Relation {
+    Equal,
+    Less,
+}
+
+#[derive(Clone, Debug, PartialEq, Eq)]
+pub enum Command {
+    RuleSet(Vec<u8>),
+    Sequence(Vec<Command>),
+    If(Box<Command>, Box<Command>, Box<Command>),
+    Try(Box<Command>, Box<Command>, Box<Command>),
+    Loop(Box<Command>),
+    Skip,
+    Fail,
+    Break,
+}

@@ -1,0 +1,217 @@
+//! Every refusal of the two calls and of the runner: its number, that the lowest number wins, what it
+//! leaves untouched, and its report. The inputs are those of `second::refusals`.
+
+use std::collections::HashSet;
+
+use second::calls::Outcome;
+use second::decode;
+use second::encode;
+use second::host::Host;
+use second::listing::listing;
+use second::references;
+use second::refusals::{
+    of_run, of_runner, of_undo, run_refused_for, runner_inputs, undo_refused_for, RunCall, UndoCall,
+};
+
+/// The report is zeros, on 9 what it was.
+fn expected_report(answer: u32, given: &[u8]) -> Vec<u8> {
+    match answer {
+        9 => given.to_vec(),
+        _ => vec![0; 8],
+    }
+}
+
+fn refused_run(call: &RunCall, answer: u32) -> Outcome {
+    Outcome {
+        answer,
+        nodes: call.nodes.clone(),
+        edges: call.edges.clone(),
+        journal: call.journal.clone(),
+        report: expected_report(answer, &call.report),
+    }
+}
+
+fn refused_undo(call: &UndoCall, answer: u32) -> Outcome {
+    Outcome {
+        answer,
+        nodes: call.nodes.clone(),
+        edges: call.edges.clone(),
+        journal: call.journal.clone(),
+        report: expected_report(answer, &call.report),
+    }
+}
+
+/// Each set of these numbers but the empty one.
+fn sets(numbers: &[u32]) -> Vec<Vec<u32>> {
+    let in_set = |set: u32, place: usize| set >> place & 1 == 1;
+    let members = |set: u32| {
+        let numbered = numbers.iter().enumerate();
+        numbered
+            .filter(|(place, _)| in_set(set, *place))
+            .map(|(_, number)| *number)
+            .collect()
+    };
+    (1..1 << numbers.len()).map(members).collect()
+}
+
+#[test]
+fn each_clause_of_run_refuses_by_its_number_and_touches_nothing_but_the_report() {
+    for it in of_run() {
+        assert_eq!(
+            it.refused.outcome(),
+            refused_run(&it.refused, it.answer),
+            "{}",
+            it.name
+        );
+    }
+}
+
+#[test]
+fn the_accepted_neighbour_of_each_clause_is_run() {
+    for it in of_run() {
+        let answer = it.accepted.outcome().answer;
+        assert!(
+            answer <= 2,
+            "{}: the accepted one answers {answer}",
+            it.name
+        );
+    }
+}
+
+#[test]
+fn each_clause_of_undo_refuses_by_its_number_and_touches_nothing_but_the_report() {
+    for it in of_undo() {
+        assert_eq!(
+            it.refused.outcome(),
+            refused_undo(&it.refused, it.answer),
+            "{}",
+            it.name
+        );
+        assert_eq!(it.accepted.outcome().answer, 0, "{}", it.name);
+    }
+}
+
+#[test]
+fn every_number_has_refusals_and_every_name_is_different() {
+    let run: Vec<(String, u32)> = of_run()
+        .into_iter()
+        .map(|it| (it.name, it.answer))
+        .collect();
+    let undo: Vec<(String, u32)> = of_undo()
+        .into_iter()
+        .map(|it| (it.name, it.answer))
+        .collect();
+    for number in 9..=18 {
+        assert!(run.iter().any(|(_, answer)| *answer == number), "{number}");
+    }
+    for number in [9, 10, 11, 12, 20] {
+        assert!(undo.iter().any(|(_, answer)| *answer == number), "{number}");
+    }
+    let names: HashSet<&String> = run.iter().chain(&undo).map(|(name, _)| name).collect();
+    assert_eq!(names.len(), run.len() + undo.len());
+}
+
+#[test]
+fn the_lowest_number_of_any_set_wins_in_run() {
+    let numbers: Vec<u32> = (9..=18).collect();
+    for set in sets(&numbers) {
+        let call = run_refused_for(&set);
+        assert_eq!(call.outcome(), refused_run(&call, set[0]), "{set:?}");
+    }
+    assert!(run_refused_for(&[]).outcome().answer <= 1);
+}
+
+#[test]
+fn the_lowest_number_of_any_set_wins_in_undo() {
+    for set in sets(&[9, 10, 11, 12, 20]) {
+        let call = undo_refused_for(&set);
+        assert_eq!(call.outcome(), refused_undo(&call, set[0]), "{set:?}");
+    }
+    assert_eq!(undo_refused_for(&[]).outcome().answer, 0);
+}
+
+#[test]
+fn undo_looks_at_counted_records_and_lengths_alone() {
+    let mut call = undo_refused_for(&[]);
+    call.nodes.fill(0xFF);
+    call.edges.fill(0xFF);
+    call.count = 2;
+    call.journal[2 * 28..].fill(0xFF);
+    let outcome = call.outcome();
+    assert_eq!(outcome.answer, 0);
+    assert_eq!(outcome.report, [0, 0, 0, 0, 0, 0, 0, 2]);
+    assert_eq!(outcome.journal, [[0; 56], [0xFF; 56]].concat());
+}
+
+#[test]
+fn each_prefix_of_a_legal_image_answers_16() {
+    let call = run_refused_for(&[]);
+    for length in 0..call.program.len() {
+        let cut = RunCall {
+            program: call.program[..length].to_vec(),
+            ..call.clone()
+        };
+        assert_eq!(cut.outcome(), refused_run(&cut, 16), "{length} bytes");
+    }
+}
+
+#[test]
+fn damage_is_said_with_its_place_and_what_was_expected() {
+    for it in of_run().into_iter().filter(|it| it.answer == 16) {
+        let image = &it.refused.program;
+        let damage = decode::program(image).expect_err(&it.name);
+        assert!(damage.at <= image.len(), "{}", it.name);
+        assert!(
+            !damage.field.is_empty() && !damage.expected.is_empty(),
+            "{}",
+            it.name
+        );
+    }
+    let damage = decode::program(&[0x51, 0, 6, 0x55, 0, 0, 0x58, 0, 0]).unwrap_err();
+    assert_eq!((damage.at, &damage.field[..]), (6, "sequence"));
+}
+
+#[test]
+fn a_broken_reference_or_layout_has_a_reason() {
+    for it in of_run() {
+        match it.answer {
+            15 => {
+                let host = Host::read(&it.refused.nodes, &it.refused.edges);
+                assert!(!host.expect_err(&it.name).is_empty());
+            }
+            17 => {
+                let program = decode::program(&it.refused.program).expect(&it.name);
+                assert!(!references::check(&program).expect_err(&it.name).is_empty());
+            }
+            _ => {}
+        }
+    }
+}
+
+#[test]
+fn the_runner_refuses_each_input_that_isnt_the_five_fields() {
+    for it in of_runner() {
+        assert_eq!(listing(&it.refused), "input refused\n", "{}", it.name);
+        let accepted = listing(&it.accepted);
+        assert!(accepted.starts_with("answer "), "{}: {accepted}", it.name);
+    }
+}
+
+#[test]
+fn the_runner_lists_the_number_of_a_refused_call() {
+    let inputs = runner_inputs();
+    for number in [10, 11, 13, 14, 15, 16, 17, 18] {
+        assert!(
+            inputs.iter().any(|(_, _, answer)| *answer == number),
+            "{number}"
+        );
+    }
+    for (name, input, answer) in inputs {
+        let text = listing(&encode::runner_input(&input));
+        assert_eq!(
+            text,
+            format!("answer {answer} steps 0 records 0\n"),
+            "{name}"
+        );
+    }
+}
