@@ -60,7 +60,7 @@ pub struct Exercised {
     pub breaks: u64,
     /// New nodes and right edges that took a slot which the same application had freed.
     pub slots_reused: u64,
-    /// Placements refused by the dangling condition alone.
+    /// Placements that keep rules 1 to 4 and break the dangling condition.
     pub dangling_refusals: u64,
     /// Tests that held, negation included.
     pub tests_true: TestCounts,

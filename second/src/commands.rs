@@ -22,6 +22,7 @@ pub struct State {
 pub enum Ending {
     Success(State),
     Fail,
+    /// On the way to the loop around it. Placement keeps it from ending a guard or the whole run.
     Break(State),
     /// One of the answers 2 to 7, which end the whole run.
     Stop(u32),

@@ -3,7 +3,9 @@
 
 use second::calls::{run, undo, Outcome};
 use second::encode::{self, edge_slot, node_slot, RunnerInput};
+use second::host::{Edge, Host, Label, Node};
 use second::listing::listing;
+use second::matching::{self, Placement};
 use second::tree::*;
 
 const SKIP: [u8; 3] = [0x55, 0, 0];
@@ -442,8 +444,8 @@ fn a_failing_body_gives_back_marks_roots_labels_and_deletions() {
     ]
     .concat();
     let edges = edge_slot(mark::NONE, 0, 1, &[]);
-    let applied = image(&[change.clone()], apply(0));
-    let outcome = run_on(&nodes, &edges, &[&applied], AMPLE_FUEL);
+    let rules = [change];
+    let outcome = run_on(&nodes, &edges, &[&image(&rules, apply(0))], AMPLE_FUEL);
     assert_eq!(numbers(&outcome), (0, 1, 4));
     assert_eq!(
         outcome.nodes,
@@ -451,12 +453,7 @@ fn a_failing_body_gives_back_marks_roots_labels_and_deletions() {
     );
     assert_eq!(outcome.edges, edge_slot(mark::RED, 0, 0, &[]));
     let body = Command::Sequence(vec![apply(0), Command::Fail]);
-    let outcome = run_on(
-        &nodes,
-        &edges,
-        &[&image(&[change], looped(body))],
-        AMPLE_FUEL,
-    );
+    let outcome = run_on(&nodes, &edges, &[&image(&rules, looped(body))], AMPLE_FUEL);
     expect(&outcome, (0, 4, 0), &nodes, &edges, &[]);
 }
 
@@ -552,6 +549,61 @@ fn a_failing_guard_is_undone_before_the_else() {
     }
 }
 
+/// Commands over M on two plain nodes with fuel 50, and their answer, steps and records. Each record stands for
+/// a node that became red.
+fn control_flow() -> Vec<(Command, (u32, u32, u32))> {
+    use Command::{Break, Fail, If, Sequence, Skip, Try};
+    let m = || apply(0);
+    let of = |kind: fn(Box<Command>, Box<Command>, Box<Command>) -> Command, guard, then, other| {
+        kind(boxed(guard), boxed(then), boxed(other))
+    };
+    vec![
+        (Sequence(vec![m(), m()]), (0, 3, 2)),
+        (Sequence(vec![m(), m(), m()]), (1, 4, 0)),
+        (Sequence(vec![Fail, m()]), (1, 2, 0)),
+        (Sequence(vec![m(), Sequence(vec![m()])]), (0, 4, 2)),
+        (looped(m()), (0, 4, 2)),
+        (of(If, m(), m(), Fail), (0, 3, 1)),
+        (of(Try, m(), m(), Fail), (0, 3, 2)),
+        (of(If, m(), Fail, Skip), (1, 3, 0)),
+        (of(Try, m(), Fail, Skip), (1, 3, 0)),
+        (of(If, Fail, Fail, m()), (0, 3, 1)),
+        (of(Try, Fail, Fail, m()), (0, 3, 1)),
+        (of(If, Sequence(vec![m(), Fail]), Skip, m()), (0, 5, 1)),
+        (of(Try, Sequence(vec![m(), Fail]), Skip, m()), (0, 5, 1)),
+        (of(Try, of(If, m(), Skip, Fail), m(), Fail), (0, 5, 1)),
+        (of(If, looped(m()), m(), Fail), (0, 6, 1)),
+        (of(Try, looped(m()), Skip, Fail), (0, 6, 2)),
+        (
+            of(If, looped(Sequence(vec![m(), Break])), Skip, Fail),
+            (0, 6, 0),
+        ),
+        (looped(of(Try, m(), Fail, Skip)), (0, 4, 0)),
+        (looped(of(If, m(), Break, Skip)), (0, 4, 0)),
+        (looped(of(Try, m(), Break, Skip)), (0, 4, 1)),
+        (looped(of(Try, Fail, Skip, Break)), (0, 4, 0)),
+        (looped(of(If, Skip, m(), Skip)), (0, 10, 2)),
+        (looped(Sequence(vec![m(), Break, m()])), (0, 4, 1)),
+        (Sequence(vec![looped(Fail), m()]), (0, 4, 1)),
+        (Sequence(vec![looped(Break), m()]), (0, 4, 1)),
+        (looped(Sequence(vec![looped(Break), m()])), (0, 13, 2)),
+        (looped(Sequence(vec![m(), looped(m()), Fail])), (0, 7, 0)),
+        (looped(looped(Fail)), (2, 50, 0)),
+        (looped(looped(Break)), (2, 50, 0)),
+    ]
+}
+
+#[test]
+fn commands_run_in_document_01s_order() {
+    for (main, expected) in control_flow() {
+        let program = image(&[mark_red()], main.clone());
+        let outcome = run_on(&[PLAIN, PLAIN].concat(), &[], &[&program], 50);
+        assert_eq!(numbers(&outcome), expected, "{main:?}");
+        let red = outcome.nodes.chunks(20).filter(|slot| *slot == RED).count();
+        assert_eq!(red as u32, expected.2, "{main:?}");
+    }
+}
+
 #[test]
 fn the_first_listed_rule_with_a_match_is_applied() {
     let grey_to_blue = rule(
@@ -586,6 +638,72 @@ fn the_first_listed_rule_with_a_match_is_applied() {
         1,
     );
     expect(&outcome, (1, 1, 0), &RED, &[], &[]);
+}
+
+/// Which of the six matching rules hold for left nodes 0 and 1 in slots 0 and 1 and left edge 0 in slot 0.
+/// The left side has a red root x, an unmarked x that is deleted, and a blue edge; the root must have out-degree 1.
+fn rules_that_hold(host: &Host) -> [bool; 6] {
+    let x = Element::Variable(0);
+    let left = (
+        vec![root(mark::RED, &[x]), node(mark::NONE, &[x])],
+        vec![edge(mark::BLUE, 0, 1, &[])],
+    );
+    let rule = rule(left, (vec![root(mark::RED, &[x])], vec![]), 1);
+    let rule = variables(&[VariableType::Int], rule);
+    let rule = tests(&[(false, TestKind::OutDegree(0, 1))], rule);
+    let placement = Placement {
+        nodes: vec![0, 1],
+        edges: vec![0],
+    };
+    let values = vec![Label::of(&[4])];
+    [
+        matching::marks_agree(&rule, host, &placement),
+        matching::root_flags_are_equal(&rule, host, &placement),
+        matching::sources_and_targets_correspond(&rule, host, &placement),
+        matching::labels_agree(&rule, host, &placement) == Some(values.clone()),
+        matching::dangling_condition(&rule, host, &placement),
+        matching::every_test_holds(&rule, host, &placement, &values),
+    ]
+}
+
+#[test]
+fn each_matching_rule_is_broken_by_itself() {
+    let node = |mark, root, atom| {
+        let label = Label::of(&[atom]).unwrap();
+        Some(Node { mark, root, label })
+    };
+    let edge = |mark, source, target| {
+        let label = Label::default();
+        Some(Edge {
+            mark,
+            source,
+            target,
+            label,
+        })
+    };
+    let host = || Host {
+        nodes: vec![
+            node(mark::RED, true, 4),
+            node(mark::NONE, false, 4),
+            node(mark::NONE, false, 4),
+        ],
+        edges: vec![edge(mark::BLUE, 0, 1), None],
+    };
+    assert_eq!(rules_that_hold(&host()), [true; 6]);
+    let edits: [&dyn Fn(&mut Host); 6] = [
+        &|host| host.edges[0] = edge(mark::NONE, 0, 1),
+        &|host| host.nodes[1] = node(mark::NONE, true, 4),
+        &|host| host.edges[0] = edge(mark::BLUE, 0, 2),
+        &|host| host.nodes[1] = node(mark::NONE, false, 5),
+        &|host| host.edges[1] = edge(mark::BLUE, 2, 1),
+        &|host| host.edges[1] = edge(mark::BLUE, 0, 2),
+    ];
+    for (number, edit) in edits.into_iter().enumerate() {
+        let mut edited = host();
+        edit(&mut edited);
+        let expected: [bool; 6] = std::array::from_fn(|other| other != number);
+        assert_eq!(rules_that_hold(&edited), expected, "rule {}", number + 1);
+    }
 }
 
 /// The tables after a rule that marks what it matched: nodes red in left order, edges blue.

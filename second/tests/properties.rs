@@ -2,26 +2,39 @@
 
 mod common;
 
-use common::{reported, Sample};
+use common::{reported, Draft, Sample};
 use second::calls::{run, undo, Exercised, Outcome};
+use second::corpus;
 use second::decode;
 use second::host::Host;
+use second::listing::read_input;
 use second::matching::{self, first_match, Match, Placement};
 use second::random::Random;
 use second::tree::Rule;
 
-const RUNS: u64 = 10_000;
+const DRAFTS: u64 = 10_000;
+const CORPUS_SEED: u64 = 20;
+const CORPUS_IMAGES: u64 = 2_000;
 
+fn drafts() -> impl Iterator<Item = Draft> {
+    (0..DRAFTS).map(Draft::new)
+}
+
+/// The drafts, and the inputs of a corpus that a run takes less than ten thousand steps for.
 fn samples() -> impl Iterator<Item = Sample> {
-    (0..RUNS).map(Sample::new)
+    let corpus = corpus::images(CORPUS_SEED, CORPUS_IMAGES).into_iter();
+    let inputs = corpus.filter_map(|image| read_input(&image));
+    let inputs = inputs.filter(|input| input.fuel < 10_000);
+    let drafts = drafts().map(|draft| draft.sample());
+    drafts.chain(inputs.map(Sample::of_input))
 }
 
 #[test]
 fn the_samples_exercise_what_they_should() {
     let mut exercised = Exercised::default();
     let mut answers = [0; 7];
-    for sample in samples() {
-        answers[sample.counted(&mut exercised).answer as usize] += 1;
+    for draft in drafts() {
+        answers[draft.sample().counted(&mut exercised).answer as usize] += 1;
     }
     assert!(answers.iter().all(|count| *count >= 100), "{answers:?}");
     let it = exercised;
@@ -66,8 +79,8 @@ fn undoing_the_journal_of_a_result_restores_the_tables() {
         );
         let expected = Outcome {
             answer: 0,
-            nodes: sample.nodes(),
-            edges: sample.edges(),
+            nodes: sample.nodes.clone(),
+            edges: sample.edges.clone(),
             journal: vec![0; after.journal.len()],
             report: [[0; 4], records.to_be_bytes()].concat(),
         };
@@ -87,14 +100,19 @@ fn more_room_and_fuel_change_nothing_after_0_1_and_6() {
             continue;
         }
         let random = &mut Random::of_index(3, seed as u64);
-        let mut more = |slot: usize| slot * random.between(0, 9);
-        let (nodes, edges, journal) = (more(20), more(24), more(28));
-        let fuel = sample.fuel + more(1) as u32;
+        let mut more = |bytes: usize, slot: usize, most: usize| {
+            let free = most - bytes / slot;
+            slot * random.between(0, free.min(9))
+        };
+        let nodes = more(sample.nodes.len(), 20, 512);
+        let edges = more(sample.edges.len(), 24, 1024);
+        let journal = more(sample.records * 28, 28, 1024);
+        let fuel = sample.fuel + more(sample.fuel as usize, 1, 1_000_000) as u32;
         let larger = run(
-            &with_zeros(&sample.nodes(), nodes),
-            &with_zeros(&sample.edges(), edges),
+            &with_zeros(&sample.nodes, nodes),
+            &with_zeros(&sample.edges, edges),
             &vec![0xEE; sample.records * 28 + journal],
-            &sample.image(),
+            &sample.image,
             fuel,
             &[0xEE; 8],
         );
@@ -115,6 +133,8 @@ fn less_fuel_than_the_steps_answers_2_and_enough_fuel_changes_nothing() {
         let (steps, _) = reported(&outcome);
         if outcome.answer == 2 {
             assert_eq!(steps, sample.fuel);
+        }
+        if outcome.answer == 2 || outcome.answer > 7 {
             continue;
         }
         assert!(steps <= sample.fuel);
@@ -142,11 +162,11 @@ fn less_fuel_than_the_steps_answers_2_and_enough_fuel_changes_nothing() {
 fn answers_1_to_7_give_back_the_graph_and_a_zero_journal() {
     for sample in samples() {
         let outcome = sample.outcome();
-        if outcome.answer == 0 {
+        if !(1..=7).contains(&outcome.answer) {
             continue;
         }
-        assert_eq!(outcome.nodes, sample.nodes());
-        assert_eq!(outcome.edges, sample.edges());
+        assert_eq!(outcome.nodes, sample.nodes);
+        assert_eq!(outcome.edges, sample.edges);
         assert_eq!(outcome.journal, vec![0; sample.records * 28]);
         assert_eq!(reported(&outcome).1, 0);
     }
@@ -218,14 +238,11 @@ fn full_match(rule: &Rule, host: &Host, placement: Placement) -> Option<Match> {
 #[test]
 fn the_search_finds_the_first_of_all_placements() {
     let (mut found, mut none) = (0, 0);
-    for sample in samples().take(4_000) {
-        for rule in &sample.program.rules {
-            let first = first_match(rule, &sample.host);
-            assert_eq!(
-                first,
-                first_of_all_placements(rule, &sample.host),
-                "{rule:#?}"
-            );
+    for draft in drafts().take(4_000) {
+        for rule in &draft.program.rules {
+            let first = first_match(rule, &draft.host);
+            let expected = first_of_all_placements(rule, &draft.host);
+            assert_eq!(first, expected, "{draft:#?}");
             match first {
                 Some(_) => found += 1,
                 None => none += 1,
@@ -240,8 +257,8 @@ fn the_search_finds_the_first_of_all_placements() {
 
 #[test]
 fn an_image_is_read_back_as_the_tree_it_was_written_from() {
-    for sample in samples() {
-        assert_eq!(decode::program(&sample.image()), Ok(sample.program));
+    for draft in drafts() {
+        assert_eq!(decode::program(&draft.sample().image), Ok(draft.program));
     }
 }
 
@@ -253,17 +270,17 @@ struct Damaged {
 }
 
 fn damaged(seed: u64) -> Damaged {
-    let sample = Sample::new(seed);
+    let sample = Draft::new(seed).sample();
     let random = &mut Random::of_index(7, seed);
     let mut damaged = Damaged {
         given: Outcome {
             answer: 0,
-            nodes: sample.nodes(),
-            edges: sample.edges(),
+            nodes: sample.nodes.clone(),
+            edges: sample.edges.clone(),
             journal: vec![0xEE; sample.records * 28],
             report: vec![0xEE; 8],
         },
-        program: sample.image(),
+        program: sample.image,
         fuel: sample.fuel,
     };
     for _ in 0..random.between(1, 2) {
@@ -300,7 +317,7 @@ fn change_byte(random: &mut Random, bytes: &mut [u8]) {
 #[test]
 fn answers_9_to_18_leave_everything_but_the_report() {
     let mut refused = [0; 19];
-    for seed in 0..RUNS {
+    for seed in 0..DRAFTS {
         let Damaged {
             given,
             program,
@@ -340,7 +357,7 @@ fn answers_9_to_18_leave_everything_but_the_report() {
 
 #[test]
 fn any_bytes_get_an_answer() {
-    for seed in 0..RUNS {
+    for seed in 0..DRAFTS {
         let random = &mut Random::of_index(11, seed);
         let mut bytes = |most: usize| -> Vec<u8> {
             let length = random.below(most + 1);

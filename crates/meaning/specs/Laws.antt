@@ -5,5 +5,6 @@ pub mod Layout
 pub mod Image
 pub mod Search
 pub mod FirstMatch
+pub mod Hindrance
 pub mod Applying
 pub mod Commands

@@ -10,5 +10,6 @@ pub mod FirstMatch
 pub mod Applying
 pub mod Commands
 pub mod Calls
+pub mod Computing
 pub mod ProvedSet
 pub mod Laws

@@ -56,21 +56,34 @@ fn references_of_commands() -> Vec<Images> {
 }
 
 /// The legal rule, and the same with an edit.
-fn edited(name: impl Into<String>, edit: impl Fn(&mut Rule)) -> Images {
-    let image = |rule: Rule| {
-        encode::program(&Program {
-            rules: vec![rule],
-            main: Command::Skip,
-        })
-    };
-    let mut refused = rule();
-    edit(&mut refused);
-    images(name, &image(rule()), &image(refused))
+fn edited(name: impl Into<String>, refused: impl Fn(&mut Rule)) -> Images {
+    neighbours(name, |_| (), refused)
 }
+
+/// The legal rule with an edit that is accepted, and with one that is refused.
+fn neighbours(
+    name: impl Into<String>,
+    accepted: impl Fn(&mut Rule),
+    refused: impl Fn(&mut Rule),
+) -> Images {
+    images(name, &image_with(accepted), &image_with(refused))
+}
+
+fn image_with(edit: impl Fn(&mut Rule)) -> Vec<u8> {
+    let mut rule = rule();
+    edit(&mut rule);
+    encode::program(&Program {
+        rules: vec![rule],
+        main: Command::Skip,
+    })
+}
+
+/// Puts the variable of a number somewhere in a rule.
+type Put = fn(&mut Rule, u8);
 
 /// A place for an element on the right side, or for the first or second operand of a sum, a difference or
 /// a relation test.
-fn places_of_right_side_and_tests() -> Vec<(&'static str, fn(&mut Rule, u8))> {
+fn places_of_right_side_and_tests() -> Vec<(&'static str, Put)> {
     vec![
         ("on a right node", |rule, v| {
             rule.right.nodes[1].label[0] = Element::Variable(v)
@@ -109,22 +122,32 @@ fn places_of_right_side_and_tests() -> Vec<(&'static str, fn(&mut Rule, u8))> {
 }
 
 fn references_to_variables() -> Vec<Images> {
-    let mut list = vec![
-        edited("variable 3 of three on a left node", |rule| {
-            rule.left.nodes[0].label.push(Element::Variable(3));
-        }),
-        edited("variable 255 on a left node", |rule| {
-            rule.left.nodes[1].label.push(Element::Variable(255));
-        }),
-        edited("variable 3 of three on a left edge", |rule| {
-            rule.left.edges[0].label.push(Element::Variable(3));
-        }),
-    ];
+    let on_node: Put = |rule, v| rule.left.nodes[0].label.push(Element::Variable(v));
+    let on_edge: Put = |rule, v| rule.left.edges[0].label.push(Element::Variable(v));
+    let mut list = Vec::new();
+    for number in [3, 255] {
+        for (place, put) in [("node", on_node), ("edge", on_edge)] {
+            let name = format!("variable {number} of three on a left {place}");
+            list.push(neighbours(
+                name,
+                |rule| put(rule, 2),
+                |rule| put(rule, number),
+            ));
+        }
+    }
     for (place, put) in places_of_right_side_and_tests() {
         let undeclared = format!("variable 3 of three {place}");
-        list.push(edited(undeclared, |rule| put(rule, 3)));
+        list.push(neighbours(
+            undeclared,
+            |rule| put(rule, 0),
+            |rule| put(rule, 3),
+        ));
         let not_on_the_left = format!("variable that is not on the left {place}");
-        list.push(edited(not_on_the_left, |rule| put(rule, 2)));
+        list.push(neighbours(
+            not_on_the_left,
+            |rule| put(rule, 0),
+            |rule| put(rule, 2),
+        ));
     }
     list
 }
@@ -156,55 +179,74 @@ fn references_to_nodes() -> Vec<Images> {
         edited("interface larger than the left side", |rule| {
             rule.interface = 3
         }),
-        edited("interface larger than the right side", |rule| {
-            rule.right.nodes.truncate(1);
-            rule.right.edges.clear();
-        }),
+        neighbours(
+            "interface larger than the right side",
+            |rule| keep_right_nodes(rule, 2),
+            |rule| keep_right_nodes(rule, 1),
+        ),
         edited("interface of 255 nodes", |rule| rule.interface = 255),
     ]
 }
 
+fn keep_right_nodes(rule: &mut Rule, count: usize) {
+    rule.right.nodes.truncate(count);
+    rule.right.edges.clear();
+}
+
 fn references_of_left_labels() -> Vec<Images> {
-    let sum = Element::Sum(one(), one());
+    let on_node: PutElement = |rule, element| rule.left.nodes[1].label.push(element);
+    let on_edge: PutElement = |rule, element| rule.left.edges[0].label.push(element);
+    let sum = Element::Sum(one(), Operand::Variable(0));
     let difference = Element::Difference(Operand::Variable(0), one());
-    let list = Element::Variable(1);
-    vec![
-        edited("sum on a left node", |rule| {
-            rule.left.nodes[0].label.push(sum)
-        }),
-        edited("sum on a left edge", |rule| {
-            rule.left.edges[0].label.push(sum)
-        }),
-        edited("difference on a left node", |rule| {
-            rule.left.nodes[1].label.push(difference)
-        }),
-        edited("difference on a left edge", |rule| {
-            rule.left.edges[0].label.push(difference)
-        }),
-        edited("one list variable twice on a left node", |rule| {
-            rule.left.nodes[1].label.push(list)
-        }),
-        edited("one list variable twice on a left edge", |rule| {
-            rule.left.edges[0].label.extend([list, list])
-        }),
-        edited("two list variables on a left node", |rule| {
-            rule.variables[2] = VariableType::List;
-            rule.left.nodes[1].label.push(Element::Variable(2));
-        }),
-        edited("two list variables on a left edge", |rule| {
-            rule.variables[2] = VariableType::List;
-            rule.left.edges[0]
-                .label
-                .extend([list, Element::Variable(2)]);
-        }),
-    ]
+    let mut list = Vec::new();
+    for (place, put) in [("node", on_node), ("edge", on_edge)] {
+        for (words, element) in [("sum", sum), ("difference", difference)] {
+            let name = format!("{words} on a left {place}");
+            let accepted = |rule: &mut Rule| put(rule, Element::Variable(0));
+            list.push(neighbours(name, accepted, |rule| put(rule, element)));
+        }
+    }
+    list.extend(references_of_left_lists());
+    list
+}
+
+/// Puts an element somewhere in a rule.
+type PutElement = fn(&mut Rule, Element);
+
+/// Variable 1 is a list, which stands on left node 1 already; so is variable 2 here.
+fn references_of_left_lists() -> Vec<Images> {
+    let on_node: Put = |rule, v| {
+        rule.variables[2] = VariableType::List;
+        rule.left.nodes[1].label.push(Element::Variable(v));
+    };
+    let on_edge: Put = |rule, v| {
+        rule.variables[2] = VariableType::List;
+        let label = &mut rule.left.edges[0].label;
+        label.extend([Element::Variable(1), Element::Variable(v)]);
+    };
+    let mut list = Vec::new();
+    for (place, put) in [("node", on_node), ("edge", on_edge)] {
+        for (words, number) in [("one list variable twice", 1), ("two list variables", 2)] {
+            let name = format!("{words} on a left {place}");
+            list.push(neighbours(
+                name,
+                |rule| put(rule, 0),
+                |rule| put(rule, number),
+            ));
+        }
+    }
+    list
 }
 
 fn references_of_operands() -> Vec<Images> {
-    let operands = places_of_right_side_and_tests().into_iter();
+    let places = places_of_right_side_and_tests().into_iter();
+    let operands =
+        places.filter(|(place, _)| place.starts_with("first") || place.starts_with("second"));
     operands
-        .filter(|(place, _)| place.starts_with("first") || place.starts_with("second"))
-        .map(|(place, put)| edited(format!("list variable {place}"), |rule| put(rule, 1)))
+        .map(|(place, put)| {
+            let name = format!("list variable {place}");
+            neighbours(name, |rule| put(rule, 0), |rule| put(rule, 1))
+        })
         .collect()
 }
 

@@ -60,7 +60,12 @@ pub fn write_bytes(file: &str, bytes: &[u8]) -> Result<(), String> {
     } else {
         write_file(Path::new(file), bytes)
     };
-    written.map_err(|error| format!("{}: can't be written: {error}", name(file, "standard output")))
+    written.map_err(|error| {
+        format!(
+            "{}: can't be written: {error}",
+            name(file, "standard output")
+        )
+    })
 }
 
 fn write_output(bytes: &[u8]) -> io::Result<()> {

@@ -1,11 +1,12 @@
 //! Reading an image of either kind, with the place and the reason where it can't be read.
 
+use super::offsets::{offset_of_command, offset_of_rule};
 use crate::calls::{answer, MOST_FUEL};
-use crate::encode::{self, RunnerInput};
+use crate::encode::RunnerInput;
 use crate::host::{limit, Host};
 use crate::listing::INPUT_BYTES;
-use crate::tree::{self, Command, Program, Rule};
-use crate::{decode, references};
+use crate::tree::{self, Command, Program};
+use crate::{decode, placement, references};
 use std::fmt;
 
 /// Where reading an image stopped, and why.
@@ -239,7 +240,7 @@ fn check_references(program: &Program, start: usize) -> Result<(), Fault> {
         .iter()
         .position(|rule| references::check_rule(rule).is_err());
     if let Some(number) = broken {
-        let at = start + rules_length(&program.rules[..number]);
+        let at = start + offset_of_rule(program, number);
         return Err(fault(at, "references", reason, answer::REFERENCES));
     }
     let rules = program.rules.len();
@@ -247,57 +248,18 @@ fn check_references(program: &Program, start: usize) -> Result<(), Fault> {
         Command::RuleSet(numbers) => numbers.iter().any(|number| usize::from(*number) >= rules),
         _ => false,
     };
-    let at = start + main_offset_of(program, &names_too_much);
+    let at = start + offset_of_command(program, &names_too_much);
     Err(fault(at, "references", reason, answer::REFERENCES))
 }
 
 fn check_placement(program: &Program, start: usize) -> Result<(), Fault> {
-    if crate::placement::check(program) {
+    if placement::check(program) {
         return Ok(());
     }
     let at = start
-        + main_offset_of(program, &|command, in_body| {
+        + offset_of_command(program, &|command, in_body| {
             *command == Command::Break && !in_body
         });
     let expected = "expected a loop around the break with no guard of if or try between";
     Err(fault(at, "placement", expected, answer::PLACEMENT))
-}
-
-fn rules_length(rules: &[Rule]) -> usize {
-    rules.iter().map(|rule| encode::rule(rule).len()).sum()
-}
-
-/// The offset of the first command that is wrong, or of the main command.
-fn main_offset_of(program: &Program, wrong: &dyn Fn(&Command, bool) -> bool) -> usize {
-    let start = rules_length(&program.rules);
-    offset_of(&program.main, start, false, wrong).unwrap_or(start)
-}
-
-/// The offset of the first wrong command; `in_body` says whether a break may stand at the command.
-fn offset_of(
-    command: &Command,
-    at: usize,
-    in_body: bool,
-    wrong: &dyn Fn(&Command, bool) -> bool,
-) -> Option<usize> {
-    const HEAD: usize = 3;
-    if wrong(command, in_body) {
-        return Some(at);
-    }
-    let parts: Vec<(&Command, bool)> = match command {
-        Command::Sequence(parts) => parts.iter().map(|part| (part, in_body)).collect(),
-        Command::If(guard, then, other) | Command::Try(guard, then, other) => {
-            vec![(guard, false), (then, in_body), (other, in_body)]
-        }
-        Command::Loop(body) => vec![(body, true)],
-        _ => Vec::new(),
-    };
-    let mut at = at + HEAD;
-    for (part, in_body) in parts {
-        if let Some(found) = offset_of(part, at, in_body, wrong) {
-            return Some(found);
-        }
-        at += encode::command(part).len();
-    }
-    None
 }

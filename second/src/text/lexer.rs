@@ -118,7 +118,7 @@ impl<'a> Reader<'a> {
             }
             None => Err(Problem::new(
                 self.place,
-                format!("the character {first:?} has no use in the notation"),
+                format!("the character {first:?} has no use in the notation, expected another"),
             )),
         }
     }

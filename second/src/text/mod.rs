@@ -1,11 +1,12 @@
 //! The text tools: the notation of GP 2 programs and host graphs, read and written.
 //!
 //! A text is cut into tokens (`lexer`), read as it is written (`parse_*` into `syntax`), and put in terms of
-//! the image (`scopes`, `lower_*`, `variables`, `host_graph`). The other way, `image` reads bytes and
+//! the image (`scopes`, `lower_*`, `variables`, `bidirectional`, `host_graph`). The other way, `image` reads bytes and
 //! `print_*` and `dot` write text.
 
 mod arguments;
 mod assemble;
+mod bidirectional;
 mod complaint;
 mod cursor;
 mod dot;
@@ -16,6 +17,7 @@ mod lexer;
 mod lower_commands;
 mod lower_rules;
 mod lower_tests;
+mod offsets;
 mod parse_commands;
 mod parse_conditions;
 mod parse_host;

@@ -42,7 +42,7 @@ fn command(cursor: &mut Cursor) -> Result<CommandText, Problem> {
 
 fn if_command(cursor: &mut Cursor) -> Result<CommandText, Problem> {
     let place = cursor.place();
-    cursor.expect_word("if", "")?;
+    cursor.advance();
     let guard = block(cursor)?;
     cursor.expect_word("then", "behind the guard of `if`")?;
     let then = command(cursor)?;
@@ -55,7 +55,7 @@ fn if_command(cursor: &mut Cursor) -> Result<CommandText, Problem> {
 
 fn try_command(cursor: &mut Cursor) -> Result<CommandText, Problem> {
     let place = cursor.place();
-    cursor.expect_word("try", "")?;
+    cursor.advance();
     let guard = block(cursor)?;
     let then = branch(cursor, "then")?;
     let otherwise = branch(cursor, "else")?;
@@ -122,7 +122,7 @@ fn simple_command(cursor: &mut Cursor) -> Result<CommandText, Problem> {
 /// `(P; Q)`, and `(P;)` for a sequence of one command.
 fn parenthesised(cursor: &mut Cursor) -> Result<CommandText, Problem> {
     let place = cursor.place();
-    cursor.expect_symbol("(", "")?;
+    cursor.advance();
     let mut commands = commands(cursor)?;
     let is_sequence = cursor.take_symbol(";") || commands.len() > 1;
     cursor.expect_symbol(
@@ -138,7 +138,7 @@ fn parenthesised(cursor: &mut Cursor) -> Result<CommandText, Problem> {
 
 fn rule_set(cursor: &mut Cursor) -> Result<CommandText, Problem> {
     let place = cursor.place();
-    cursor.expect_symbol("{", "")?;
+    cursor.advance();
     let mut names = Vec::new();
     if !cursor.take_symbol("}") {
         names.push(cursor.expect_name("a rule's name")?);

@@ -72,7 +72,7 @@ fn continues_an_expression(token: &Token) -> bool {
 
 fn edge(cursor: &mut Cursor) -> Result<ConditionText, Problem> {
     let place = cursor.place();
-    cursor.expect_word("edge", "")?;
+    cursor.advance();
     cursor.expect_symbol("(", "behind `edge`")?;
     let source = cursor.expect_identifier("a node")?;
     cursor.expect_symbol(",", "and a second node")?;

@@ -23,7 +23,7 @@ pub fn at_host_section(cursor: &Cursor) -> bool {
 /// `host fuel 10 records 8 nodes 2 edges 1 [ .. | .. ]`, the last part of a program text.
 pub fn host_section(cursor: &mut Cursor) -> Result<HostText, Problem> {
     let place = cursor.place();
-    cursor.expect_word("host", "")?;
+    cursor.advance();
     let mut numbers = Vec::new();
     while matches!(cursor.peek(), Token::Word(_)) {
         numbers.push(host_number(cursor)?);

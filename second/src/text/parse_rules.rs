@@ -73,9 +73,14 @@ fn checked_name(name: Name, kind: &str) -> Result<Name, Problem> {
         );
         return Err(Problem::new(name.place, message));
     }
-    if !name.text.starts_with(|first: char| first.is_ascii_alphabetic()) {
-        let message =
-            format!("`{}` as a {kind}, expected a name that starts with a letter", name.text);
+    if !name
+        .text
+        .starts_with(|first: char| first.is_ascii_alphabetic())
+    {
+        let message = format!(
+            "`{}` as a {kind}, expected a name that starts with a letter",
+            name.text
+        );
         return Err(Problem::new(name.place, message));
     }
     Ok(name)

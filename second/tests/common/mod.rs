@@ -1,7 +1,7 @@
 //! Small random runs: a host, rules sampled from it so that they tend to match, and a command tree.
 
 use second::calls::{run_counted, Exercised, Outcome};
-use second::encode;
+use second::encode::{self, RunnerInput};
 use second::host::{Edge, Host, Label, Node};
 use second::random::Random;
 use second::tree::*;
@@ -9,14 +9,53 @@ use second::tree::*;
 /// What a run is given, but for the report and the journal's bytes.
 #[derive(Clone, Debug)]
 pub struct Sample {
+    pub nodes: Vec<u8>,
+    pub edges: Vec<u8>,
+    pub image: Vec<u8>,
+    pub fuel: u32,
+    pub records: usize,
+}
+
+impl Sample {
+    pub fn of_input(input: RunnerInput) -> Sample {
+        Sample {
+            nodes: input.nodes,
+            edges: input.edges,
+            image: input.program,
+            fuel: input.fuel,
+            records: input.records.into(),
+        }
+    }
+
+    /// The outcome of a run whose journal and report hold something beforehand.
+    pub fn outcome(&self) -> Outcome {
+        self.counted(&mut Exercised::default())
+    }
+
+    pub fn counted(&self, exercised: &mut Exercised) -> Outcome {
+        run_counted(
+            &self.nodes,
+            &self.edges,
+            &vec![0xEE; self.records * 28],
+            &self.image,
+            self.fuel,
+            &[0xEE; 8],
+            exercised,
+        )
+    }
+}
+
+/// A sample before it is written as bytes.
+#[derive(Clone, Debug)]
+pub struct Draft {
     pub host: Host,
     pub program: Program,
     pub fuel: u32,
     pub records: usize,
 }
 
-impl Sample {
-    pub fn new(seed: u64) -> Sample {
+impl Draft {
+    pub fn new(seed: u64) -> Draft {
         let random = &mut Random::of_index(0x5EC0, seed);
         let host = host(random);
         let rules: Vec<Rule> = (0..random.between(1, 4))
@@ -27,7 +66,7 @@ impl Sample {
             0 => random.between(0, 6),
             _ => random.between(7, 80),
         };
-        Sample {
+        Draft {
             host,
             program: Program { rules, main },
             fuel: fuel as u32,
@@ -35,32 +74,14 @@ impl Sample {
         }
     }
 
-    pub fn nodes(&self) -> Vec<u8> {
-        self.host.node_table()
-    }
-
-    pub fn edges(&self) -> Vec<u8> {
-        self.host.edge_table()
-    }
-
-    pub fn image(&self) -> Vec<u8> {
-        encode::program(&self.program)
-    }
-
-    pub fn outcome(&self) -> Outcome {
-        self.counted(&mut Exercised::default())
-    }
-
-    pub fn counted(&self, exercised: &mut Exercised) -> Outcome {
-        run_counted(
-            &self.nodes(),
-            &self.edges(),
-            &vec![0xEE; self.records * 28],
-            &self.image(),
-            self.fuel,
-            &[0xEE; 8],
-            exercised,
-        )
+    pub fn sample(&self) -> Sample {
+        Sample {
+            nodes: self.host.node_table(),
+            edges: self.host.edge_table(),
+            image: encode::program(&self.program),
+            fuel: self.fuel,
+            records: self.records,
+        }
     }
 }
 

@@ -17,7 +17,7 @@ use Rattle.meaning.specs.FirstMatch.{assigned}
 use Rattle.meaning.specs.Applying.{rightNode, rightNodes, rightEdge, Right, rightSide, Ledger, standing, store, stores, lowestFree, freeSlots, edgesGo, nodesChange, Added, addNodes, between, addEdges, changed, newNodes, goneNodes, recordsOf, hindrance, onFreeNode, Applied, applied, hindered, tested, unhindered, apply}
 use Rattle.meaning.specs.Laws.Tests.{some-inj, bind-some, each-some}
 use Rattle.meaning.specs.declared.Stop.{Stop}
-use Rattle.meaning.specs.declared.Stop.the-variants.{NoNodeRoom, NoEdgeRoom, NoRecordRoom, LabelTooLarge, EdgeOnFreeNode}
+use Rattle.meaning.specs.declared.Stop.the-variants.{OutOfFuel, NoNodeRoom, NoEdgeRoom, NoRecordRoom, LabelTooLarge, EdgeOnFreeNode}
 
 -- The lowest free slot.
 
@@ -303,3 +303,38 @@ apply-records most room r p g g′ size a =
 pub apply-room : (most room : ℕ) (r : Rule) (p : List ℕ) (g g′ : Ledger) → length p ≡ leftNodes r + leftEdges r
     → Applies most room r p g g′ → length (g′ .journal) ≤ room
 apply-room most room r p g g′ size a = let e = apply-records most room r p g g′ size a in omega (arith, a .recordRoom)
+
+-- Where it was not applied, the reason is not a want of fuel.
+
+checks-some : (a b c d : Bool) (w : Stop)
+    → firstFailing ((a, LabelTooLarge) ∷ (b, NoNodeRoom) ∷ (c, NoEdgeRoom) ∷ (d, NoRecordRoom) ∷ []) ≡ some w
+    → w ≡ OutOfFuel → ⊥
+unfolding firstFailing choose
+checks-some false b c d w e q = let z : _≡_ {A = ℕ} 0 1 = cc in omega arith
+checks-some true false c d w e q = let z : _≡_ {A = ℕ} 0 1 = cc in omega arith
+checks-some true true false d w e q = let z : _≡_ {A = ℕ} 0 1 = cc in omega arith
+checks-some true true true false w e q = let z : _≡_ {A = ℕ} 0 1 = cc in omega arith
+checks-some true true true true w e q = let z : _≡_ {A = ℕ} 0 1 = cc in omega arith
+
+hindrance-some : (most room : ℕ) (r : Rule) (p : List ℕ) (g : Ledger) (w : Stop) → hindrance most room r p g ≡ some w
+    → w ≡ OutOfFuel → ⊥
+unfolding hindrance
+hindrance-some most room r p g w e q = checks-some _ _ _ _ w e q
+
+tested-hindered : (g : Ledger) (w : Stop) → tested g ≡ hindered w → w ≡ OutOfFuel → ⊥
+unfolding tested choose
+tested-hindered g w e q = at (any (onFreeNode (g .host)) (length (g .host .edges))) e
+  where
+    at : (b : Bool) → choose b (hindered EdgeOnFreeNode) (applied g) ≡ hindered w → ⊥
+    at true e = let z : _≡_ {A = ℕ} 0 1 = cc in omega arith
+    at false e = let z : _≡_ {A = ℕ} 0 1 = cc in omega arith
+
+pub apply-hindered : (most room : ℕ) (r : Rule) (p : List ℕ) (g : Ledger) (w : Stop) → apply most room r p g ≡ hindered w
+    → w ≡ OutOfFuel → ⊥
+unfolding apply unhindered
+apply-hindered most room r p g w e q = at (hindrance most room r p g) (rightSide most (g .host) r p) refl e
+  where
+    at : (v : Option Stop) (o : Option Right) → hindrance most room r p g ≡ v → unhindered v o r p g ≡ hindered w → ⊥
+    at (some v) o h e = hindrance-some most room r p g v h (cc)
+    at none none h e = let z : _≡_ {A = ℕ} 0 1 = cc in omega arith
+    at none (some right) h e = tested-hindered _ w e q

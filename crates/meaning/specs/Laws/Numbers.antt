@@ -4,7 +4,7 @@ use Prim.Native.Nat.{ℕ, zero, suc, _+_, _-_, _*_, _/_, _%_, _^_, _<_, _≤_}
 use mathlib.Core.Path.{_≡_, refl, sym, _∙_, ap}
 use mathlib.Core.List.{List, [], _∷_, _++_}
 use mathlib.Core.Option.{Option, some}
-use native.Mathlib.Nat.{mod-one, mod-eq-of-lt, pow-succ', one-le-pow, mul-add-div-right, mul-add-mod-self-right, mul-assoc}
+use native.Mathlib.Nat.{mod-one, mod-eq-of-lt, pow-succ', one-le-pow, mul-add-div-right, mul-add-mod-self-right, mul-assoc, pow-le-pow-right, lt-of-lt-of-le}
 use mathlib.Core.Logic.{_↔_}
 use native.Mathlib.Omega.{arith}
 use native.Mathlib.Decide.{decLt, ℕ-discrete}
@@ -13,8 +13,8 @@ use lib.Dec.{ltb, leb}
 use lib.IntN.{ℤ, pos, negsuc, subℕ, negℤ, _+ℤ_, _-ℤ_}
 use lib.Signed.{ltZ}
 use lib.Arith.{mod-mul, digits-lt, digits-div}
-use lib.ListN.{length, getD, take, drop}
-use lib.Seq.{getD-drop}
+use lib.ListN.{length, getD, take, drop, length-take}
+use lib.Seq.{getD-drop, length-take-le}
 use Rattle.meaning.specs.Basics.{choose, both, ensure, _>>_}
 use Rattle.meaning.specs.Numbers.{number, bytes, half, whole, height, less, sum, difference}
 use Rattle.meaning.specs.Laws.Tests.{choose-lt, choose-le, both-true, both-of, ensure-some, ensure-yes, some-inj}
@@ -58,6 +58,11 @@ unfolding number
 number-lt [] h = omega arith
 number-lt (b ∷ bs) h = rw (pow-succ' 256 (length bs)) (digits-lt (h 0) (number-lt bs (λ i. h (suc i))))
 
+pub number-take-lt : (w : ℕ) (bs : List ℕ) → Bytes bs → number (take w bs) < 256 ^ w
+number-take-lt w bs h =
+    let l : length (take w bs) ≤ w = rw length-take (omega arith) in
+    lt-of-lt-of-le (number-lt (take w bs) (Bytes-take w bs h)) (pow-le-pow-right (omega arith) l)
+
 -- the w bytes of a number write its remainder by 256 ^ w
 pub number-bytes-mod : (w n : ℕ) → number (bytes w n) ≡ n % 256 ^ w
 unfolding number bytes
@@ -80,6 +85,11 @@ unfolding number bytes
 bytes-number [] h = refl
 bytes-number (b ∷ bs) h =
     rw (bytes-add (length bs) b (number bs), digits-div b (number-lt bs (λ i. h (suc i))), mod-eq-of-lt (h 0), bytes-number bs (λ i. h (suc i)))
+
+-- w bytes are those of the number that they write
+pub bytes-number-take : (w : ℕ) (bs : List ℕ) → Bytes bs → w ≤ length bs → bytes w (number (take w bs)) ≡ take w bs
+bytes-number-take w bs h l =
+    ap (λ (n : ℕ). bytes n (number (take w bs))) (sym (length-take-le w bs l)) ∙ bytes-number (take w bs) (Bytes-take w bs h)
 
 -- Words, by their heights.
 

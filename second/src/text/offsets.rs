@@ -1,0 +1,48 @@
+//! Where rules and commands of a program stand in its image.
+
+use crate::encode;
+use crate::tree::{Command, Program};
+
+/// The bytes of a field before its payload.
+const HEAD: usize = 3;
+
+/// Asks whether a command is the wanted one; the flag says whether a break may stand there.
+pub type Wanted<'a> = &'a dyn Fn(&Command, bool) -> bool;
+
+/// The offset of a rule, or of the main command for the number behind the last rule's.
+pub fn offset_of_rule(program: &Program, number: usize) -> usize {
+    let before = &program.rules[..number];
+    before.iter().map(|rule| encode::rule(rule).len()).sum()
+}
+
+/// The offset of the first command that is wanted, or of the main command.
+pub fn offset_of_command(program: &Program, wanted: Wanted) -> usize {
+    let start = offset_of_rule(program, program.rules.len());
+    find(&program.main, start, false, wanted).unwrap_or(start)
+}
+
+fn find(command: &Command, at: usize, in_body: bool, wanted: Wanted) -> Option<usize> {
+    if wanted(command, in_body) {
+        return Some(at);
+    }
+    let mut at = at + HEAD;
+    for (part, in_body) in parts(command, in_body) {
+        if let Some(found) = find(part, at, in_body, wanted) {
+            return Some(found);
+        }
+        at += encode::command(part).len();
+    }
+    None
+}
+
+/// The commands inside of a command, each with whether a break may stand there.
+fn parts(command: &Command, in_body: bool) -> Vec<(&Command, bool)> {
+    match command {
+        Command::Sequence(parts) => parts.iter().map(|part| (part, in_body)).collect(),
+        Command::If(guard, then, other) | Command::Try(guard, then, other) => {
+            vec![(guard, false), (then, in_body), (other, in_body)]
+        }
+        Command::Loop(body) => vec![(body, true)],
+        _ => Vec::new(),
+    }
+}

@@ -1,0 +1,76 @@
+//! Short ways to assemble a text and to build what it should give.
+
+use second::text::assemble_program;
+use second::tree::*;
+
+/// Declarations of rules a, b and c, which do nothing, so that commands have something to call.
+pub const THREE_RULES: &str = "
+a() [ | ] => [ | ] interface = {}
+b() [ | ] => [ | ] interface = {}
+c() [ | ] => [ | ] interface = {}
+";
+
+pub fn program(source: &str) -> Program {
+    assemble_program("test", source).unwrap_or_else(|complaint| panic!("{complaint}\n{source}"))
+}
+
+/// The one rule of a program whose text is this rule.
+pub fn rule(text: &str) -> Rule {
+    let mut rules = rules(text);
+    assert_eq!(rules.len(), 1);
+    rules.remove(0)
+}
+
+pub fn rules(text: &str) -> Vec<Rule> {
+    program(&format!("Main = skip\n{text}")).rules
+}
+
+/// The main command of a text, beside which the rules a, b and c are 0, 1 and 2.
+pub fn main_command(text: &str) -> Command {
+    program(&format!("{text}\n{THREE_RULES}")).main
+}
+
+pub fn call(number: u8) -> Command {
+    Command::RuleSet(vec![number])
+}
+
+pub fn sequence(parts: &[Command]) -> Command {
+    Command::Sequence(parts.to_vec())
+}
+
+pub fn looped(body: Command) -> Command {
+    Command::Loop(Box::new(body))
+}
+
+pub fn if_command(guard: Command, then: Command, otherwise: Command) -> Command {
+    Command::If(Box::new(guard), Box::new(then), Box::new(otherwise))
+}
+
+pub fn try_command(guard: Command, then: Command, otherwise: Command) -> Command {
+    Command::Try(Box::new(guard), Box::new(then), Box::new(otherwise))
+}
+
+pub fn node(mark: u8, root: bool, label: &[Element]) -> RuleNode {
+    RuleNode {
+        mark,
+        root,
+        label: label.to_vec(),
+    }
+}
+
+pub fn edge(mark: u8, source: u8, target: u8, label: &[Element]) -> RuleEdge {
+    RuleEdge {
+        mark,
+        source,
+        target,
+        label: label.to_vec(),
+    }
+}
+
+/// The place and message of the refusal of a program, as `LINE:COLUMN: message`.
+pub fn refusal(source: &str) -> String {
+    match assemble_program("test", source) {
+        Ok(_) => panic!("not refused:\n{source}"),
+        Err(complaint) => complaint.to_string()["test:".len()..].to_string(),
+    }
+}
