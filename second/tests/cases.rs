@@ -1,6 +1,9 @@
 //! The cases of document 01, from bytes to bytes, and the points that it warns of. Images of the cases are
 //! written out byte by byte; expected values are document 01's.
 
+use std::io::Write;
+use std::process::Stdio;
+
 use second::calls::{run, undo, Outcome};
 use second::encode::{self, edge_slot, node_slot, RunnerInput};
 use second::host::{Edge, Host, Label, Node};
@@ -267,20 +270,40 @@ fn case_p() {
     assert_eq!(outcome.journal, journal);
 }
 
-#[test]
-fn listing_of_case_p() {
-    let input = encode::runner_input(&RunnerInput {
+fn input_of_case_p() -> Vec<u8> {
+    encode::runner_input(&RunnerInput {
         nodes: [node_slot(4, false, &[5]), node_slot(4, false, &[7])].concat(),
         edges: edge_slot(0, 0, 1, &[]).to_vec(),
         records: 8,
         fuel: 10,
         program: [&P[..], &field(0x54, &[&RULE_0])].concat(),
-    });
-    let text = "answer 0 steps 3 records 4\n\
-                node 0 red plain 5\n\
-                node 1 blue plain 12\n\
-                edge 0 1 0 none\n";
-    assert_eq!(listing(&input), text);
+    })
+}
+
+const LISTING_OF_CASE_P: &str = "answer 0 steps 3 records 4\n\
+                                 node 0 red plain 5\n\
+                                 node 1 blue plain 12\n\
+                                 edge 0 1 0 none\n";
+
+#[test]
+fn listing_of_case_p() {
+    assert_eq!(listing(&input_of_case_p()), LISTING_OF_CASE_P);
+}
+
+#[test]
+fn the_program_prints_the_listing_of_case_p() {
+    let mut program = std::process::Command::new(env!("CARGO_BIN_EXE_second"))
+        .args(["run", "-"])
+        .stdin(Stdio::piped())
+        .stdout(Stdio::piped())
+        .spawn()
+        .expect("the program starts");
+    let mut input = program.stdin.take().expect("its standard input");
+    input.write_all(&input_of_case_p()).expect("it reads");
+    drop(input);
+    let output = program.wait_with_output().expect("it ends");
+    assert!(output.status.success());
+    assert_eq!(output.stdout, LISTING_OF_CASE_P.as_bytes());
 }
 
 #[test]

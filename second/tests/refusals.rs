@@ -2,6 +2,7 @@
 //! leaves untouched, and its report. The inputs are those of `second::refusals`.
 
 use std::collections::HashSet;
+use std::process::{Command, Output, Stdio};
 
 use second::calls::Outcome;
 use second::decode;
@@ -214,4 +215,37 @@ fn the_runner_lists_the_number_of_a_refused_call() {
             "{name}"
         );
     }
+}
+
+/// What the program prints with these arguments and nothing on standard input.
+fn program(arguments: &[&str]) -> Output {
+    let mut program = Command::new(env!("CARGO_BIN_EXE_second"));
+    program.args(arguments).stdin(Stdio::null());
+    program.output().expect("the program starts")
+}
+
+#[test]
+fn the_program_says_what_it_cant_do_and_prints_nothing_else() {
+    let uses: [(&[&str], &str); 6] = [
+        (&[], "usage: second run IMAGE|-"),
+        (&["walk", "-"], "usage: second run IMAGE|-"),
+        (&["run"], "usage: second run IMAGE|-"),
+        (&["run", "-", "-"], "usage: second run IMAGE|-"),
+        (&["run", "no/such/image"], "no/such/image can't be read"),
+        (&["corpus", "--seed"], "usage: second corpus"),
+    ];
+    for (arguments, message) in uses {
+        let output = program(arguments);
+        let error = String::from_utf8(output.stderr).expect("a message");
+        assert!(error.contains(message), "{arguments:?}: {error}");
+        assert!(!output.status.success(), "{arguments:?}");
+        assert!(output.stdout.is_empty(), "{arguments:?}");
+    }
+}
+
+#[test]
+fn the_program_lists_a_refused_input() {
+    let output = program(&["run", "-"]);
+    assert!(output.status.success());
+    assert_eq!(output.stdout, b"input refused\n");
 }

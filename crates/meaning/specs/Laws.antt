@@ -6,5 +6,11 @@ pub mod Image
 pub mod Search
 pub mod FirstMatch
 pub mod Hindrance
+pub mod Slots
 pub mod Applying
+pub mod Room
+pub mod Restoring
 pub mod Commands
+pub mod Fuel
+pub mod Allowance
+pub mod Shortage
