@@ -4,6 +4,13 @@ pub mod Numbers
 pub mod Layout
 pub mod Image
 pub mod Search
+pub mod Every
+pub mod References
+pub mod Counting
+pub mod Labels
+pub mod Assignment
+pub mod Decided
+pub mod Levels
 pub mod FirstMatch
 pub mod Hindrance
 pub mod Slots
