@@ -1,7 +1,10 @@
 -- Laws of the definitions, one file a topic: what callers and proofs use instead of unfolding a definition.
 pub mod Tests
 pub mod Numbers
+pub mod Pieces
 pub mod Layout
+pub mod Hosts
+pub mod Records
 pub mod Image
 pub mod Search
 pub mod Every

@@ -3,7 +3,7 @@
 use Prim.Native.Nat.{ℕ, zero, suc, _+_, _-_, _*_, _/_, _%_, _^_, _<_, _≤_}
 use mathlib.Core.Path.{_≡_, refl, sym, _∙_, ap}
 use mathlib.Core.List.{List, [], _∷_, _++_}
-use mathlib.Core.Option.{Option, some}
+use mathlib.Core.Option.{Option, some, none}
 use native.Mathlib.Nat.{mod-one, mod-eq-of-lt, pow-succ', one-le-pow, mul-add-div-right, mul-add-mod-self-right, mul-assoc, pow-le-pow-right, lt-of-lt-of-le}
 use mathlib.Core.Logic.{_↔_}
 use native.Mathlib.Omega.{arith}
@@ -13,8 +13,8 @@ use lib.Dec.{ltb, leb}
 use lib.IntN.{ℤ, pos, negsuc, subℕ, negℤ, _+ℤ_, _-ℤ_}
 use lib.Signed.{ltZ}
 use lib.Arith.{mod-mul, digits-lt, digits-div}
-use lib.ListN.{length, getD, take, drop, length-take}
-use lib.Seq.{getD-drop, length-take-le}
+use lib.ListN.{length, getD, take, drop, length-take, length-drop}
+use lib.Seq.{getD-drop, drop-cons, length-take-le}
 use Rattle.meaning.specs.Basics.{choose, both, ensure, _>>_}
 use Rattle.meaning.specs.Numbers.{number, bytes, half, whole, height, less, sum, difference}
 use Rattle.meaning.specs.Laws.Tests.{choose-lt, choose-le, both-true, both-of, ensure-some, ensure-yes, some-inj}
@@ -63,6 +63,14 @@ number-take-lt w bs h =
     let l : length (take w bs) ≤ w = rw length-take (omega arith) in
     lt-of-lt-of-le (number-lt (take w bs) (Bytes-take w bs h)) (pow-le-pow-right (omega arith) l)
 
+-- one byte more, from place p on
+pub number-at : (k p : ℕ) (bs : List ℕ) → p + suc k ≤ length bs
+    → number (take (suc k) (drop p bs)) ≡ getD bs p 0 * 256 ^ k + number (take k (drop (suc p) bs))
+unfolding number
+number-at k p bs h =
+    let l : k ≤ length (drop (suc p) bs) = rw length-drop (omega arith) in
+    rw (drop-cons bs p 0 (omega arith), length-take-le k (drop (suc p) bs) l)
+
 -- the w bytes of a number write its remainder by 256 ^ w
 pub number-bytes-mod : (w n : ℕ) → number (bytes w n) ≡ n % 256 ^ w
 unfolding number bytes
@@ -78,13 +86,20 @@ pub bytes-add : (w k n : ℕ) → bytes w (k * 256 ^ w + n) ≡ bytes w n
 unfolding bytes
 bytes-add zero k n = refl
 bytes-add (suc w) k n =
-    rw (pow-succ' 256 w, ← (mul-assoc k 256 (256 ^ w)), mul-add-div-right (pow-pos w) (k * 256) n, mul-add-mod-self-right k 256 (n / 256 ^ w), bytes-add w (k * 256) n)
+    rw (
+      pow-succ' 256 w,
+      ← (mul-assoc k 256 (256 ^ w)),
+      mul-add-div-right (pow-pos w) (k * 256) n,
+      mul-add-mod-self-right k 256 (n / 256 ^ w),
+      bytes-add w (k * 256) n,
+    )
 
 pub bytes-number : (bs : List ℕ) → Bytes bs → bytes (length bs) (number bs) ≡ bs
 unfolding number bytes
 bytes-number [] h = refl
 bytes-number (b ∷ bs) h =
-    rw (bytes-add (length bs) b (number bs), digits-div b (number-lt bs (λ i. h (suc i))), mod-eq-of-lt (h 0), bytes-number bs (λ i. h (suc i)))
+    let k : Bytes bs = λ i. h (suc i) in
+    rw (bytes-add (length bs) b (number bs), digits-div b (number-lt bs k), mod-eq-of-lt (h 0), bytes-number bs k)
 
 -- w bytes are those of the number that they write
 pub bytes-number-take : (w : ℕ) (bs : List ℕ) → Bytes bs → w ≤ length bs → bytes w (number (take w bs)) ≡ take w bs
@@ -228,13 +243,18 @@ value-height w h = at (decLt w half)
     at (no k) =
         choose-le w half (pos w) (subℕ w whole) (omega arith) ∙ subℕ-of w whole (height w) half (omega arith)
 
+-- an optional word is none exactly where no word is its value
+none-iff : (o : Option ℕ) (P : ℕ → Type 0) → ((c : ℕ) → (o ≡ some c) ↔ P c) → (o ≡ none) ↔ ((c : ℕ) → P c → ⊥)
+none-iff none P h = (λ e c p. let q = h c .1 p in let z : _≡_ {A = ℕ} 0 1 = cc in omega arith, λ f. refl)
+none-iff (some c) P h = (λ e. let z : _≡_ {A = ℕ} 0 1 = cc in absurd (omega arith), λ f. absurd (f c (h c .0 refl)))
+
 module _ (a b : ℕ) (ha : a < whole) (hb : b < whole) where
   -- a word is less exactly where its value is
   pub less-value : less a b ≡ ltZ (value a) (value b)
   unfolding less
   less-value = rw (value-height a ha, value-height b hb) (sym (subℕ-less (height a) (height b) half))
 
-  -- the sum is c exactly where the values of words a and b add up to the value of c; so there is none where no word has that value
+  -- the sum is c exactly where the values of words a and b add up to the value of word c; there is none where no word has that value
   pub sum-value : (c : ℕ) → c < whole → (sum a b ≡ some c) ↔ (value a +ℤ value b ≡ value c)
   sum-value c hc = (
     λ e. let h = sum-some a b c e .1 in
@@ -246,6 +266,11 @@ module _ (a b : ℕ) (ha : a < whole) (hb : b < whole) where
       values : value a +ℤ value b ≡ subℕ (height a + height b) (half + half)
       values = rw (value-height a ha, value-height b hb) (subℕ-add (height a) half (height b) half)
 
+  pub sum-none : (sum a b ≡ none) ↔ ((c : ℕ) → (c < whole) × (value a +ℤ value b ≡ value c) → ⊥)
+  sum-none =
+      none-iff (sum a b) (λ c. (c < whole) × (value a +ℤ value b ≡ value c))
+      (λ c. (λ e. let h = sum-some a b c e .0 in (h, sum-value c h .0 e), λ t. sum-value c (t .0) .1 (t .1)))
+
   pub difference-value : (c : ℕ) → c < whole → (difference a b ≡ some c) ↔ (value a -ℤ value b ≡ value c)
   difference-value c hc = (
     λ e. let h = difference-some a b c e .1 in
@@ -256,3 +281,8 @@ module _ (a b : ℕ) (ha : a < whole) (hb : b < whole) where
     where
       values : value a -ℤ value b ≡ subℕ (height a + half) (half + height b)
       values = rw (value-height a ha, value-height b hb, subℕ-neg (height b) half) (subℕ-add (height a) half half (height b))
+
+  pub difference-none : (difference a b ≡ none) ↔ ((c : ℕ) → (c < whole) × (value a -ℤ value b ≡ value c) → ⊥)
+  difference-none =
+      none-iff (difference a b) (λ c. (c < whole) × (value a -ℤ value b ≡ value c))
+      (λ c. (λ e. let h = difference-some a b c e .0 in (h, difference-value c h .0 e), λ t. difference-value c (t .0) .1 (t .1)))
