@@ -10,6 +10,7 @@ mod cases;
 mod command_line;
 mod commands;
 mod conditions;
+mod corners;
 mod damage;
 mod drafts;
 mod fixed;
@@ -64,7 +65,7 @@ fn random_image(seed: u64, index: u64) -> Vec<u8> {
         return large::large(&mut random, index / LARGE_EVERY % large::KINDS);
     }
     let draft = Draft::draw(&mut random);
-    if random.chance(7) {
+    if random.chance(5) {
         return damage::damaged(&mut random, draft);
     }
     let mut input = draft.input();

@@ -140,7 +140,7 @@ fn aim_at_free(random: &mut Random, host: &Host, slot: &mut [u8]) {
 /// A nonzero byte behind the label's atoms, or a label that is too long if all four are used.
 fn break_unused_atom(random: &mut Random, slot: &mut [u8], atoms: usize) {
     let used = slot[3] as usize;
-    if used == 4 {
+    if used >= 4 {
         slot[3] = 5;
     } else {
         slot[random.between(atoms + 4 * used, atoms + 15)] = random.pick(&[1, 0x80, 0xFF]);

@@ -57,6 +57,9 @@ fn options(arguments: &[String]) -> Result<Options, String> {
     }
     let seed = seed.ok_or(format!("--seed is missing\n{USAGE}"))?;
     let count = count.ok_or(format!("--count is missing\n{USAGE}"))?;
+    if corpus.is_some() && corpus == listings {
+        return Err(format!("-o and --listings name the same file\n{USAGE}"));
+    }
     Ok(Options {
         seed,
         count,
@@ -129,6 +132,7 @@ mod tests {
         assert!(message("--seed 1 --count").starts_with("--count has no value"));
         assert!(message("--seed x --count 1").contains("not x"));
         assert!(message("--seed -1 --count 1").contains("not -1"));
+        assert!(message("--seed 1 --count 1 -o a --listings a").contains("the same file"));
         assert!(message("--sed 1").starts_with("--sed is no option"));
     }
 

@@ -122,7 +122,7 @@ impl Writer<'_> {
 
     /// A rule set by itself, or one that may fail without harm.
     fn attempt(&mut self, place: Place) -> Command {
-        if place.levels < 2 || self.random.chance(30) {
+        if place.levels < 2 || self.random.chance(25) {
             return self.rule_set();
         }
         if !self.ending.is_empty() && self.random.chance(45) {

@@ -9,7 +9,7 @@ use crate::random::Random;
 use crate::tree::*;
 
 pub fn conditions(random: &mut Random, palette: &Palette, host: &Host, left: &Left) -> Vec<Test> {
-    let count = random.weighted(&[52, 28, 12, 5, 3]);
+    let count = random.weighted(&[52, 27, 11, 5, 5]);
     (0..count)
         .map(|_| condition(random, palette, host, left))
         .collect()
@@ -21,7 +21,7 @@ fn condition(random: &mut Random, palette: &Palette, host: &Host, left: &Left) -
     } else {
         about_nodes(random, host, left)
     };
-    let wanted = random.chance(88);
+    let wanted = random.chance(90);
     let negated = holds(&kind, host, left) != wanted;
     Test { negated, kind }
 }
@@ -55,11 +55,12 @@ fn about_nodes(random: &mut Random, host: &Host, left: &Left) -> TestKind {
     }
 }
 
-/// The right number mostly; else the one with loops counted otherwise, or a small one.
+/// The right number mostly; else the one with loops counted otherwise, one whose low byte is right, or a small one.
 fn degree(random: &mut Random, right: usize, loops_otherwise: usize) -> u16 {
-    let drawn = match random.weighted(&[60, 20, 20]) {
+    let drawn = match random.weighted(&[58, 18, 5, 19]) {
         0 => right,
         1 => loops_otherwise,
+        2 => right + 0x100,
         _ => random.below(4),
     };
     drawn as u16

@@ -43,6 +43,7 @@ pub fn damaged(random: &mut Random, mut draft: Draft) -> Vec<u8> {
     if random.chance(15) {
         kinds.push(kind(random));
         kinds.sort_unstable();
+        kinds.dedup();
     }
     for kind in &kinds {
         damage_tree(random, *kind, &mut draft);

@@ -4,6 +4,7 @@ use super::commands::main_command;
 use super::hosts::{Host, Size};
 use super::palette::Palette;
 use super::rules::rules;
+use crate::calls::MOST_FUEL;
 use crate::encode::{self, RunnerInput};
 use crate::random::Random;
 use crate::tree::*;
@@ -55,7 +56,7 @@ impl Draft {
             rules: drawn.into_iter().map(|drawn| drawn.rule).collect(),
             main,
         };
-        let fuel = fuel(random, placements(&host, &program));
+        let fuel = fuel(random, most_fuel(&host, &program));
         Draft {
             host,
             program,
@@ -75,24 +76,39 @@ impl Draft {
     }
 }
 
-/// The most ways in which the nodes of one left side can lie in the table.
-fn placements(host: &Host, program: &Program) -> usize {
-    let slots = host.nodes.len();
-    let ways = |rule: &Rule| slots.saturating_pow(rule.left.nodes.len() as u32);
-    program.rules.iter().map(ways).max().unwrap_or(1).max(1)
+/// The most fuel with which a run takes no long time.
+fn most_fuel(host: &Host, program: &Program) -> usize {
+    if !has_loop(&program.main) || program.rules.is_empty() {
+        return MOST_FUEL as usize;
+    }
+    (4_000_000 / longest_search(host, program)).clamp(60, MOST_FUEL as usize)
 }
 
-/// Ample fuel mostly, a little often, much where a search is short.
-fn fuel(random: &mut Random, placements: usize) -> u32 {
-    let most = (4_000_000 / placements).clamp(60, 1_000_000);
-    let drawn = match random.weighted(&[4, 78, 18]) {
+fn has_loop(command: &Command) -> bool {
+    match command {
+        Command::Loop(_) => true,
+        Command::Sequence(parts) => parts.iter().any(has_loop),
+        Command::If(a, b, c) | Command::Try(a, b, c) => [a, b, c].into_iter().any(|c| has_loop(c)),
+        _ => false,
+    }
+}
+
+/// How many candidates a search for a match looks at, about.
+fn longest_search(host: &Host, program: &Program) -> usize {
+    let slots = host.nodes.len();
+    let ways = |rule: &Rule| slots.saturating_pow(rule.left.nodes.len() as u32);
+    let most = program.rules.iter().map(ways).max().unwrap_or(0);
+    most.saturating_add(host.edges.len() + 10)
+}
+
+/// Ample fuel mostly, seldom a little, often much.
+fn fuel(random: &mut Random, most: usize) -> u32 {
+    let drawn = match random.weighted(&[3, 79, 18]) {
         0 => random.below(30),
-        1 => random.between(100, 2000).min(most),
-        _ => random
-            .pick(&[10_000, 65_535, 65_536, 100_000, 1_000_000])
-            .min(most),
+        1 => random.between(100, 2000),
+        _ => random.pick(&[10_000, 65_535, 65_536, 100_000, 1_000_000]),
     };
-    drawn as u32
+    drawn.min(most) as u32
 }
 
 fn records(random: &mut Random) -> u16 {

@@ -1,9 +1,10 @@
-//! The images at the front of every corpus: the cases of document 01, an image for each clause that can refuse,
-//! and the accepted ones that stand beside them.
+//! The images at the front of every corpus: the cases of document 01, corners that random images meet seldom, an
+//! image for each clause that can refuse, the accepted ones that stand beside them, and some refused twice over.
 
 use super::cases::cases;
-use crate::encode::runner_input;
-use crate::refusals::{of_run, of_runner};
+use super::corners::corners;
+use crate::encode::{runner_input, RunnerInput};
+use crate::refusals::{of_run, of_runner, run_refused_for};
 use std::sync::OnceLock;
 
 /// The most bytes that a field holds, and so an image of a corpus.
@@ -16,15 +17,28 @@ pub fn fixed_images() -> &'static [Vec<u8>] {
 }
 
 fn cases_and_refusals() -> Vec<Vec<u8>> {
+    let mut inputs = cases();
+    inputs.extend(corners());
     let calls = of_run();
-    let accepted = calls.iter().filter_map(|it| it.accepted.runner_input());
-    let refused = calls.iter().filter_map(|it| it.refused.runner_input());
-    let inputs = cases().into_iter().chain(accepted).chain(refused);
-    let mut images: Vec<Vec<u8>> = inputs.map(|input| runner_input(&input)).collect();
+    inputs.extend(calls.iter().filter_map(|it| it.accepted.runner_input()));
+    inputs.extend(calls.iter().filter_map(|it| it.refused.runner_input()));
+    inputs.extend(refused_twice());
+    let mut images: Vec<Vec<u8>> = inputs.iter().map(runner_input).collect();
     for it in of_runner() {
         images.extend([it.accepted, it.refused]);
     }
     images
+}
+
+/// Two numbers apply to each of these. Those of 14 are long, so there are few of them.
+fn refused_twice() -> Vec<RunnerInput> {
+    const NUMBERS: [u32; 7] = [10, 11, 13, 15, 16, 17, 18];
+    let mut pairs = vec![[13, 14], [14, 15]];
+    for (index, low) in NUMBERS.into_iter().enumerate() {
+        pairs.extend(NUMBERS[index + 1..].iter().map(|high| [low, *high]));
+    }
+    let calls = pairs.iter().map(|pair| run_refused_for(pair));
+    calls.filter_map(|call| call.runner_input()).collect()
 }
 
 fn each_once(images: Vec<Vec<u8>>) -> Vec<Vec<u8>> {

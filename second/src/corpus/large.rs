@@ -5,8 +5,10 @@ use super::drafts::{Draft, Extent};
 use super::fixed::MOST_BYTES;
 use super::hosts::{new_edge, Host, Size};
 use super::palette::Palette;
+use crate::calls::answer;
 use crate::encode::{self, runner_input, RunnerInput};
 use crate::host::limit::{EDGE_SLOTS, NODE_SLOT, NODE_SLOTS};
+use crate::listing::run_input;
 use crate::random::Random;
 use crate::tree::*;
 
@@ -15,16 +17,30 @@ pub const KINDS: u64 = 8;
 
 pub fn large(random: &mut Random, kind: u64) -> Vec<u8> {
     let input = match kind {
-        0 => full_tables(random),
-        1 => scattered_in_tables(random),
-        2 => program_of(random, limit::IMAGE_BYTES),
+        0 => with_result(random, full_tables),
+        1 => with_result(random, scattered_in_tables),
+        2 => with_result(random, |random| program_of(random, limit::IMAGE_BYTES)),
         3 => root_on_a_path(),
         4 => filled_up(random),
         5 => longest_program(random),
         6 => longest_table(random),
-        _ => many_rules(random),
+        _ => with_result(random, many_rules),
     };
     runner_input(&input)
+}
+
+/// An input whose run gives a result with changes in it, if a few draws give one.
+fn with_result(random: &mut Random, draw: impl Fn(&mut Random) -> RunnerInput) -> RunnerInput {
+    const DRAWS: usize = 20;
+    let mut input = draw(random);
+    for _ in 1..DRAWS {
+        let outcome = run_input(&input);
+        if outcome.answer == answer::RESULT && outcome.journal.iter().any(|byte| *byte != 0) {
+            break;
+        }
+        input = draw(random);
+    }
+    input
 }
 
 fn small_draft(random: &mut Random) -> Draft {
@@ -114,17 +130,20 @@ fn over(random: &mut Random, palette: &Palette, host: Host) -> RunnerInput {
     .input()
 }
 
-/// A program of exactly so many bytes.
+/// A program of exactly so many bytes: what is missing stands where no run comes to.
 fn program_of(random: &mut Random, bytes: usize) -> RunnerInput {
-    let mut draft = small_draft(random);
-    let (skip, main) = (
-        Box::new(Command::Skip),
-        Box::new(draft.program.main.clone()),
-    );
-    draft.program.main = Command::If(skip.clone(), main.clone(), skip.clone());
-    let missing = bytes - encode::program(&draft.program).len();
-    draft.program.main = Command::If(skip, main, Box::new(filler(missing + 3)));
-    draft.input()
+    loop {
+        let mut draft = small_draft(random);
+        let skip = || Box::new(Command::Skip);
+        let main = Box::new(draft.program.main.clone());
+        draft.program.main = Command::If(skip(), main.clone(), skip());
+        let length = encode::program(&draft.program).len();
+        if length <= bytes {
+            let rest = Box::new(filler(3 + bytes - length));
+            draft.program.main = Command::If(skip(), main, rest);
+            return draft.input();
+        }
+    }
 }
 
 /// A command of exactly so many bytes, at least 3.
@@ -200,7 +219,7 @@ fn one_step() -> Rule {
     }
 }
 
-/// The greatest node table, almost free, which one rule fills: it is full, or the journal is.
+/// The greatest node table, all free, which one rule fills until it is full or the journal is.
 fn filled_up(random: &mut Random) -> RunnerInput {
     let new_nodes = random.between(1, 3);
     let node = RuleNode {
@@ -253,17 +272,22 @@ fn longest_table(random: &mut Random) -> RunnerInput {
 
 /// As many rules as there may be.
 fn many_rules(random: &mut Random) -> RunnerInput {
-    let palette = Palette::draw(random);
-    let size = Size {
-        nodes: 8,
-        ..Size::draw(random)
-    };
-    let host = Host::draw(random, &palette, size);
-    let extent = Extent {
-        rules: limit::RULES,
-        commands: 20,
-        levels: limit::DEPTH,
-    };
-    let draft = Draft::over(random, &palette, host, extent);
-    Draft { fuel: 400, ..draft }.input()
+    loop {
+        let palette = Palette::draw(random);
+        let nodes = random.between(6, 9);
+        let size = Size {
+            nodes,
+            ..Size::draw(random)
+        };
+        let host = Host::draw(random, &palette, size);
+        let extent = Extent {
+            rules: limit::RULES,
+            commands: 20,
+            levels: limit::DEPTH,
+        };
+        let input = Draft::over(random, &palette, host, extent).input();
+        if input.program.len() <= limit::IMAGE_BYTES {
+            return input;
+        }
+    }
 }

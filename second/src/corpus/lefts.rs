@@ -252,7 +252,7 @@ fn delete_whole(
     }
 }
 
-/// All edges at deleted nodes and some of those between kept ones, as many as a rule holds.
+/// All edges at deleted nodes, seldom one fewer, and some of those between kept ones, as many as a rule holds.
 fn edges_between(
     random: &mut Random,
     host: &Host,
@@ -272,6 +272,9 @@ fn edges_between(
         } else if random.chance(65) {
             others.push(slot);
         }
+    }
+    if !needed.is_empty() && random.chance(8) {
+        needed.remove(random.below(needed.len()));
     }
     random.shuffle(&mut others);
     needed.extend(others);

@@ -8,7 +8,7 @@ use crate::random::Random;
 pub fn narrow(random: &mut Random, input: &mut RunnerInput) {
     input.records = limit::RECORDS as u16;
     let outcome = run_input(input);
-    let less = random.pick(&[0, 0, 0, 1, 1, 2]);
+    let less = random.pick(&[0, 0, 0, 1, 2]);
     match random.weighted(&[28, 18, 27, 27]) {
         0 => input.fuel = reported(&outcome.report[..4]).saturating_sub(less),
         1 => input.records = reported(&outcome.report[4..]).saturating_sub(less) as u16,

@@ -18,16 +18,23 @@ pub struct Palette {
     node_lengths: Vec<usize>,
     edge_lengths: Vec<usize>,
     root_percent: usize,
+    /// A label of which node labels differ in the last atom alone.
+    pattern: Option<Vec<i32>>,
+    /// Whether an atom is at the end of the range.
+    pub extreme: bool,
 }
 
 impl Palette {
     pub fn draw(random: &mut Random) -> Palette {
+        let atoms = some_atoms(random);
         let node_kinds = random.between(1, 3);
         let edge_kinds = random.between(1, 2);
         Palette {
             node_marks: some_marks(random, NODE_MARKS, node_kinds),
             edge_marks: some_marks(random, EDGE_MARKS, edge_kinds),
-            atoms: some_atoms(random),
+            pattern: pattern(random, &atoms),
+            extreme: atoms.iter().any(|atom| EXTREMES.contains(atom)),
+            atoms,
             node_lengths: lengths(random, &[15, 40, 20, 15, 10]),
             edge_lengths: lengths(random, &[50, 25, 10, 10, 5]),
             root_percent: random.pick(&[0, 0, 10, 30, 60]),
@@ -51,6 +58,10 @@ impl Palette {
     }
 
     pub fn node_label(&self, random: &mut Random) -> Vec<i32> {
+        if let Some(pattern) = &self.pattern {
+            let (_, front) = pattern.split_last().expect("a pattern has atoms");
+            return [front, &[self.atom(random)]].concat();
+        }
         let length = random.pick(&self.node_lengths);
         self.label(random, length)
     }
@@ -77,19 +88,29 @@ fn some_marks(random: &mut Random, all: [u8; 5], count: usize) -> Vec<u8> {
     marks
 }
 
+/// Two to four atoms: small ones mostly, now and then extremes or two that differ in one bit of a high byte.
 fn some_atoms(random: &mut Random) -> Vec<i32> {
     let count = random.between(2, 4);
     let mut atoms: Vec<i32> = (0..count).map(|_| random.below(8) as i32).collect();
     if random.chance(30) {
         atoms[0] = -(random.between(1, 9) as i32);
     }
-    if random.chance(20) {
+    if random.chance(25) {
         atoms[1] = random.pick(&EXTREMES);
     }
     if random.chance(10) {
         atoms[0] = random.next() as i32;
     }
+    if random.chance(20) {
+        atoms[1] = atoms[0] ^ (1 << random.pick(&[8, 16, 24, 31]));
+    }
     atoms
+}
+
+fn pattern(random: &mut Random, atoms: &[i32]) -> Option<Vec<i32>> {
+    let length = random.between(2, 4);
+    let drawn = (0..length).map(|_| random.pick(atoms)).collect();
+    random.chance(20).then_some(drawn)
 }
 
 /// The lengths that a kind of label has: one to four values, shorter ones more often.

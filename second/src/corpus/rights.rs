@@ -76,9 +76,14 @@ fn shrink(random: &mut Random, palette: &Palette, left: &Left, right: &mut RuleG
     if smaller && random.chance(70) {
         return;
     }
-    if !right.edges.is_empty() && random.chance(40) {
-        right.edges.remove(random.below(right.edges.len()));
-    } else if !raise_mark(random, palette, &mut right.nodes) && !right.edges.is_empty() {
+    let dropped = !right.edges.is_empty() && random.chance(40);
+    if dropped || !raise_mark(random, palette, &mut right.nodes) {
+        drop_edge(random, right);
+    }
+}
+
+fn drop_edge(random: &mut Random, right: &mut RuleGraph) {
+    if !right.edges.is_empty() {
         right.edges.remove(random.below(right.edges.len()));
     }
 }

@@ -22,7 +22,7 @@ pub fn rules(random: &mut Random, palette: &Palette, host: &Host, count: usize) 
     let mut now = host.clone();
     let mut drawn = Vec::new();
     for _ in 0..count {
-        let (rule, after) = match random.weighted(&[46, 45, 9]) {
+        let (rule, after) = match random.weighted(&[47, 46, 7]) {
             0 => draw(random, palette, host, most),
             1 => draw(random, palette, &now, most),
             _ => {
@@ -47,7 +47,8 @@ fn most_left_nodes(nodes: usize) -> usize {
         8..=9 => 5,
         10..=12 => 4,
         13..=24 => 3,
-        _ => 2,
+        25..=64 => 2,
+        _ => 1,
     }
 }
 
@@ -55,7 +56,7 @@ fn most_left_nodes(nodes: usize) -> usize {
 /// it declares a variable that it doesn't use.
 fn draw(random: &mut Random, palette: &Palette, host: &Host, most: usize) -> (Drawn, Option<Host>) {
     let mut left = Left::draw(random, host, most);
-    let special = random.weighted(&[80, 8, 12]);
+    let special = random.weighted(&[82, 8, 10]);
     let drawn = match special {
         1 if count_down(&mut left).is_some() => counting_rule(&left),
         2 if !left.nodes.is_empty() => lengthening_rule(random, palette, host, &left),
@@ -64,10 +65,8 @@ fn draw(random: &mut Random, palette: &Palette, host: &Host, most: usize) -> (Dr
     let after = applied(host, &left, &drawn.rule);
     let mut drawn = spoilt(random, palette, drawn);
     if left.values.len() < limit::VARIABLES && random.chance(4) {
-        drawn
-            .rule
-            .variables
-            .push(random.pick(&[VariableType::Int, VariableType::List]));
+        let unused = random.pick(&[VariableType::Int, VariableType::List]);
+        drawn.rule.variables.push(unused);
     }
     (drawn, after)
 }
@@ -97,8 +96,8 @@ fn rule(left: &Left, right: RuleGraph, tests: Vec<Test>) -> Rule {
     }
 }
 
-/// Makes the left side one plain counter: its first kept node whose label is one int variable alone, of which
-/// the left side keeps nothing else.
+/// Leaves of the left side a counter alone: its first kept node whose label is one constant, with a variable in
+/// its place. Nothing happens if there is none.
 fn count_down(left: &mut Left) -> Option<()> {
     let counts = |slot: usize| matches!(left.graph.nodes[slot].label[..], [Element::Constant(_)]);
     let node = (0..left.interface).find(|node| counts(*node))?;
@@ -161,7 +160,7 @@ fn lengthening_rule(random: &mut Random, palette: &Palette, host: &Host, left: &
 /// Now and then a mark, a root flag or a constant that the placement doesn't have.
 fn spoilt(random: &mut Random, palette: &Palette, mut drawn: Drawn) -> Drawn {
     let nodes = &mut drawn.rule.left.nodes;
-    if nodes.is_empty() || !random.chance(6) {
+    if nodes.is_empty() || !random.chance(4) {
         return drawn;
     }
     let index = random.below(nodes.len());

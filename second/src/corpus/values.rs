@@ -50,7 +50,7 @@ pub fn operand(random: &mut Random, palette: &Palette, left: &Left) -> Operand {
 
 /// A label for the right side that nearly always can be held in the placement.
 pub fn new_label(random: &mut Random, palette: &Palette, left: &Left) -> Vec<Element> {
-    let careless = random.chance(12);
+    let careless = random.chance(if palette.extreme { 30 } else { 7 });
     for _ in 0..8 {
         let length = random.weighted(&[10, 45, 28, 12, 5]);
         let label: Vec<Element> = (0..length)

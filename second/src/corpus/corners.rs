@@ -1,0 +1,174 @@
+//! Inputs that random ones meet seldom: several reasons to end a run at once, and the last item of lists of the
+//! greatest length.
+
+use crate::encode::{self, node_slot, RunnerInput};
+use crate::tree::*;
+
+/// Why an application can't be made.
+#[derive(Clone, Copy, Debug)]
+struct Reasons {
+    label: Option<Label>,
+    nodes: bool,
+    edges: bool,
+    journal: bool,
+}
+
+/// A label that can't be held: over or under the range of atoms, or of too many atoms.
+#[derive(Clone, Copy, Debug)]
+enum Label {
+    Over,
+    Under,
+    Long,
+}
+
+pub fn corners() -> Vec<RunnerInput> {
+    let mut inputs: Vec<RunnerInput> = every_reasons().into_iter().map(input_of).collect();
+    inputs.extend([last_of_eight_rules(), last_of_all_rules()]);
+    inputs
+}
+
+/// Every set of reasons, with each kind of label.
+fn every_reasons() -> Vec<Reasons> {
+    let labels = [
+        None,
+        Some(Label::Over),
+        Some(Label::Under),
+        Some(Label::Long),
+    ];
+    let mut every = Vec::new();
+    for label in labels {
+        for set in 0..8 {
+            let has = |bit: u8| set & bit != 0;
+            every.push(Reasons {
+                label,
+                nodes: has(1),
+                edges: has(2),
+                journal: has(4),
+            });
+        }
+    }
+    every
+}
+
+/// A rule that labels a node, makes a new one and an edge between them, inside a try.
+fn input_of(reasons: Reasons) -> RunnerInput {
+    let (least, most) = (Operand::Constant(i32::MIN), Operand::Constant(i32::MAX));
+    let list = Element::Variable(0);
+    let label = match reasons.label {
+        None => vec![list],
+        Some(Label::Over) => vec![Element::Sum(most, Operand::Constant(1))],
+        Some(Label::Under) => vec![Element::Difference(least, Operand::Constant(1))],
+        Some(Label::Long) => vec![list, list],
+    };
+    let edge = RuleEdge {
+        mark: mark::DASHED,
+        source: 1,
+        target: 0,
+        label: vec![],
+    };
+    let rule = Rule {
+        variables: vec![VariableType::List],
+        left: RuleGraph {
+            nodes: vec![node(mark::NONE, vec![list])],
+            edges: vec![],
+        },
+        right: RuleGraph {
+            nodes: vec![node(mark::RED, label), node(mark::BLUE, vec![])],
+            edges: vec![edge],
+        },
+        interface: 1,
+        tests: vec![],
+    };
+    let skip = || Box::new(Command::Skip);
+    let main = Command::Try(Box::new(Command::RuleSet(vec![0])), skip(), skip());
+    let mut nodes = node_slot(mark::NONE, false, &[1, 2, 3]).to_vec();
+    nodes.extend(vec![0; if reasons.nodes { 0 } else { 20 }]);
+    RunnerInput {
+        nodes,
+        edges: vec![0; if reasons.edges { 0 } else { 24 }],
+        records: if reasons.journal { 2 } else { 3 },
+        fuel: 10,
+        program: encode::program(&Program {
+            rules: vec![rule],
+            main,
+        }),
+    }
+}
+
+fn node(mark: u8, label: Vec<Element>) -> RuleNode {
+    RuleNode {
+        mark,
+        root: false,
+        label,
+    }
+}
+
+/// A rule that gives a node of this mark the mark grey.
+fn from_mark(mark: u8) -> Rule {
+    Rule {
+        variables: vec![],
+        left: RuleGraph {
+            nodes: vec![node(mark, vec![])],
+            edges: vec![],
+        },
+        right: RuleGraph {
+            nodes: vec![node(mark::GREY, vec![])],
+            edges: vec![],
+        },
+        interface: 1,
+        tests: vec![],
+    }
+}
+
+fn over_red_node(rules: Vec<Rule>, numbers: Vec<u8>) -> RunnerInput {
+    RunnerInput {
+        nodes: node_slot(mark::RED, false, &[]).to_vec(),
+        edges: vec![],
+        records: 1,
+        fuel: 1,
+        program: encode::program(&Program {
+            rules,
+            main: Command::RuleSet(numbers),
+        }),
+    }
+}
+
+/// Of eight rules in a set the last alone has a match.
+fn last_of_eight_rules() -> RunnerInput {
+    let rules = vec![from_mark(mark::GREEN), from_mark(mark::RED)];
+    over_red_node(rules, vec![0, 0, 0, 0, 0, 0, 0, 1])
+}
+
+/// Of as many rules as there may be the last alone has a match.
+fn last_of_all_rules() -> RunnerInput {
+    let mut rules = vec![from_mark(mark::GREEN); limit::RULES - 1];
+    rules.push(from_mark(mark::RED));
+    over_red_node(rules, vec![0, limit::RULES as u8 - 1])
+}
+
+#[cfg(test)]
+mod tests {
+    use super::*;
+    use crate::listing::run_input;
+
+    #[test]
+    fn the_first_reason_of_6_3_4_5_is_answered() {
+        for reasons in every_reasons() {
+            let in_order = [
+                (reasons.label.is_some(), 6),
+                (reasons.nodes, 3),
+                (reasons.edges, 4),
+                (reasons.journal, 5),
+                (true, 0),
+            ];
+            let first = in_order.into_iter().find(|(holds, _)| *holds).unwrap().1;
+            assert_eq!(run_input(&input_of(reasons)).answer, first, "{reasons:?}");
+        }
+    }
+
+    #[test]
+    fn the_last_rule_is_applied() {
+        assert_eq!(run_input(&last_of_eight_rules()).answer, 0);
+        assert_eq!(run_input(&last_of_all_rules()).answer, 0);
+    }
+}

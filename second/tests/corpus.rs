@@ -1,0 +1,200 @@
+//! The stored corpus is what its seed gives, its listings are what the second interpreter gives, and running it
+//! exercises everything.
+
+use second::corpus::{
+    fixed_count, image, images, joined, legal_program, listings, split, Statistics,
+};
+use second::encode;
+use second::listing::{listing, read_input};
+use second::random::Random;
+use second::{decode, placement, references};
+
+/// The seed and the number of images of the stored corpus.
+const SEED: u64 = 1;
+const COUNT: u64 = 2400;
+
+fn stored(name: &str) -> Vec<u8> {
+    let path = format!("{}/../corpus/{name}", env!("CARGO_MANIFEST_DIR"));
+    std::fs::read(&path).unwrap_or_else(|error| panic!("{path}: {error}"))
+}
+
+#[test]
+fn the_stored_corpus_is_what_the_seed_gives() {
+    let made = images(SEED, COUNT);
+    let corpus = stored("corpus.bin");
+    let parts = split(&corpus).unwrap();
+    let same = made
+        .iter()
+        .zip(&parts)
+        .position(|(made, stored)| made != stored);
+    assert_eq!(same, None, "the first image that differs");
+    assert_eq!(corpus, joined(&made));
+}
+
+#[test]
+fn the_stored_listings_are_what_the_interpreter_gives() {
+    let corpus = stored("corpus.bin");
+    let text = String::from_utf8(stored("corpus.listings")).unwrap();
+    let mut rest = text.as_str();
+    for (index, image) in split(&corpus).unwrap().into_iter().enumerate() {
+        let given = listing(image);
+        match rest.strip_prefix(given.as_str()) {
+            Some(behind) => rest = behind,
+            None => panic!("image {index} gives\n{given}but stored is\n{}", head(rest)),
+        }
+    }
+    assert_eq!(rest, "", "listings behind the last image");
+}
+
+/// The first lines of a text.
+fn head(text: &str) -> String {
+    text.lines()
+        .take(20)
+        .map(|line| format!("{line}\n"))
+        .collect()
+}
+
+#[test]
+fn the_stored_corpus_exercises_everything() {
+    let corpus = stored("corpus.bin");
+    let parts = split(&corpus).unwrap();
+    let figures = Statistics::of(&parts);
+    assert!(corpus.len() <= 2_100_000, "{} bytes", corpus.len());
+    for answer in [0, 1, 2, 3, 4, 5, 6, 10, 11, 13, 14, 15, 16, 17, 18] {
+        assert!(
+            figures.answers.contains_key(&answer),
+            "answer {answer} doesn't occur"
+        );
+    }
+    assert!(figures.refused > 0, "no input is refused");
+    assert_eq!(figures.answers.get(&7), None, "an edge lies on a free node");
+    assert!(
+        figures.answers[&0] * 100 >= figures.images * 45,
+        "too few results"
+    );
+    assert!(
+        figures.answers[&1] * 100 >= figures.images * 8,
+        "too few fails"
+    );
+    let applying = figures.counter("applications").images;
+    assert!(
+        applying * 100 >= figures.started * 60,
+        "too few runs apply a rule"
+    );
+    for counter in &figures.counters {
+        assert!(counter.total > 0, "{} is never exercised", counter.name);
+    }
+}
+
+#[test]
+fn the_stored_corpus_reaches_the_limits() {
+    let corpus = stored("corpus.bin");
+    let parts = split(&corpus).unwrap();
+    let inputs: Vec<_> = parts.iter().filter_map(|image| read_input(image)).collect();
+    let starts = |answer: &str| {
+        parts
+            .iter()
+            .any(|i| i.len() == 65_535 && listing(i).starts_with(answer))
+    };
+    assert!(inputs
+        .iter()
+        .any(|input| input.nodes.len() == 512 * 20 && input.edges.len() == 1024 * 24));
+    assert!(inputs.iter().any(|input| input.program.len() == 8192));
+    assert!(inputs.iter().any(|input| input.fuel == 1_000_000));
+    assert!(inputs.iter().any(|input| input.records == 1024));
+    assert!(starts("answer 14") && (starts("answer 10") || starts("answer 11")));
+}
+
+#[test]
+fn the_page_beside_the_corpus_has_its_figures() {
+    let corpus = stored("corpus.bin");
+    let page = String::from_utf8(stored("README.md")).unwrap();
+    let figures = Statistics::of(&split(&corpus).unwrap()).to_string();
+    assert!(page.contains(&figures), "the figures are\n{figures}");
+    let fixed = format!("The first {} images", fixed_count());
+    assert!(page.contains(&fixed), "the page should say: {fixed}");
+}
+
+/// Answer, steps and records of cases 1 to 15 and P of document 01; case 4 has two.
+const CASES: [(u32, u32, u32); 17] = [
+    (0, 1, 0),
+    (2, 0, 0),
+    (2, 1000, 0),
+    (0, 2, 0),
+    (0, 2, 0),
+    (1, 1, 0),
+    (0, 1, 1),
+    (1, 1, 0),
+    (0, 3, 0),
+    (0, 3, 1),
+    (0, 4, 0),
+    (0, 4, 1),
+    (0, 1, 2),
+    (3, 1, 0),
+    (6, 1, 0),
+    (1, 1, 0),
+    (0, 3, 4),
+];
+
+#[test]
+fn a_corpus_begins_with_the_cases() {
+    for (index, (answer, steps, records)) in CASES.into_iter().enumerate() {
+        let text = listing(&image(SEED, index as u64));
+        let first = format!("answer {answer} steps {steps} records {records}\n");
+        assert!(text.starts_with(&first), "image {index} gives\n{text}");
+    }
+    let last = listing(&image(SEED, CASES.len() as u64 - 1));
+    let graph = "node 0 red plain 5\nnode 1 blue plain 12\nedge 0 1 0 none\n";
+    assert!(last.ends_with(graph), "case P gives\n{last}");
+}
+
+#[test]
+fn an_image_depends_on_its_seed_and_index_alone() {
+    let index = fixed_count() + 5;
+    assert_eq!(image(7, index), images(7, index + 1)[index as usize]);
+    assert_ne!(image(7, index), image(8, index));
+    assert_eq!(image(7, 3), image(8, 3));
+}
+
+#[test]
+fn legal_programs_are_legal() {
+    let mut random = Random::new(SEED);
+    for _ in 0..3000 {
+        let program = legal_program(&mut random);
+        let bytes = encode::program(&program);
+        assert!(bytes.len() <= 8192, "{} bytes", bytes.len());
+        assert_eq!(decode::program(&bytes).as_ref(), Ok(&program));
+        assert_eq!(references::check(&program), Ok(()), "{program:?}");
+        assert!(placement::check(&program), "{program:?}");
+    }
+}
+
+#[test]
+fn a_corpus_splits_into_what_it_was_joined_from() {
+    let made = images(SEED, 40);
+    let corpus = joined(&made);
+    assert_eq!(split(&corpus).unwrap(), made);
+    let parts: Vec<&[u8]> = made.iter().map(Vec::as_slice).collect();
+    assert_eq!(
+        listings(&parts[..1]),
+        "answer 0 steps 1 records 0\nnode 0 none plain\n"
+    );
+}
+
+#[test]
+fn a_damaged_corpus_is_refused_with_its_place() {
+    let refused = |bytes: &[u8]| split(bytes).unwrap_err();
+    assert_eq!(split(&[]), Ok(vec![]));
+    assert_eq!(
+        refused(&[6, 0, 0, 5, 0, 0]),
+        "byte 3: the tag 0x06 of an image expected"
+    );
+    assert_eq!(
+        refused(&[6, 0]),
+        "byte 0: a tag and two bytes of length expected"
+    );
+    assert_eq!(
+        refused(&[6, 0, 2, 1]),
+        "byte 0: an image of 2 bytes expected"
+    );
+}
