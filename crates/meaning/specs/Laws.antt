@@ -24,3 +24,10 @@ pub mod Commands
 pub mod Fuel
 pub mod Allowance
 pub mod Shortage
+pub mod Values
+pub mod Attached
+pub mod Legality
+pub mod Stops
+pub mod LegalCommands
+pub mod LegalImage
+pub mod Undoing

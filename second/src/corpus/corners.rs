@@ -1,5 +1,5 @@
-//! Inputs that random ones meet seldom: several reasons to end a run at once, and the last item of lists of the
-//! greatest length.
+//! Inputs that random ones meet seldom: several reasons to end a run at once, the last item of lists of the greatest
+//! length, and labels that differ in one atom.
 
 use crate::encode::{self, node_slot, RunnerInput};
 use crate::tree::*;
@@ -24,6 +24,7 @@ enum Label {
 pub fn corners() -> Vec<RunnerInput> {
     let mut inputs: Vec<RunnerInput> = every_reasons().into_iter().map(input_of).collect();
     inputs.extend([last_of_eight_rules(), last_of_all_rules()]);
+    inputs.extend(LISTS.map(|(a, b)| one_list_twice(a, b)));
     inputs
 }
 
@@ -146,6 +147,45 @@ fn last_of_all_rules() -> RunnerInput {
     over_red_node(rules, vec![0, limit::RULES as u8 - 1])
 }
 
+/// Two labels that one list variable is to stand for: all but the first and the last pair differ.
+const LISTS: [(&[i32], &[i32]); 6] = [
+    (&[], &[]),
+    (&[], &[0]),
+    (&[1, 2], &[1]),
+    (&[1, 2, 3, 4], &[1, 2, 3, 5]),
+    (&[1, 2, 3, 4], &[0, 2, 3, 4]),
+    (&[1, 2, 3, 4], &[1, 2, 3, 4]),
+];
+
+/// Two nodes with these labels, and a rule for two nodes with the same list.
+fn one_list_twice(first: &[i32], second: &[i32]) -> RunnerInput {
+    let list = || vec![Element::Variable(0)];
+    let rule = Rule {
+        variables: vec![VariableType::List],
+        left: RuleGraph {
+            nodes: vec![node(mark::NONE, list()), node(mark::NONE, list())],
+            edges: vec![],
+        },
+        right: RuleGraph {
+            nodes: vec![node(mark::RED, list()), node(mark::BLUE, vec![])],
+            edges: vec![],
+        },
+        interface: 2,
+        tests: vec![],
+    };
+    let labelled = |atoms: &[i32]| node_slot(mark::NONE, false, atoms);
+    RunnerInput {
+        nodes: [labelled(first), labelled(second)].concat(),
+        edges: vec![],
+        records: 2,
+        fuel: 1,
+        program: encode::program(&Program {
+            rules: vec![rule],
+            main: Command::RuleSet(vec![0]),
+        }),
+    }
+}
+
 #[cfg(test)]
 mod tests {
     use super::*;
@@ -170,5 +210,13 @@ mod tests {
     fn the_last_rule_is_applied() {
         assert_eq!(run_input(&last_of_eight_rules()).answer, 0);
         assert_eq!(run_input(&last_of_all_rules()).answer, 0);
+    }
+
+    #[test]
+    fn one_variable_stands_for_equal_lists_alone() {
+        for (first, second) in LISTS {
+            let answer = run_input(&one_list_twice(first, second)).answer;
+            assert_eq!(answer == 0, first == second, "{first:?} {second:?}");
+        }
     }
 }
