@@ -1,5 +1,5 @@
--- Legality: applying a rule at a match keeps the host and the journal legal, so the test after an application never fires, and
--- every command keeps them legal. Rests on Laws/Values, Laws/Attached, Laws/Room, Laws/Records and Laws/Commands.
+-- Legality: applying a rule at a match keeps the host and the journal legal, so the test after an application never fires.
+-- Rests on Laws/Values, Laws/Attached, Laws/Room, Laws/Records and Laws/Restoring.
 use Prim.Native.Nat.{ℕ, zero, suc, _+_, _^_, _<_, _≤_}
 use mathlib.Core.Path.{_≡_, refl, _∙_}
 use mathlib.Core.List.{List, [], _∷_, _++_, map}

@@ -1,5 +1,5 @@
--- The stops that a command can end in: where states have a property that the parts of commands keep, and a call from such a state
--- ends in none but some stops, a command ends in none but those and OutOfFuel. Rests on Laws/Commands.
+-- The stops that a command can end in: where the parts of commands keep P of states, and Q holds of OutOfFuel and of each stop that
+-- a call ends in from a state that has P, Q holds of each stop that a command ends in. Rests on Laws/Commands.
 use Prim.Native.Nat.{ℕ, zero, suc}
 use mathlib.Core.Path.{_≡_, refl}
 use mathlib.Core.List.{List}
