@@ -1,0 +1,4 @@
+pub mod Loops
+pub mod Checks
+pub mod Rules
+pub mod Commands

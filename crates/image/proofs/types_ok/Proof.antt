@@ -1,0 +1,61 @@
+-- `types_ok` meets its contract. The loop's invariant: all are types where those from the place on are.
+-- The measure is what is left of the bytes.
+use mathlib.Core.Path.{_≡_, refl}
+use Prim.Native.Nat.{_-_}
+use native.Mathlib.Omega.{arith}
+use borrow.Author.Needs.{needs}
+use lib.ListN.{length, drop}
+use Rattle.meaning.specs.Image.{isType}
+use Rattle.meaning.specs.Basics.{every}
+use Rattle.image.proofs.Checks.{types-many, type-low, type-high, type-next, types-end}
+use Rattle.image.proofs.types_ok.Statement.{statement}
+use Rattle.image.proofs.types_ok.Tie as tie
+
+abbrev Inv-loop : tie.InvT-loop
+Inv-loop p i₀ i = every isType (drop i p) ≡ every isType p
+
+abbrev μ-loop : tie.MeasureT-loop
+μ-loop p i₀ i = length p - i
+
+returns : tie.Need-returns Inv-loop μ-loop
+returns c = types-many _ (c .if1 .taken)
+
+loop-holds : tie.Need-loop-holds Inv-loop μ-loop
+loop-holds c = refl
+
+shared-slice-read-kind : tie.Need-shared-slice-read-kind Inv-loop μ-loop
+shared-slice-read-kind c = search needs
+
+returns-2 : tie.Need-returns-2 Inv-loop μ-loop
+returns-2 c = type-low _ (c .before .before .before .before .if1 .left) (c .before .before .before .loop .i) (c .before .before .before .loop .inv) (c .before .before .loop-test .taken) (c .if2 .taken)
+
+returns-3 : tie.Need-returns-3 Inv-loop μ-loop
+returns-3 c = type-high _ (c .before .before .before .before .before .if1 .left) (c .before .before .before .before .loop .i) (c .before .before .before .before .loop .inv) (c .before .before .before .loop-test .taken) (c .if3 .taken)
+
+add-i : tie.Need-add-i Inv-loop μ-loop
+add-i c = search needs
+
+loop-less : tie.Need-loop-less Inv-loop μ-loop
+loop-less c = omega arith
+
+loop-again : tie.Need-loop-again Inv-loop μ-loop
+loop-again c = type-next _ (c .before .before .before .before .before .if1 .left) (c .before .before .before .before .loop .i) (c .before .before .before .before .loop .inv) (c .before .before .before .loop-test .taken) (c .before .if2 .left) (c .if3 .left)
+
+returns-4 : tie.Need-returns-4 Inv-loop μ-loop
+returns-4 c = types-end _ (c .before .before .if1 .left) (c .before .loop .i) (c .before .loop .inv) (c .loop-test .left)
+
+pub types-ok-spec : {M : Type 1} → statement M
+types-ok-spec =
+    tie.close
+    (tie.spec
+    Inv-loop
+    μ-loop
+    returns
+    loop-holds
+    shared-slice-read-kind
+    returns-2
+    returns-3
+    add-i
+    loop-less
+    loop-again
+    returns-4)
