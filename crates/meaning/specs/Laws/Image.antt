@@ -1,5 +1,5 @@
--- Laws of Image: what the reader of fields finds, one step at a time, over any reader of items and any bound.
--- Rests on Basics, Image and Laws/Tests.
+-- Laws of Image: what the reader of fields finds, one step at a time, over any reader of items and any bound; and when
+-- the readers of the parts succeed (what they have read is in Image/Parsed). Rests on Basics, Image and Laws/Tests.
 use mathlib.Core.Path.{_≡_, refl, sym, _∙_, ap}
 use mathlib.Core.List.{List, [], _∷_, _++_, append-assoc, append-nil}
 use mathlib.Core.Bool.{Bool, true, false}
@@ -17,6 +17,7 @@ use Rattle.meaning.specs.Image.Command.{skip, fail, break}
 use Rattle.meaning.specs.declared.Operand.{Operand}
 use Rattle.meaning.specs.declared.Condition.the-variants.{Equal, Less}
 use Rattle.meaning.specs.Laws.Tests.{choose-true, choose-false, choose-ne, some-inj, bind-some, ensure-some, ensure-yes, ensure-no}
+pub mod Parsed
 
 -- Optional values.
 

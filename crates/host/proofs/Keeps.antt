@@ -1,0 +1,128 @@
+-- Laws for the layout test: what the clauses passed so far, and the one that fails, say of a slot; and a table slot by slot.
+use Prim.Native.Nat.{ℕ, _+_, _-_, _*_, _<_, _≤_}
+use mathlib.Core.Path.{_≡_, refl, sym, _∙_, ap}
+use mathlib.Core.List.{List}
+use mathlib.Core.Bool.{Bool, true, false}
+use native.Mathlib.Numerals.{add-one}
+use borrow.Author.Tests.{eq-eqb, ne-eqb, le-leb, lt-leb}
+use lib.Dec.{eqb}
+use lib.ListN.{length, getD, take, drop, drop-of-length-le}
+use lib.Seq.{drop-cons}
+use Rattle.meaning.specs.Basics.{choose, both, either, clauses, every, zeros}
+use Rattle.meaning.specs.Numbers.{number}
+use Rattle.meaning.specs.Layout.{Slot, Node, nodeLength, readNodes, liveAt, isNodeMark, isEdgeMark, keepsNode, keepsEdge}
+use Rattle.meaning.specs.declared.Layout.{Layout}
+use Rattle.host.specs.Host.{states}
+use Rattle.host.specs.States.{live-nodes}
+
+-- Every element of a list, one by one.
+
+module _ {A : Type 0} (f : A → Bool) (l : List A) (i : ℕ) (d : A) where
+  pub every-more : i < length l → f (getD l i d) ≡ true → every f (drop i l) ≡ every f (drop (i + 1) l)
+  unfolding every both
+  every-more h e = rw (add-one i, drop-cons l i d h, e)
+
+  pub every-other : i < length l → f (getD l i d) ≡ false → every f (drop i l) ≡ false
+  unfolding every both
+  every-other h e = rw (drop-cons l i d h, e)
+
+  pub every-end : length l ≤ i → every f (drop i l) ≡ true
+  unfolding every
+  every-end h = rw (drop-of-length-le l h)
+
+pub both-last : (t : Bool) → t ≡ both t true
+unfolding both
+both-last true = refl
+both-last false = refl
+
+-- A node's slot.
+
+module _ (L : Layout) (b : List ℕ) where
+  pub node-free : getD b 0 0 ≡ 0 → zeros b ≡ keepsNode L b
+  unfolding keepsNode choose
+  node-free e = rw (eq-eqb (getD b 0 0) 0 e)
+
+  pub node-state : (getD b 0 0 ≡ 0 → ⊥) → (getD b 0 0 ≡ 1 → ⊥) → false ≡ keepsNode L b
+  unfolding keepsNode choose clauses both
+  node-state e s = rw (ne-eqb (getD b 0 0) 0 e, ne-eqb (getD b 0 0) 1 s)
+
+  module _ (s : getD b 0 0 ≡ 1) where
+    pub node-mark : 4 < getD b 1 0 → false ≡ keepsNode L b
+    unfolding keepsNode choose clauses both isNodeMark
+    node-mark m = rw (s, lt-leb (getD b 1 0) 4 m)
+
+    module _ (m : getD b 1 0 ≤ 4) where
+      pub node-root : 1 < getD b 2 0 → false ≡ keepsNode L b
+      unfolding keepsNode choose clauses both isNodeMark
+      node-root r = rw (s, le-leb (getD b 1 0) 4 m, lt-leb (getD b 2 0) 1 r)
+
+      module _ (r : getD b 2 0 ≤ 1) where
+        pub node-size : L .atoms < getD b 3 0 → false ≡ keepsNode L b
+        unfolding keepsNode choose clauses both isNodeMark
+        node-size n = rw (s, le-leb (getD b 1 0) 4 m, le-leb (getD b 2 0) 1 r, lt-leb (getD b 3 0) (L .atoms) n)
+
+        pub node-rest : getD b 3 0 ≤ L .atoms → zeros (drop (4 + 4 * getD b 3 0) b) ≡ keepsNode L b
+        unfolding keepsNode choose clauses both isNodeMark
+        node-rest n =
+            rw (s, le-leb (getD b 1 0) 4 m, le-leb (getD b 2 0) 1 r, le-leb (getD b 3 0) (L .atoms) n)
+            (both-last (zeros (drop (4 + 4 * getD b 3 0) b)))
+
+-- An edge's slot.
+
+pub edge-mark-low : (m : ℕ) → m ≤ 3 → true ≡ isEdgeMark m
+unfolding isEdgeMark either
+edge-mark-low m h = rw (le-leb m 3 h)
+
+pub edge-mark-high : (m : ℕ) → 3 < m → eqb m 5 ≡ isEdgeMark m
+unfolding isEdgeMark either
+edge-mark-high m h = rw (lt-leb m 3 h)
+
+module _ (L : Layout) (nodes : List (Slot Node)) (b : List ℕ) where
+  pub edge-free : getD b 0 0 ≡ 0 → zeros b ≡ keepsEdge L nodes b
+  unfolding keepsEdge choose
+  edge-free e = rw (eq-eqb (getD b 0 0) 0 e)
+
+  pub edge-state : (getD b 0 0 ≡ 0 → ⊥) → (getD b 0 0 ≡ 1 → ⊥) → false ≡ keepsEdge L nodes b
+  unfolding keepsEdge choose clauses both
+  edge-state e s = rw (ne-eqb (getD b 0 0) 0 e, ne-eqb (getD b 0 0) 1 s)
+
+  module _ (s : getD b 0 0 ≡ 1) where
+    pub edge-mark : isEdgeMark (getD b 1 0) ≡ false → false ≡ keepsEdge L nodes b
+    unfolding keepsEdge choose clauses both
+    edge-mark m = rw (s, m)
+
+    module _ (m : isEdgeMark (getD b 1 0) ≡ true) where
+      pub edge-zero : (getD b 2 0 ≡ 0 → ⊥) → false ≡ keepsEdge L nodes b
+      unfolding keepsEdge choose clauses both
+      edge-zero r = rw (s, m, ne-eqb (getD b 2 0) 0 r)
+
+      module _ (r : getD b 2 0 ≡ 0) where
+        pub edge-size : L .atoms < getD b 3 0 → false ≡ keepsEdge L nodes b
+        unfolding keepsEdge choose clauses both
+        edge-size n = rw (s, m, r, lt-leb (getD b 3 0) (L .atoms) n)
+
+        module _ (n : getD b 3 0 ≤ L .atoms) where
+          pub edge-source : liveAt nodes (number (take (L .width) (drop 4 b))) ≡ false → false ≡ keepsEdge L nodes b
+          unfolding keepsEdge choose clauses both
+          edge-source t = rw (s, m, r, le-leb (getD b 3 0) (L .atoms) n, t)
+
+          module _ (t : liveAt nodes (number (take (L .width) (drop 4 b))) ≡ true) where
+            pub edge-target : liveAt nodes (number (take (L .width) (drop (4 + L .width) b))) ≡ false → false ≡ keepsEdge L nodes b
+            unfolding keepsEdge choose clauses both
+            edge-target u = rw (s, m, r, le-leb (getD b 3 0) (L .atoms) n, t, u)
+
+            pub edge-rest : liveAt nodes (number (take (L .width) (drop (4 + L .width) b))) ≡ true
+                → zeros (drop (4 + 2 * L .width + 4 * getD b 3 0) b) ≡ keepsEdge L nodes b
+            unfolding keepsEdge choose clauses both
+            edge-rest u =
+                rw (s, m, r, le-leb (getD b 3 0) (L .atoms) n, t, u) (both-last (zeros (drop (4 + 2 * L .width + 4 * getD b 3 0) b)))
+
+-- an end of an edge, as the table's states have it
+pub live-end : (L : Layout) (nodes : List ℕ) (i j : ℕ) (r t : Bool) → L .node ≡ nodeLength L → j ≡ i
+    → r ≡ liveAt (states (L .node) nodes) j → r ≡ t → liveAt (readNodes L nodes) i ≡ t
+live-end L nodes i j r t w e h k =
+    live-nodes L nodes i
+    ∙ ap (λ (n : ℕ). liveAt (states n nodes) i) (sym w)
+    ∙ ap (λ (n : ℕ). liveAt (states (L .node) nodes) n) (sym e)
+    ∙ sym h
+    ∙ k

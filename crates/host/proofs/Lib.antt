@@ -1,0 +1,5 @@
+mod Bytes
+mod Slots
+mod Keeps
+mod Journal
+mod Answers

@@ -1,0 +1,72 @@
+-- `host::keep_edges` meets its contract. The loop's invariant: all slots keep the layout exactly where those from `i` on do.
+use Prim.Native.Nat.{_-_, _≤_}
+use mathlib.Core.List.{[]}
+use mathlib.Core.Path.{_≡_, refl, sym, ap, _∙_}
+use native.Mathlib.Nat.{div-le-self}
+use native.Mathlib.Omega.{arith}
+use borrow.Author.Needs.{needs}
+use lib.ListN.{length, drop}
+use Rattle.meaning.specs.Laws.Pieces.{length-pieces}
+use Rattle.meaning.specs.Layout.{keepsEdge, readNodes, cut}
+use Rattle.meaning.specs.Basics.{every}
+use Rattle.host.proofs.Keeps.{every-more, every-other, every-end}
+use Rattle.host.proofs.keep_edges.Statement.{statement}
+use Rattle.host.proofs.keep_edges.Tie as tie
+
+abbrev Inv-loop : tie.InvT-loop
+Inv-loop l nodes edges w n i₀ i = (i ≤ n) × (every (keepsEdge l (readNodes l nodes)) (cut w edges) ≡ every (keepsEdge l (readNodes l nodes)) (drop i (cut w edges)))
+
+abbrev μ-loop : tie.MeasureT-loop
+μ-loop l nodes edges w n i₀ i = n - i
+
+div-n : tie.Need-div-n Inv-loop μ-loop
+div-n c = search needs
+
+loop-holds : tie.Need-loop-holds Inv-loop μ-loop
+loop-holds c = (omega arith, refl)
+
+slot-requires : tie.Need-slot-requires Inv-loop μ-loop
+slot-requires c κs = search needs
+
+keeps-edge-requires : tie.Need-keeps-edge-requires Inv-loop μ-loop
+keeps-edge-requires c κs = search needs
+
+add-i : tie.Need-add-i Inv-loop μ-loop
+add-i c = omega (arith, div-le-self (length (c .before .before .before .before .before .before .before .args .edges .now)) (c .before .before .before .before .before .before .before .args .l .edge), (c .before .before .before .before .before .before .before))
+
+loop-less : tie.Need-loop-less Inv-loop μ-loop
+loop-less c = omega arith
+
+loop-again : tie.Need-loop-again Inv-loop μ-loop
+loop-again c =
+    let a = c .before .before .before .before .before .before .before .args in
+    let f = keepsEdge (a .l) (readNodes (a .l) (a .nodes .now)) in
+    (omega arith, c .before .before .before .before .loop .inv .1 ∙ every-more f (cut (a .l .edge) (a .edges .now)) (c .before .before .before .before .loop .i) [] (rw length-pieces (search needs)) (ap f (sym (c .before .before .slot .ensures .0)) ∙ sym (c .before .keeps-edge .ensures) ∙ c .if1 .taken))
+
+returns : tie.Need-returns Inv-loop μ-loop
+returns c =
+    let a = c .before .before .before .before .before .before .before .args in
+    let f = keepsEdge (a .l) (readNodes (a .l) (a .nodes .now)) in
+    rw (← (c .before .before .before .before .before .before .before .pre .edge)) (sym (c .before .before .before .before .loop .inv .1 ∙ every-other f (cut (a .l .edge) (a .edges .now)) (c .before .before .before .before .loop .i) [] (rw length-pieces (search needs)) (ap f (sym (c .before .before .slot .ensures .0)) ∙ sym (c .before .keeps-edge .ensures) ∙ c .if1 .left)))
+
+returns-2 : tie.Need-returns-2 Inv-loop μ-loop
+returns-2 c =
+    let a = c .before .before .before .before .args in
+    let f = keepsEdge (a .l) (readNodes (a .l) (a .nodes .now)) in
+    rw (← (c .before .before .before .before .pre .edge)) (sym (c .before .loop .inv .1 ∙ every-end f (cut (a .l .edge) (a .edges .now)) (c .before .loop .i) [] (rw length-pieces (search needs))))
+
+pub keep-edges-spec : {M : Type 1} → statement M
+keep-edges-spec =
+    tie.close
+    (tie.spec
+    Inv-loop
+    μ-loop
+    div-n
+    loop-holds
+    slot-requires
+    keeps-edge-requires
+    add-i
+    loop-less
+    loop-again
+    returns
+    returns-2)

@@ -1,0 +1,131 @@
+-- `host::keeps_edge` meets its contract, clause by clause.
+use Prim.Native.Nat.{_+_, _*_}
+use mathlib.Core.Bool.{true, false}
+use mathlib.Core.Path.{sym, ap, _∙_}
+use native.Mathlib.Omega.{arith}
+use borrow.Author.Tests.{not-true, not-false}
+use borrow.Author.Needs.{needs}
+use lib.ListN.{drop}
+use Rattle.meaning.specs.Basics.{zeros}
+use Rattle.host.proofs.Keeps.{edge-free, edge-state, edge-mark, edge-zero, edge-size, edge-source, edge-target, edge-rest, live-end}
+use Rattle.host.proofs.keeps_edge.Statement.{statement}
+use Rattle.host.proofs.keeps_edge.Tie as tie
+
+shared-slice-read-state : tie.Need-shared-slice-read-state
+shared-slice-read-state c = search needs
+
+zeros-from-requires : tie.Need-zeros-from-requires
+zeros-from-requires c κs = search needs
+
+returns : tie.Need-returns
+returns c = c .zeros-from .ensures ∙ edge-free (c .before .before .before .before .before .args .l) _ (c .before .before .before .before .before .args .b .now) (c .before .if1 .taken)
+
+returns-2 : tie.Need-returns-2
+returns-2 c = edge-state (c .before .before .before .before .before .args .l) _ (c .before .before .before .before .before .args .b .now) (c .before .if1 .left) (c .if2 .taken)
+
+shared-slice-read-edge-mark : tie.Need-shared-slice-read-edge-mark
+shared-slice-read-edge-mark c = search needs
+
+edge-mark-requires : tie.Need-edge-mark-requires
+edge-mark-requires c κs = search needs
+
+returns-3 : tie.Need-returns-3
+returns-3 c = edge-mark (c .before .before .before .before .before .before .before .before .args .l) _ (c .before .before .before .before .before .before .before .before .args .b .now) (c .before .before .before .if2 .left) (sym (c .before .edge-mark .ensures) ∙ not-true _ (c .if3 .taken))
+
+shared-slice-read-if4 : tie.Need-shared-slice-read-if4
+shared-slice-read-if4 c = search needs
+
+returns-4 : tie.Need-returns-4
+returns-4 c = edge-zero (c .before .before .before .before .before .before .before .before .before .before .args .l) _ (c .before .before .before .before .before .before .before .before .before .before .args .b .now) (c .before .before .before .before .before .if2 .left) (sym (c .before .before .before .edge-mark .ensures) ∙ not-false _ (c .before .before .if3 .left)) (c .if4 .taken)
+
+shared-slice-read-wide : tie.Need-shared-slice-read-wide
+shared-slice-read-wide c = search needs
+
+wide-requires : tie.Need-wide-requires
+wide-requires c κs = search needs
+
+returns-5 : tie.Need-returns-5
+returns-5 c = edge-size (c .before .before .before .before .before .before .before .before .before .before .before .before .before .before .args .l) _ (c .before .before .before .before .before .before .before .before .before .before .before .before .before .before .args .b .now) (c .before .before .before .before .before .before .before .before .before .if2 .left) (sym (c .before .before .before .before .before .before .before .edge-mark .ensures) ∙ not-false _ (c .before .before .before .before .before .before .if3 .left)) (c .before .before .before .before .if4 .left) (omega (arith, c .before .before .wide .ensures .0, c .if5 .taken))
+
+slot-number-requires : tie.Need-slot-number-requires
+slot-number-requires c κs = search needs
+
+live-slot-requires : tie.Need-live-slot-requires
+live-slot-requires c κs = search needs
+
+returns-6 : tie.Need-returns-6
+returns-6 c =
+    let l = c .before .before .before .before .before .before .before .before .before .before .before .before .before .before .before .before .before .args .l in
+    edge-source l _ (c .before .before .before .before .before .before .before .before .before .before .before .before .before .before .before .before .before .args .b .now) (c .before .before .before .before .before .before .before .before .before .before .before .before .if2 .left) (sym (c .before .before .before .before .before .before .before .before .before .before .edge-mark .ensures) ∙ not-false _ (c .before .before .before .before .before .before .before .before .before .if3 .left)) (c .before .before .before .before .before .before .before .if4 .left) (omega (arith, c .before .before .before .before .before .wide .ensures .0, c .before .before .before .if5 .left))
+    (live-end l (c .before .before .before .before .before .before .before .before .before .before .before .before .before .before .before .before .before .args .nodes .now) _ _ _ false (c .before .before .before .before .before .before .before .before .before .before .before .before .before .before .before .before .before .pre .0 .node) (c .before .before .slot-number .ensures) (c .before .live-slot .ensures) (not-true _ (c .if6 .taken)))
+
+add-slot-number : tie.Need-add-slot-number
+add-slot-number c = search needs
+
+slot-number-requires-2 : tie.Need-slot-number-requires-2
+slot-number-requires-2 c κs = search needs
+
+live-slot-requires-2 : tie.Need-live-slot-requires-2
+live-slot-requires-2 c κs = search needs
+
+returns-7 : tie.Need-returns-7
+returns-7 c =
+    let l = c .before .before .before .before .before .before .before .before .before .before .before .before .before .before .before .before .before .before .before .before .args .l in
+    edge-target l _ (c .before .before .before .before .before .before .before .before .before .before .before .before .before .before .before .before .before .before .before .before .args .b .now) (c .before .before .before .before .before .before .before .before .before .before .before .before .before .before .before .if2 .left) (sym (c .before .before .before .before .before .before .before .before .before .before .before .before .before .edge-mark .ensures) ∙ not-false _ (c .before .before .before .before .before .before .before .before .before .before .before .before .if3 .left)) (c .before .before .before .before .before .before .before .before .before .before .if4 .left) (omega (arith, c .before .before .before .before .before .before .before .before .wide .ensures .0, c .before .before .before .before .before .before .if5 .left))
+    (live-end l (c .before .before .before .before .before .before .before .before .before .before .before .before .before .before .before .before .before .before .before .before .args .nodes .now) _ _ _ true (c .before .before .before .before .before .before .before .before .before .before .before .before .before .before .before .before .before .before .before .before .pre .0 .node) (c .before .before .before .before .before .slot-number .ensures) (c .before .before .before .before .live-slot .ensures) (not-false _ (c .before .before .before .if6 .left)))
+    (live-end l (c .before .before .before .before .before .before .before .before .before .before .before .before .before .before .before .before .before .before .before .before .args .nodes .now) _ _ _ false (c .before .before .before .before .before .before .before .before .before .before .before .before .before .before .before .before .before .before .before .before .pre .0 .node) (c .before .before .slot-number2 .ensures) (c .before .live-slot2 .ensures) (not-true _ (c .if7 .taken)))
+
+mul-zeros-from : tie.Need-mul-zeros-from
+mul-zeros-from c = search needs
+
+add-zeros-from : tie.Need-add-zeros-from
+add-zeros-from c = search needs
+
+mul-zeros-from-2 : tie.Need-mul-zeros-from-2
+mul-zeros-from-2 c = search needs
+
+add-zeros-from-2 : tie.Need-add-zeros-from-2
+add-zeros-from-2 c = search needs
+
+zeros-from-requires-2 : tie.Need-zeros-from-requires-2
+zeros-from-requires-2 c κs = search needs
+
+returns-8 : tie.Need-returns-8
+returns-8 c =
+    let l = c .before .before .before .before .before .before .before .before .before .before .before .before .before .before .before .before .before .before .before .before .before .args .l in
+    let b = c .before .before .before .before .before .before .before .before .before .before .before .before .before .before .before .before .before .before .before .before .before .args .b .now in
+    c .zeros-from2 .ensures
+    ∙ ap (λ n. zeros (drop (4 + 2 * l .width + 4 * n) b)) (c .before .before .before .before .before .before .before .before .before .wide .ensures .0)
+    ∙ edge-rest l _ b (c .before .before .before .before .before .before .before .before .before .before .before .before .before .before .before .before .if2 .left) (sym (c .before .before .before .before .before .before .before .before .before .before .before .before .before .before .edge-mark .ensures) ∙ not-false _ (c .before .before .before .before .before .before .before .before .before .before .before .before .before .if3 .left)) (c .before .before .before .before .before .before .before .before .before .before .before .if4 .left) (omega (arith, c .before .before .before .before .before .before .before .before .before .wide .ensures .0, c .before .before .before .before .before .before .before .if5 .left))
+    (live-end l (c .before .before .before .before .before .before .before .before .before .before .before .before .before .before .before .before .before .before .before .before .before .args .nodes .now) _ _ _ true (c .before .before .before .before .before .before .before .before .before .before .before .before .before .before .before .before .before .before .before .before .before .pre .0 .node) (c .before .before .before .before .before .before .slot-number .ensures) (c .before .before .before .before .before .live-slot .ensures) (not-false _ (c .before .before .before .before .if6 .left)))
+    (live-end l (c .before .before .before .before .before .before .before .before .before .before .before .before .before .before .before .before .before .before .before .before .before .args .nodes .now) _ _ _ true (c .before .before .before .before .before .before .before .before .before .before .before .before .before .before .before .before .before .before .before .before .before .pre .0 .node) (c .before .before .before .slot-number2 .ensures) (c .before .before .live-slot2 .ensures) (not-false _ (c .before .if7 .left)))
+
+pub keeps-edge-spec : {M : Type 1} → statement M
+keeps-edge-spec =
+    tie.close
+    (tie.spec
+    shared-slice-read-state
+    zeros-from-requires
+    returns
+    returns-2
+    shared-slice-read-edge-mark
+    edge-mark-requires
+    returns-3
+    shared-slice-read-if4
+    returns-4
+    shared-slice-read-wide
+    wide-requires
+    returns-5
+    slot-number-requires
+    live-slot-requires
+    returns-6
+    add-slot-number
+    slot-number-requires-2
+    live-slot-requires-2
+    returns-7
+    mul-zeros-from
+    add-zeros-from
+    mul-zeros-from-2
+    add-zeros-from-2
+    zeros-from-requires-2
+    returns-8)

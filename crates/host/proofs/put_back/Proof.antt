@@ -1,0 +1,73 @@
+-- `host::put_back` meets its contract: a record that keeps to its table names a slot of it.
+use Prim.Native.Nat.{_*_}
+use native.Mathlib.Omega.{arith}
+use borrow.Author.Needs.{needs}
+use lib.ListN.{length}
+use Rattle.host.proofs.Journal.{node-there, edge-there, part-length, put-node, put-edge}
+use Rattle.host.proofs.put_back.Statement.{statement}
+use Rattle.host.proofs.put_back.Tie as tie
+
+mul-start : tie.Need-mul-start
+mul-start c = search needs
+
+slot-number-requires : tie.Need-slot-number-requires
+slot-number-requires c κs = search needs
+
+shared-slice-read-kind : tie.Need-shared-slice-read-kind
+shared-slice-read-kind c = search needs
+
+add-part : tie.Need-add-part
+add-part c = search needs
+
+part-requires : tie.Need-part-requires
+part-requires c κs = search needs
+
+put-slot-requires : tie.Need-put-slot-requires
+put-slot-requires c κs =
+    let a = c .before .before .before .before .before .before .before .before .args in
+    (node-there (a .l) (length (a .nodes .now)) (length (a .edges .now)) _ (a .b .now) (c .before .before .before .before .before .before .before .before .pre .0 .node) (c .before .before .before .before .before .before .before .before .pre .1 .1) (c .before .before .if1 .taken) (c .before .before .before .before .slot-number .ensures), part-length (2 * a .l .width) (a .l .node) (a .b .now) _ (c .part .ensures) (omega (arith, c .before .before .before .before .before .before .before .before .pre .0 .node, c .before .before .before .before .before .before .before .before .pre .1 .0)))
+
+add-part-2 : tie.Need-add-part-2
+add-part-2 c = search needs
+
+part-requires-2 : tie.Need-part-requires-2
+part-requires-2 c κs = search needs
+
+put-slot-requires-2 : tie.Need-put-slot-requires-2
+put-slot-requires-2 c κs =
+    let a = c .before .before .before .before .before .before .before .before .args in
+    (edge-there (a .l) (length (a .nodes .now)) (length (a .edges .now)) _ (a .b .now) (c .before .before .before .before .before .before .before .before .pre .0 .edge) (c .before .before .before .before .before .before .before .before .pre .1 .1) (c .before .before .if1 .left) (c .before .before .before .before .slot-number .ensures), part-length (2 * a .l .width) (a .l .edge) (a .b .now) _ (c .part2 .ensures) (omega (arith, c .before .before .before .before .before .before .before .before .pre .0 .edge, c .before .before .before .before .before .before .before .before .pre .1 .0)))
+
+same-length : tie.Need-same-length
+same-length c = search needs
+
+returns : tie.Need-returns
+returns c =
+    let a = c .before .before .before .before .before .before .before .before .before .before .before .args in
+    put-node (a .l) (a .b .now) (a .nodes .now) (c .before .before .put-slot .last .0) (a .edges .now) _ _ (c .before .before .before .before .before .before .before .before .before .before .before .pre .0 .node) (c .before .before .before .before .before .if1 .taken) (c .before .before .before .before .before .before .before .slot-number .ensures) (c .before .before .before .part .ensures) (c .before .before .put-slot .ensures .0)
+
+same-length-2 : tie.Need-same-length-2
+same-length-2 c = search needs
+
+returns-2 : tie.Need-returns-2
+returns-2 c =
+    let a = c .before .before .before .before .before .before .before .before .before .before .before .args in
+    put-edge (a .l) (a .b .now) (a .nodes .now) (a .edges .now) (c .before .before .put-slot2 .last .0) _ _ (c .before .before .before .before .before .before .before .before .before .before .before .pre .0 .edge) (c .before .before .before .before .before .if1 .left) (c .before .before .before .before .before .before .before .slot-number .ensures) (c .before .before .before .part2 .ensures) (c .before .before .put-slot2 .ensures .0)
+
+pub put-back-spec : {M : Type 1} → statement M
+put-back-spec =
+    tie.close
+    (tie.spec
+    mul-start
+    slot-number-requires
+    shared-slice-read-kind
+    add-part
+    part-requires
+    put-slot-requires
+    add-part-2
+    part-requires-2
+    put-slot-requires-2
+    same-length
+    returns
+    same-length-2
+    returns-2)

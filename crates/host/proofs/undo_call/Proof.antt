@@ -1,0 +1,91 @@
+-- `host::undo_call` meets its contract: what it leaves, refused or not, is what the definition says.
+use mathlib.Core.Path.{sym, ap, _∙_}
+use native.Mathlib.Omega.{arith}
+use borrow.Author.Needs.{needs}
+use Rattle.meaning.specs.Calls.{answerNumber}
+use Rattle.host.specs.Host.{refusalOf}
+use Rattle.host.proofs.Answers.{sound, leaves-refused, leaves-undone}
+use Rattle.host.proofs.undo_call.Statement.{statement}
+use Rattle.host.proofs.undo_call.Tie as tie
+
+undo-check-requires : tie.Need-undo-check-requires
+undo-check-requires c κs = search needs
+
+enum-known-check : tie.Need-enum-known-check
+enum-known-check c = search needs
+
+refuse-requires : tie.Need-refuse-requires
+refuse-requires c κs = search needs
+
+same-length : tie.Need-same-length
+same-length c = search needs
+
+same-length-2 : tie.Need-same-length-2
+same-length-2 c = search needs
+
+same-length-3 : tie.Need-same-length-3
+same-length-3 c = search needs
+
+same-length-4 : tie.Need-same-length-4
+same-length-4 c = search needs
+
+returns : tie.Need-returns
+unfolding refusalOf answerNumber
+returns c =
+    let a = c .before .before .before .before .before .before .before .before .before .before .before .before .before .before .before .before .args in
+    leaves-refused (a .l) (a .nodes .now) (a .edges .now) (a .journal .now) (a .count) (a .report .now) (c .before .before .before .before .before .check .given .0 .0) (c .before .before .refuse .last .0) (sym (ap refusalOf (c .before .before .before .before .before .check .given .1)) ∙ c .before .before .before .before .before .before .before .undo-check .ensures) (c .before .before .refuse .ensures)
+
+enum-told : tie.Need-enum-told
+enum-told c = search needs
+
+undo-to-requires : tie.Need-undo-to-requires
+unfolding refusalOf
+undo-to-requires c κs =
+    let a = c .before .before .before .before .before .before .before .before .before .before .before .before .before .before .args in
+    let s = sound (a .l) (a .nodes .now) (a .edges .now) (a .journal .now) (a .count) (a .report .now) (sym (c .before .before .before .before .before .undo-check .ensures) ∙ ap refusalOf (c .before .before .before .enum-told .given .1)) in
+    (c .before .before .before .before .before .before .before .before .before .before .before .before .before .before .pre, ((omega arith, s .within), s .kept))
+
+put-report-requires : tie.Need-put-report-requires
+unfolding refusalOf
+put-report-requires c κs =
+    let a = c .before .before .before .before .before .before .before .before .before .before .before .before .before .before .before .before .before .before .before .before .before .before .args in
+    sound (a .l) (a .nodes .now) (a .edges .now) (a .journal .now) (a .count) (a .report .now) (sym (c .before .before .before .before .before .before .before .before .before .before .before .before .before .undo-check .ensures) ∙ ap refusalOf (c .before .before .before .before .before .before .before .before .before .before .before .enum-told .given .1)) .reports
+
+same-length-5 : tie.Need-same-length-5
+same-length-5 c = search needs
+
+same-length-6 : tie.Need-same-length-6
+same-length-6 c = search needs
+
+same-length-7 : tie.Need-same-length-7
+same-length-7 c = search needs
+
+same-length-8 : tie.Need-same-length-8
+same-length-8 c = search needs
+
+returns-2 : tie.Need-returns-2
+unfolding refusalOf answerNumber
+returns-2 c =
+    let a = c .before .before .before .before .before .before .before .before .before .before .before .before .before .before .before .before .before .before .before .before .before .before .before .before .before .args in
+    leaves-undone (a .l) (a .nodes .now) (a .edges .now) (a .journal .now) (a .count) (a .report .now) (c .before .before .before .before .before .before .before .before .before .before .undo-to .last .1 .0) (c .before .before .before .before .before .before .before .before .before .before .undo-to .last .1 .1 .0) (c .before .before .before .before .before .before .before .before .before .before .undo-to .last .1 .1 .1 .0) (c .before .before .put-report .last .0) (sym (ap refusalOf (c .before .before .before .before .before .before .before .before .before .before .before .before .before .before .enum-told .given .1)) ∙ c .before .before .before .before .before .before .before .before .before .before .before .before .before .before .before .before .undo-check .ensures) (c .before .before .before .before .before .before .before .before .before .before .undo-to .kept .1 .0) (c .before .before .before .before .before .before .before .before .before .before .undo-to .kept .1 .1 .0) (c .before .before .before .before .before .before .before .before .before .before .undo-to .ensures .0) (c .before .before .before .before .before .before .before .before .before .before .undo-to .ensures .1) (c .before .before .put-report .ensures)
+
+pub undo-call-spec : {M : Type 1} → statement M
+undo-call-spec =
+    tie.close
+    (tie.spec
+    undo-check-requires
+    enum-known-check
+    refuse-requires
+    same-length
+    same-length-2
+    same-length-3
+    same-length-4
+    returns
+    enum-told
+    undo-to-requires
+    put-report-requires
+    same-length-5
+    same-length-6
+    same-length-7
+    same-length-8
+    returns-2)

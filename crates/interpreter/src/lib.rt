@@ -1,0 +1,19 @@
+// The calls, for a driver in C: byte buffers and numbers in, a number out. What each leaves is fixed on all inputs.
+ghost use Rattle.meaning.specs.Layout.{base};
+ghost use Rattle.meaning.specs.Calls.{undo};
+ghost use Rattle.host.specs.Host.{Leaves};
+use meaning::Layout;
+
+// Stores the counted records of the journal back from last to first, zeros them, and reports 0 steps and the count.
+#[no_mangle]
+pub extern "C" fn nhiemavut_undo(
+    nodes: &mut [u8],
+    edges: &mut [u8],
+    journal: &mut [u8],
+    count: u32,
+    report: &mut [u8],
+) -> u32
+    ensures { λ r. ⌜ Leaves (undo base (now (nodes .entry)) (now (edges .entry)) (now (journal .entry)) count (now (report .entry))) r (now (nodes .exit)) (now (edges .exit)) (now (journal .exit)) (now (report .exit)) ⌝ }
+{
+    host::answer_number(host::undo_call(Layout::base(), nodes, edges, journal, count, report))
+}

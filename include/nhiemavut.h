@@ -1,0 +1,64 @@
+/*
+ * Nhiemavut: graph programs over lent tables, with a journal to undo.
+ *
+ * All buffers belong to the caller and are passed as a pointer and a length in bytes. Nothing is kept
+ * between calls and nothing is allocated. Buffers of one call must not overlap. A buffer of no bytes may
+ * have any pointer.
+ *
+ *   buffer    slot      most slots   a slot holds
+ *   nodes     20 bytes  512          state, mark, root, label length, four atoms
+ *   edges     24 bytes  1,024        state, mark, zero, label length, source (2), target (2), four atoms
+ *   journal   28 bytes  1,024        kind, zero, slot number (2), the slot's bytes before the change
+ *   report    8 bytes in all         steps (4), records (4)
+ *
+ * Numbers are big-endian, atoms signed 32-bit. A table may have no slots. A free slot is all zero.
+ */
+#ifndef NHIEMAVUT_H
+#define NHIEMAVUT_H
+
+#include <stddef.h>
+#include <stdint.h>
+
+#ifdef __cplusplus
+extern "C" {
+#endif
+
+enum {
+    NHIEMAVUT_NODE_BYTES = 20,
+    NHIEMAVUT_EDGE_BYTES = 24,
+    NHIEMAVUT_RECORD_BYTES = 28,
+    NHIEMAVUT_REPORT_BYTES = 8,
+    NHIEMAVUT_MOST_NODES = 512,
+    NHIEMAVUT_MOST_EDGES = 1024,
+    NHIEMAVUT_MOST_RECORDS = 1024
+};
+
+/* The answers of a call. */
+enum {
+    NHIEMAVUT_RESULT = 0,
+    NHIEMAVUT_BAD_REPORT = 9,   /* the report isn't 8 bytes; it is left as it was */
+    NHIEMAVUT_BAD_NODES = 10,   /* the node table's length is no multiple of its slot's, or has too many slots */
+    NHIEMAVUT_BAD_EDGES = 11,   /* the same of the edge table */
+    NHIEMAVUT_BAD_JOURNAL = 12, /* the same of the journal */
+    NHIEMAVUT_BAD_RECORDS = 20  /* undo: the count is over the journal's records, or a counted record has a kind
+                                   other than 1 or 2, a second byte other than 0, or a slot outside its table */
+};
+
+/*
+ * Undoes the first `count` records of the journal: stores each record's bytes back in the slot that it names,
+ * from the last to the first, and zeros those records.
+ *
+ * Answers 0, with 0 steps and the count in the report; or the lowest of 9, 10, 11, 12 and 20 that applies. A refused
+ * call leaves both tables and the journal as they were, and writes zeros in the report, except on 9.
+ */
+uint32_t nhiemavut_undo(uint8_t *nodes, size_t nodes_length,
+                        uint8_t *edges, size_t edges_length,
+                        uint8_t *journal, size_t journal_length,
+                        uint32_t count,
+                        uint8_t *report, size_t report_length);
+
+#ifdef __cplusplus
+}
+#endif
+
+#endif
