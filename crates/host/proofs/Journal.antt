@@ -26,13 +26,13 @@ use Rattle.host.proofs.Keeps.{both-last}
 -- Writing one.
 
 -- a part put in the middle
-put-mid : (a b c d : List ℕ) (n k : ℕ) → length a ≡ n → length b ≡ k → putMid n k (a ++ (b ++ c)) d ≡ a ++ (d ++ c)
+pub put-mid : (a b c d : List ℕ) (n k : ℕ) → length a ≡ n → length b ≡ k → putMid n k (a ++ (b ++ c)) d ≡ a ++ (d ++ c)
 put-mid a b c d n k h e = rw (take-at a (b ++ c) n h, drop-at a (b ++ c) n h, drop-at b c k e)
 
 front-kind : (kind n m : ℕ) → n ≡ suc m → set (replicate n 0) 0 kind ≡ kind ∷ replicate m 0
 front-kind kind n m e = rw e
 
-zeros-split : (n p q : ℕ) → n ≡ p + q → replicate {A = ℕ} n 0 ≡ replicate p 0 ++ replicate q 0
+pub zeros-split : (n p q : ℕ) → n ≡ p + q → replicate {A = ℕ} n 0 ≡ replicate p 0 ++ replicate q 0
 zeros-split n p q e = rw e (sym (replicate-append-replicate p q 0))
 
 pub record-bytes : (width edge kind i : ℕ) (before : List ℕ) → 1 ≤ width → length before ≤ edge

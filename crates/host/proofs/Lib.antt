@@ -2,4 +2,5 @@ mod Bytes
 mod Slots
 mod Keeps
 mod Journal
+mod Held
 mod Answers

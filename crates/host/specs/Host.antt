@@ -8,7 +8,8 @@ use native.Mathlib.Omega.{arith}
 use lib.ListN.{getD, take, drop, replicate}
 use lib.Dec.{eqb}
 use Rattle.meaning.specs.Basics.{choose}
-use Rattle.meaning.specs.Layout.{Sized, base, Slot, free, live, Tables, undone, nodeLength, edgeLength, recordLength, pieces, cut}
+use Rattle.meaning.specs.Layout.{Sized, base, Slot, Node, Edge, free, live, readNodes, readEdges, Tables, undone, nodeLength, edgeLength, recordLength, pieces, cut}
+use Rattle.meaning.specs.Matching.{nodeIn, edgeIn}
 use Rattle.meaning.specs.Calls.{Left, answerNumber, readRecord}
 use Rattle.meaning.specs.declared.Layout.{Layout}
 use Rattle.meaning.specs.declared.Refusal.{Refusal}
@@ -24,6 +25,13 @@ abbrev pub states : ℕ → List ℕ → List (Slot (Unit {0}))
 states w bs = map stateOf (cut w bs)
 
 module _ (L : Layout) where
+  -- what a slot of a table of nodes, and of edges, holds
+  abbrev pub nodeHeld : List ℕ → ℕ → Node
+  nodeHeld nodes i = nodeIn (getD (readNodes L nodes) i free)
+
+  abbrev pub edgeHeld : List ℕ → ℕ → Edge
+  edgeHeld edges i = edgeIn (getD (readEdges L edges) i free)
+
   -- both tables as slots
   abbrev pub tablesOf : List ℕ → List ℕ → Tables (List ℕ) (List ℕ)
   tablesOf nodes edges = record { nodes = cut (nodeLength L) nodes; edges = cut (edgeLength L) edges }

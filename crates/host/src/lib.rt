@@ -2,17 +2,17 @@
 // Nothing outside this crate multiplies a slot number by a slot's length.
 ghost use mathlib.Core.Path.{_≡_};
 ghost use mathlib.Core.Bool.{true, false};
-ghost use mathlib.Core.List.{List, []};
+ghost use mathlib.Core.List.{List, [], _∷_, _++_};
 ghost use Prim.Native.Nat.{_+_, _-_, _*_, _/_, _^_, _<_, _≤_};
 ghost use lib.Dec.{eqb};
 ghost use lib.ListN.{length, getD, set, take, drop, replicate};
 ghost use Rattle.meaning.specs.Basics.{choose, every, zeros, firstFailing};
 ghost use Rattle.meaning.specs.Numbers.{number, bytes};
-ghost use Rattle.meaning.specs.Layout.{Sized, fitsTable, keepsNode, keepsEdge, keepsLayout, isEdgeMark, readNodes, liveAt, nodeLength, edgeLength, recordLength, cut, recordBytes, put};
+ghost use Rattle.meaning.specs.Layout.{Sized, fitsTable, keepsNode, keepsEdge, keepsLayout, isEdgeMark, live, readNodes, readEdges, atomBytes, writeNode, writeEdge, liveAt, nodeLength, edgeLength, recordLength, cut, recordBytes, put};
 ghost use Rattle.meaning.specs.Applying.{lowestFree, freeSlots};
 ghost use Rattle.meaning.specs.Calls.{readRecord, keepsRecord, keepsRecords, lengthChecks, undoRefusal, reportOf, undo, answerNumber, refusalNumber, stopNumber};
 ghost use Rattle.meaning.specs.Laws.Pieces.{stored};
-ghost use Rattle.host.specs.Host.{states, tablesOf, recordsFrom, putBack, clearedFrom, refusalOf, Leaves};
+ghost use Rattle.host.specs.Host.{states, nodeHeld, edgeHeld, tablesOf, recordsFrom, putBack, clearedFrom, refusalOf, Leaves};
 use meaning::Answer;
 use meaning::Layout;
 use meaning::Refusal;
@@ -163,6 +163,192 @@ pub fn free_slots(table: &[u8], w: usize) -> usize
     free
 }
 
+// What a live slot holds.
+
+pub fn node_mark(l: Layout, nodes: &[u8], i: usize) -> u8
+    requires { ⌜ Sized l ⌝ }
+    requires { ⌜ liveAt (readNodes l (now nodes)) i ≡ true ⌝ }
+    ensures { λ r. ⌜ r ≡ nodeHeld l (now (nodes .entry)) i .mark ⌝ }
+{
+    let b = slot(nodes, l.node, i);
+    b[1]
+}
+
+pub fn node_root(l: Layout, nodes: &[u8], i: usize) -> u8
+    requires { ⌜ Sized l ⌝ }
+    requires { ⌜ liveAt (readNodes l (now nodes)) i ≡ true ⌝ }
+    ensures { λ r. ⌜ r ≡ nodeHeld l (now (nodes .entry)) i .root ⌝ }
+{
+    let b = slot(nodes, l.node, i);
+    b[2]
+}
+
+// How many atoms the node's label has.
+pub fn node_size(l: Layout, nodes: &[u8], i: usize) -> usize
+    requires { ⌜ Sized l ⌝ }
+    requires { ⌜ liveAt (readNodes l (now nodes)) i ≡ true ⌝ }
+    ensures { λ r. ⌜ r ≡ length (nodeHeld l (now (nodes .entry)) i .label) ⌝ }
+{
+    let b = slot(nodes, l.node, i);
+    fields::wide(b[3])
+}
+
+// The atom of number j in the node's label, as its word.
+pub fn node_atom(l: Layout, nodes: &[u8], i: usize, j: usize) -> u32
+    requires { ⌜ Sized l ⌝ }
+    requires { ⌜ liveAt (readNodes l (now nodes)) i ≡ true ⌝ }
+    requires { ⌜ (j < length (nodeHeld l (now nodes) i .label)) × (j < l .atoms) ⌝ }
+    ensures { λ r. ⌜ r ≡ getD (nodeHeld l (now (nodes .entry)) i .label) j 0 ⌝ }
+{
+    let b = slot(nodes, l.node, i);
+    fields::number4(b, 4 + 4 * j) as u32
+}
+
+pub fn edge_mark(l: Layout, edges: &[u8], i: usize) -> u8
+    requires { ⌜ Sized l ⌝ }
+    requires { ⌜ liveAt (readEdges l (now edges)) i ≡ true ⌝ }
+    ensures { λ r. ⌜ r ≡ edgeHeld l (now (edges .entry)) i .mark ⌝ }
+{
+    let b = slot(edges, l.edge, i);
+    b[1]
+}
+
+pub fn edge_source(l: Layout, edges: &[u8], i: usize) -> usize
+    requires { ⌜ Sized l ⌝ }
+    requires { ⌜ liveAt (readEdges l (now edges)) i ≡ true ⌝ }
+    ensures { λ r. ⌜ r ≡ edgeHeld l (now (edges .entry)) i .source ⌝ }
+{
+    let b = slot(edges, l.edge, i);
+    slot_number(b, 4, l.width)
+}
+
+pub fn edge_target(l: Layout, edges: &[u8], i: usize) -> usize
+    requires { ⌜ Sized l ⌝ }
+    requires { ⌜ liveAt (readEdges l (now edges)) i ≡ true ⌝ }
+    ensures { λ r. ⌜ r ≡ edgeHeld l (now (edges .entry)) i .target ⌝ }
+{
+    let b = slot(edges, l.edge, i);
+    let width = l.width;
+    slot_number(b, 4 + width, width)
+}
+
+// How many atoms the edge's label has.
+pub fn edge_size(l: Layout, edges: &[u8], i: usize) -> usize
+    requires { ⌜ Sized l ⌝ }
+    requires { ⌜ liveAt (readEdges l (now edges)) i ≡ true ⌝ }
+    ensures { λ r. ⌜ r ≡ length (edgeHeld l (now (edges .entry)) i .label) ⌝ }
+{
+    let b = slot(edges, l.edge, i);
+    fields::wide(b[3])
+}
+
+// The atom of number j in the edge's label, as its word.
+pub fn edge_atom(l: Layout, edges: &[u8], i: usize, j: usize) -> u32
+    requires { ⌜ Sized l ⌝ }
+    requires { ⌜ liveAt (readEdges l (now edges)) i ≡ true ⌝ }
+    requires { ⌜ (j < length (edgeHeld l (now edges) i .label)) × (j < l .atoms) ⌝ }
+    ensures { λ r. ⌜ r ≡ getD (edgeHeld l (now (edges .entry)) i .label) j 0 ⌝ }
+{
+    let b = slot(edges, l.edge, i);
+    let width = l.width;
+    fields::number4(b, 4 + 2 * width + 4 * j) as u32
+}
+
+// Storing a slot.
+
+// Writes atoms in the front of a part.
+fn put_atoms(to: &mut [u8], label: &[u32])
+    requires { ⌜ length (now label) * 4 ≤ length (now to) ⌝ }
+    ensures { λ _. ⌜ now (to .exit) ≡ atomBytes (now (label .entry)) ++ drop (length (now (label .entry)) * 4) (now (to .entry)) ⌝ }
+{
+    let mut j: usize = 0;
+    while j < label.len() {
+        let start = j * 4;
+        let end = start + 4;
+        put_number(&mut to[start..end], label[j] as usize);
+        j += 1;
+    }
+}
+
+// Zeros a part, and writes the bytes that a live node's slot and a live edge's begin with.
+fn put_head(to: &mut [u8], mark: u8, third: u8, size: u8)
+    requires { ⌜ 4 ≤ length (now to) ⌝ }
+    ensures { λ _. ⌜ now (to .exit) ≡ 1 ∷ mark ∷ third ∷ size ∷ replicate (length (now (to .entry)) - 4) 0 ⌝ }
+{
+    clear(to);
+    to[0] = 1;
+    to[1] = mark;
+    to[2] = third;
+    to[3] = size;
+}
+
+// Writes a live node's bytes in a part.
+fn put_node(l: Layout, to: &mut [u8], mark: u8, root: u8, label: &[u32])
+    requires { ⌜ Sized l ⌝ }
+    requires { ⌜ (length (now to) ≡ nodeLength l) × (length (now label) ≤ l .atoms) ⌝ }
+    ensures { λ _. ⌜ now (to .exit) ≡ writeNode l (live (record { mark = mark; root = root; label = now (label .entry) })) ⌝ }
+{
+    put_head(to, mark, root, label.len() as u8);
+    put_atoms(&mut to[4..], label);
+}
+
+// Stores a live node in slot i.
+pub fn store_node(l: Layout, nodes: &mut [u8], i: usize, mark: u8, root: u8, label: &[u32])
+    requires { ⌜ Sized l ⌝ }
+    requires { ⌜ (i < length (now nodes) / nodeLength l) × (length (now label) ≤ l .atoms) ⌝ }
+    ensures { λ _. ⌜ now (nodes .exit) ≡ stored (nodeLength l) i (writeNode l (live (record { mark = mark; root = root; label = now (label .entry) }))) (now (nodes .entry)) ⌝ }
+{
+    let w = l.node;
+    let start = i * w;
+    let end = start + w;
+    put_node(l, &mut nodes[start..end], mark, root, label);
+}
+
+// Writes a live edge's bytes in a part.
+fn put_edge(l: Layout, to: &mut [u8], mark: u8, source: usize, target: usize, label: &[u32])
+    requires { ⌜ Sized l ⌝ }
+    requires { ⌜ (length (now to) ≡ edgeLength l) × (length (now label) ≤ l .atoms) ⌝ }
+    ensures { λ _. ⌜ now (to .exit) ≡ writeEdge l (live (record { mark = mark; source = source; target = target; label = now (label .entry) })) ⌝ }
+{
+    let width = l.width;
+    let middle = 4 + width;
+    let end = middle + width;
+    put_head(to, mark, 0, label.len() as u8);
+    put_number(&mut to[4..middle], source);
+    put_number(&mut to[middle..end], target);
+    put_atoms(&mut to[end..], label);
+}
+
+// Stores a live edge in slot i.
+pub fn store_edge(
+    l: Layout,
+    edges: &mut [u8],
+    i: usize,
+    mark: u8,
+    source: usize,
+    target: usize,
+    label: &[u32],
+)
+    requires { ⌜ Sized l ⌝ }
+    requires { ⌜ (i < length (now edges) / edgeLength l) × (length (now label) ≤ l .atoms) ⌝ }
+    ensures { λ _. ⌜ now (edges .exit) ≡ stored (edgeLength l) i (writeEdge l (live (record { mark = mark; source = source; target = target; label = now (label .entry) }))) (now (edges .entry)) ⌝ }
+{
+    let w = l.edge;
+    let start = i * w;
+    let end = start + w;
+    put_edge(l, &mut edges[start..end], mark, source, target, label);
+}
+
+// Frees slot i.
+pub fn free_slot(table: &mut [u8], w: usize, i: usize)
+    requires { ⌜ i < length (now table) / w ⌝ }
+    ensures { λ _. ⌜ now (table .exit) ≡ stored w i (replicate w 0) (now (table .entry)) ⌝ }
+{
+    let start = i * w;
+    let end = start + w;
+    clear(&mut table[start..end]);
+}
+
 // The layout test.
 
 fn keeps_node(l: Layout, b: &[u8]) -> bool
@@ -191,7 +377,7 @@ fn keeps_node(l: Layout, b: &[u8]) -> bool
 }
 
 // Whether an edge's mark is one for edges.
-fn edge_mark(mark: u8) -> bool
+fn is_edge_mark(mark: u8) -> bool
     ensures { λ r. ⌜ r ≡ isEdgeMark mark ⌝ }
 {
     if mark <= 3 {
@@ -212,7 +398,7 @@ fn keeps_edge(l: Layout, nodes: &[u8], b: &[u8]) -> bool
     if state != 1 {
         return false;
     }
-    if !edge_mark(b[1]) {
+    if !is_edge_mark(b[1]) {
         return false;
     }
     if b[2] != 0 {

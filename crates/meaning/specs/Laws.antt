@@ -31,3 +31,9 @@ pub mod Stops
 pub mod LegalCommands
 pub mod LegalImage
 pub mod Undoing
+pub mod Alike
+pub mod Further
+pub mod FurtherCommands
+pub mod FurtherTables
+pub mod Inference
+pub mod Calls

@@ -9,7 +9,9 @@ pub mod Search
 pub mod FirstMatch
 pub mod Applying
 pub mod Commands
+pub mod Inference
 pub mod Calls
 pub mod Computing
 pub mod ProvedSet
 pub mod Laws
+pub mod Demands

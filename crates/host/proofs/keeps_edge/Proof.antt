@@ -23,20 +23,20 @@ returns c = c .zeros-from .ensures ∙ edge-free (c .before .before .before .bef
 returns-2 : tie.Need-returns-2
 returns-2 c = edge-state (c .before .before .before .before .before .args .l) _ (c .before .before .before .before .before .args .b .now) (c .before .if1 .left) (c .if2 .taken)
 
-shared-slice-read-edge-mark : tie.Need-shared-slice-read-edge-mark
-shared-slice-read-edge-mark c = search needs
+shared-slice-read-is-edge-mark : tie.Need-shared-slice-read-is-edge-mark
+shared-slice-read-is-edge-mark c = search needs
 
-edge-mark-requires : tie.Need-edge-mark-requires
-edge-mark-requires c κs = search needs
+is-edge-mark-requires : tie.Need-is-edge-mark-requires
+is-edge-mark-requires c κs = search needs
 
 returns-3 : tie.Need-returns-3
-returns-3 c = edge-mark (c .before .before .before .before .before .before .before .before .args .l) _ (c .before .before .before .before .before .before .before .before .args .b .now) (c .before .before .before .if2 .left) (sym (c .before .edge-mark .ensures) ∙ not-true _ (c .if3 .taken))
+returns-3 c = edge-mark (c .before .before .before .before .before .before .before .before .args .l) _ (c .before .before .before .before .before .before .before .before .args .b .now) (c .before .before .before .if2 .left) (sym (c .before .is-edge-mark .ensures) ∙ not-true _ (c .if3 .taken))
 
 shared-slice-read-if4 : tie.Need-shared-slice-read-if4
 shared-slice-read-if4 c = search needs
 
 returns-4 : tie.Need-returns-4
-returns-4 c = edge-zero (c .before .before .before .before .before .before .before .before .before .before .args .l) _ (c .before .before .before .before .before .before .before .before .before .before .args .b .now) (c .before .before .before .before .before .if2 .left) (sym (c .before .before .before .edge-mark .ensures) ∙ not-false _ (c .before .before .if3 .left)) (c .if4 .taken)
+returns-4 c = edge-zero (c .before .before .before .before .before .before .before .before .before .before .args .l) _ (c .before .before .before .before .before .before .before .before .before .before .args .b .now) (c .before .before .before .before .before .if2 .left) (sym (c .before .before .before .is-edge-mark .ensures) ∙ not-false _ (c .before .before .if3 .left)) (c .if4 .taken)
 
 shared-slice-read-wide : tie.Need-shared-slice-read-wide
 shared-slice-read-wide c = search needs
@@ -45,7 +45,7 @@ wide-requires : tie.Need-wide-requires
 wide-requires c κs = search needs
 
 returns-5 : tie.Need-returns-5
-returns-5 c = edge-size (c .before .before .before .before .before .before .before .before .before .before .before .before .before .before .args .l) _ (c .before .before .before .before .before .before .before .before .before .before .before .before .before .before .args .b .now) (c .before .before .before .before .before .before .before .before .before .if2 .left) (sym (c .before .before .before .before .before .before .before .edge-mark .ensures) ∙ not-false _ (c .before .before .before .before .before .before .if3 .left)) (c .before .before .before .before .if4 .left) (omega (arith, c .before .before .wide .ensures .0, c .if5 .taken))
+returns-5 c = edge-size (c .before .before .before .before .before .before .before .before .before .before .before .before .before .before .args .l) _ (c .before .before .before .before .before .before .before .before .before .before .before .before .before .before .args .b .now) (c .before .before .before .before .before .before .before .before .before .if2 .left) (sym (c .before .before .before .before .before .before .before .is-edge-mark .ensures) ∙ not-false _ (c .before .before .before .before .before .before .if3 .left)) (c .before .before .before .before .if4 .left) (omega (arith, c .before .before .wide .ensures .0, c .if5 .taken))
 
 slot-number-requires : tie.Need-slot-number-requires
 slot-number-requires c κs = search needs
@@ -56,7 +56,7 @@ live-slot-requires c κs = search needs
 returns-6 : tie.Need-returns-6
 returns-6 c =
     let l = c .before .before .before .before .before .before .before .before .before .before .before .before .before .before .before .before .before .args .l in
-    edge-source l _ (c .before .before .before .before .before .before .before .before .before .before .before .before .before .before .before .before .before .args .b .now) (c .before .before .before .before .before .before .before .before .before .before .before .before .if2 .left) (sym (c .before .before .before .before .before .before .before .before .before .before .edge-mark .ensures) ∙ not-false _ (c .before .before .before .before .before .before .before .before .before .if3 .left)) (c .before .before .before .before .before .before .before .if4 .left) (omega (arith, c .before .before .before .before .before .wide .ensures .0, c .before .before .before .if5 .left))
+    edge-source l _ (c .before .before .before .before .before .before .before .before .before .before .before .before .before .before .before .before .before .args .b .now) (c .before .before .before .before .before .before .before .before .before .before .before .before .if2 .left) (sym (c .before .before .before .before .before .before .before .before .before .before .is-edge-mark .ensures) ∙ not-false _ (c .before .before .before .before .before .before .before .before .before .if3 .left)) (c .before .before .before .before .before .before .before .if4 .left) (omega (arith, c .before .before .before .before .before .wide .ensures .0, c .before .before .before .if5 .left))
     (live-end l (c .before .before .before .before .before .before .before .before .before .before .before .before .before .before .before .before .before .args .nodes .now) _ _ _ false (c .before .before .before .before .before .before .before .before .before .before .before .before .before .before .before .before .before .pre .0 .node) (c .before .before .slot-number .ensures) (c .before .live-slot .ensures) (not-true _ (c .if6 .taken)))
 
 add-slot-number : tie.Need-add-slot-number
@@ -71,7 +71,7 @@ live-slot-requires-2 c κs = search needs
 returns-7 : tie.Need-returns-7
 returns-7 c =
     let l = c .before .before .before .before .before .before .before .before .before .before .before .before .before .before .before .before .before .before .before .before .args .l in
-    edge-target l _ (c .before .before .before .before .before .before .before .before .before .before .before .before .before .before .before .before .before .before .before .before .args .b .now) (c .before .before .before .before .before .before .before .before .before .before .before .before .before .before .before .if2 .left) (sym (c .before .before .before .before .before .before .before .before .before .before .before .before .before .edge-mark .ensures) ∙ not-false _ (c .before .before .before .before .before .before .before .before .before .before .before .before .if3 .left)) (c .before .before .before .before .before .before .before .before .before .before .if4 .left) (omega (arith, c .before .before .before .before .before .before .before .before .wide .ensures .0, c .before .before .before .before .before .before .if5 .left))
+    edge-target l _ (c .before .before .before .before .before .before .before .before .before .before .before .before .before .before .before .before .before .before .before .before .args .b .now) (c .before .before .before .before .before .before .before .before .before .before .before .before .before .before .before .if2 .left) (sym (c .before .before .before .before .before .before .before .before .before .before .before .before .before .is-edge-mark .ensures) ∙ not-false _ (c .before .before .before .before .before .before .before .before .before .before .before .before .if3 .left)) (c .before .before .before .before .before .before .before .before .before .before .if4 .left) (omega (arith, c .before .before .before .before .before .before .before .before .wide .ensures .0, c .before .before .before .before .before .before .if5 .left))
     (live-end l (c .before .before .before .before .before .before .before .before .before .before .before .before .before .before .before .before .before .before .before .before .args .nodes .now) _ _ _ true (c .before .before .before .before .before .before .before .before .before .before .before .before .before .before .before .before .before .before .before .before .pre .0 .node) (c .before .before .before .before .before .slot-number .ensures) (c .before .before .before .before .live-slot .ensures) (not-false _ (c .before .before .before .if6 .left)))
     (live-end l (c .before .before .before .before .before .before .before .before .before .before .before .before .before .before .before .before .before .before .before .before .args .nodes .now) _ _ _ false (c .before .before .before .before .before .before .before .before .before .before .before .before .before .before .before .before .before .before .before .before .pre .0 .node) (c .before .before .slot-number2 .ensures) (c .before .live-slot2 .ensures) (not-true _ (c .if7 .taken)))
 
@@ -96,7 +96,7 @@ returns-8 c =
     let b = c .before .before .before .before .before .before .before .before .before .before .before .before .before .before .before .before .before .before .before .before .before .args .b .now in
     c .zeros-from2 .ensures
     ∙ ap (λ n. zeros (drop (4 + 2 * l .width + 4 * n) b)) (c .before .before .before .before .before .before .before .before .before .wide .ensures .0)
-    ∙ edge-rest l _ b (c .before .before .before .before .before .before .before .before .before .before .before .before .before .before .before .before .if2 .left) (sym (c .before .before .before .before .before .before .before .before .before .before .before .before .before .before .edge-mark .ensures) ∙ not-false _ (c .before .before .before .before .before .before .before .before .before .before .before .before .before .if3 .left)) (c .before .before .before .before .before .before .before .before .before .before .before .if4 .left) (omega (arith, c .before .before .before .before .before .before .before .before .before .wide .ensures .0, c .before .before .before .before .before .before .before .if5 .left))
+    ∙ edge-rest l _ b (c .before .before .before .before .before .before .before .before .before .before .before .before .before .before .before .before .if2 .left) (sym (c .before .before .before .before .before .before .before .before .before .before .before .before .before .before .is-edge-mark .ensures) ∙ not-false _ (c .before .before .before .before .before .before .before .before .before .before .before .before .before .if3 .left)) (c .before .before .before .before .before .before .before .before .before .before .before .if4 .left) (omega (arith, c .before .before .before .before .before .before .before .before .before .wide .ensures .0, c .before .before .before .before .before .before .before .if5 .left))
     (live-end l (c .before .before .before .before .before .before .before .before .before .before .before .before .before .before .before .before .before .before .before .before .before .args .nodes .now) _ _ _ true (c .before .before .before .before .before .before .before .before .before .before .before .before .before .before .before .before .before .before .before .before .before .pre .0 .node) (c .before .before .before .before .before .before .slot-number .ensures) (c .before .before .before .before .before .live-slot .ensures) (not-false _ (c .before .before .before .before .if6 .left)))
     (live-end l (c .before .before .before .before .before .before .before .before .before .before .before .before .before .before .before .before .before .before .before .before .before .args .nodes .now) _ _ _ true (c .before .before .before .before .before .before .before .before .before .before .before .before .before .before .before .before .before .before .before .before .before .pre .0 .node) (c .before .before .before .slot-number2 .ensures) (c .before .before .live-slot2 .ensures) (not-false _ (c .before .if7 .left)))
 
@@ -108,8 +108,8 @@ keeps-edge-spec =
     zeros-from-requires
     returns
     returns-2
-    shared-slice-read-edge-mark
-    edge-mark-requires
+    shared-slice-read-is-edge-mark
+    is-edge-mark-requires
     returns-3
     shared-slice-read-if4
     returns-4

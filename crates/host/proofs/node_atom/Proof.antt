@@ -1,0 +1,37 @@
+-- `host::node_atom` meets its contract: atom j lies four bytes for each atom before it behind the head.
+use Prim.Native.Nat.{_+_, _*_}
+use mathlib.Core.List.{[]}
+use mathlib.Core.Path.{ap, _∙_}
+use borrow.Author.Needs.{needs}
+use lib.ListN.{getD, take, drop}
+use Rattle.meaning.specs.Layout.{cut, nodeLength}
+use Rattle.meaning.specs.Numbers.{number}
+use Rattle.host.proofs.Held.{node-within, node-held, node-atom}
+use Rattle.host.proofs.node_atom.Statement.{statement}
+use Rattle.host.proofs.node_atom.Tie as tie
+
+slot-requires : tie.Need-slot-requires
+slot-requires c κs = rw (c .before .pre .0 .node) (node-within (c .before .args .l) (c .before .args .nodes .now) (c .before .args .i) (c .before .pre .1 .0))
+
+mul-number4 : tie.Need-mul-number4
+mul-number4 c = search needs
+
+add-number4 : tie.Need-add-number4
+add-number4 c = search needs
+
+number4-requires : tie.Need-number4-requires
+number4-requires c κs = search needs
+
+cast-result : tie.Need-cast-result
+cast-result c = search needs
+
+returns : tie.Need-returns
+returns c =
+    let a = c .before .before .before .args in
+    c .number4 .ensures .0
+    ∙ ap (λ b. number (take 4 (drop (4 + 4 * a .j) b))) (c .before .slot .ensures .0 ∙ ap (λ w. getD (cut w (a .nodes .now)) (a .i) []) (c .before .before .before .pre .0 .node))
+    ∙ node-atom (a .l) (a .nodes .now) (a .i) (getD (cut (nodeLength (a .l)) (a .nodes .now)) (a .i) []) (node-held (a .l) (a .nodes .now) (a .i) (c .before .before .before .pre .1 .0)) (a .j) (c .before .before .before .pre .1 .1 .0)
+
+pub node-atom-spec : {M : Type 1} → statement M
+node-atom-spec =
+    tie.close (tie.spec slot-requires mul-number4 add-number4 number4-requires cast-result returns)
