@@ -26,3 +26,4 @@ pub mod corpus;
 pub mod families;
 pub mod random;
 pub mod refusals;
+pub mod stored;

@@ -1,2 +1,4 @@
 pub mod Host
 pub mod States
+pub mod Restores
+pub mod Stores

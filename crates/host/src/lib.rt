@@ -25,10 +25,10 @@ fn copy(to: &mut [u8], from: &[u8])
     requires { ⌜ length (now to) ≡ length (now from) ⌝ }
     ensures { λ _. ⌜ now (to .exit) ≡ now (from .entry) ⌝ }
 {
-    let mut j: usize = 0;
-    while j < from.len() {
-        to[j] = from[j];
-        j += 1;
+    let mut k: usize = 0;
+    while k < from.len() {
+        to[k] = from[k];
+        k += 1;
     }
 }
 
@@ -71,7 +71,7 @@ fn put_number(to: &mut [u8], n: usize)
 }
 
 // A slot number of one or two bytes.
-fn slot_number(from: &[u8], at: usize, width: usize) -> usize
+pub fn slot_number(from: &[u8], at: usize, width: usize) -> usize
     requires { ⌜ (at + width ≤ length (now from)) × ((1 ≤ width) × (width ≤ 2)) ⌝ }
     ensures { λ r. ⌜ r ≡ number (take width (drop at (now (from .entry)))) ⌝ }
 {

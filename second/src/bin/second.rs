@@ -1,12 +1,14 @@
-//! The second interpreter's program: it runs an image and prints the listing, or makes a corpus.
+//! The second interpreter's program: it runs an image and prints the listing, makes a corpus, or writes the stored inputs of
+//! the test programs.
 
 use std::io::{Read, Write};
 use std::process::ExitCode;
 
-use second::{corpus, listing};
+use second::{corpus, listing, stored};
 
 const USAGE: &str = "usage: second run IMAGE|-
-       second corpus --seed S --count N [-o FILE] [--listings FILE]";
+       second corpus --seed S --count N [-o FILE] [--listings FILE]
+       second stored PROGRAM FOLDER";
 
 fn main() -> ExitCode {
     let arguments: Vec<String> = std::env::args().skip(1).collect();
@@ -24,6 +26,8 @@ fn chosen(arguments: &[String]) -> Result<(), String> {
         [word, image] if word == "run" => run(image),
         [word, ..] if word == "run" => Err(format!("run takes one image\n{USAGE}")),
         [word, rest @ ..] if word == "corpus" => corpus::main(rest),
+        [word, name, folder] if word == "stored" => store(name, folder),
+        [word, ..] if word == "stored" => Err(format!("stored takes a program and a folder\n{USAGE}")),
         [word, ..] => Err(format!("{word} is no subcommand\n{USAGE}")),
         [] => Err(format!("a subcommand is missing\n{USAGE}")),
     }
@@ -36,6 +40,18 @@ fn run(image: &str) -> Result<(), String> {
     out.write_all(text.as_bytes())
         .and_then(|()| out.flush())
         .map_err(|error| format!("the listing can't be written: {error}"))
+}
+
+/// Writes `stdin` and `stdout` of a test program into a folder.
+fn store(name: &str, folder: &str) -> Result<(), String> {
+    let known = stored::NAMES.join(", ");
+    let stored = stored::named(name).ok_or(format!("{name} has no stored inputs; these have: {known}"))?;
+    let write = |file: &str, bytes: &[u8]| {
+        let path = std::path::Path::new(folder).join(file);
+        std::fs::write(&path, bytes).map_err(|error| format!("{} can't be written: {error}", path.display()))
+    };
+    write("stdin", &stored.stdin)?;
+    write("stdout", stored.stdout.as_bytes())
 }
 
 fn read(image: &str) -> std::io::Result<Vec<u8>> {

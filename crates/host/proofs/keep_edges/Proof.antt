@@ -39,15 +39,19 @@ loop-less c = omega arith
 
 loop-again : tie.Need-loop-again Inv-loop μ-loop
 loop-again c =
-    let a = c .before .before .before .before .before .before .before .args in
+    let c4 = c .before .before .before .before in
+    let c7 = c4 .before .before .before in
+    let a = c7 .args in
     let f = keepsEdge (a .l) (readNodes (a .l) (a .nodes .now)) in
-    (omega arith, c .before .before .before .before .loop .inv .1 ∙ every-more f (cut (a .l .edge) (a .edges .now)) (c .before .before .before .before .loop .i) [] (rw length-pieces (search needs)) (ap f (sym (c .before .before .slot .ensures .0)) ∙ sym (c .before .keeps-edge .ensures) ∙ c .if1 .taken))
+    (omega arith, c4 .loop .inv .1 ∙ every-more f (cut (a .l .edge) (a .edges .now)) (c4 .loop .i) [] (rw length-pieces (search needs)) (ap f (sym (c .before .before .slot .ensures .0)) ∙ sym (c .before .keeps-edge .ensures) ∙ c .if1 .taken))
 
 returns : tie.Need-returns Inv-loop μ-loop
 returns c =
-    let a = c .before .before .before .before .before .before .before .args in
+    let c4 = c .before .before .before .before in
+    let c7 = c4 .before .before .before in
+    let a = c7 .args in
     let f = keepsEdge (a .l) (readNodes (a .l) (a .nodes .now)) in
-    rw (← (c .before .before .before .before .before .before .before .pre .edge)) (sym (c .before .before .before .before .loop .inv .1 ∙ every-other f (cut (a .l .edge) (a .edges .now)) (c .before .before .before .before .loop .i) [] (rw length-pieces (search needs)) (ap f (sym (c .before .before .slot .ensures .0)) ∙ sym (c .before .keeps-edge .ensures) ∙ c .if1 .left)))
+    rw (← (c7 .pre .edge)) (sym (c4 .loop .inv .1 ∙ every-other f (cut (a .l .edge) (a .edges .now)) (c4 .loop .i) [] (rw length-pieces (search needs)) (ap f (sym (c .before .before .slot .ensures .0)) ∙ sym (c .before .keeps-edge .ensures) ∙ c .if1 .left)))
 
 returns-2 : tie.Need-returns-2 Inv-loop μ-loop
 returns-2 c =

@@ -39,13 +39,17 @@ loop-less c = omega arith
 
 loop-again : tie.Need-loop-again Inv-loop μ-loop
 loop-again c =
-    let a = c .before .before .before .before .before .before .args in
-    (omega arith, c .before .before .before .before .loop .inv .1 ∙ every-more (keepsNode (a .l)) (cut (a .l .node) (a .nodes .now)) (c .before .before .before .before .loop .i) [] (rw length-pieces (search needs)) (ap (keepsNode (a .l)) (sym (c .before .before .slot .ensures .0)) ∙ sym (c .before .keeps-node .ensures) ∙ c .if1 .taken))
+    let c4 = c .before .before .before .before in
+    let c6 = c4 .before .before in
+    let a = c6 .args in
+    (omega arith, c4 .loop .inv .1 ∙ every-more (keepsNode (a .l)) (cut (a .l .node) (a .nodes .now)) (c4 .loop .i) [] (rw length-pieces (search needs)) (ap (keepsNode (a .l)) (sym (c .before .before .slot .ensures .0)) ∙ sym (c .before .keeps-node .ensures) ∙ c .if1 .taken))
 
 returns : tie.Need-returns Inv-loop μ-loop
 returns c =
-    let a = c .before .before .before .before .before .before .args in
-    rw (← (c .before .before .before .before .before .before .pre .node)) (sym (c .before .before .before .before .loop .inv .1 ∙ every-other (keepsNode (a .l)) (cut (a .l .node) (a .nodes .now)) (c .before .before .before .before .loop .i) [] (rw length-pieces (search needs)) (ap (keepsNode (a .l)) (sym (c .before .before .slot .ensures .0)) ∙ sym (c .before .keeps-node .ensures) ∙ c .if1 .left)))
+    let c4 = c .before .before .before .before in
+    let c6 = c4 .before .before in
+    let a = c6 .args in
+    rw (← (c6 .pre .node)) (sym (c4 .loop .inv .1 ∙ every-other (keepsNode (a .l)) (cut (a .l .node) (a .nodes .now)) (c4 .loop .i) [] (rw length-pieces (search needs)) (ap (keepsNode (a .l)) (sym (c .before .before .slot .ensures .0)) ∙ sym (c .before .keeps-node .ensures) ∙ c .if1 .left)))
 
 returns-2 : tie.Need-returns-2 Inv-loop μ-loop
 returns-2 c =

@@ -30,13 +30,20 @@ is-edge-mark-requires : tie.Need-is-edge-mark-requires
 is-edge-mark-requires c κs = search needs
 
 returns-3 : tie.Need-returns-3
-returns-3 c = edge-mark (c .before .before .before .before .before .before .before .before .args .l) _ (c .before .before .before .before .before .before .before .before .args .b .now) (c .before .before .before .if2 .left) (sym (c .before .is-edge-mark .ensures) ∙ not-true _ (c .if3 .taken))
+returns-3 c =
+    let c3 = c .before .before .before in
+    let c8 = c3 .before .before .before .before .before in
+    edge-mark (c8 .args .l) _ (c8 .args .b .now) (c3 .if2 .left) (sym (c .before .is-edge-mark .ensures) ∙ not-true _ (c .if3 .taken))
 
 shared-slice-read-if4 : tie.Need-shared-slice-read-if4
 shared-slice-read-if4 c = search needs
 
 returns-4 : tie.Need-returns-4
-returns-4 c = edge-zero (c .before .before .before .before .before .before .before .before .before .before .args .l) _ (c .before .before .before .before .before .before .before .before .before .before .args .b .now) (c .before .before .before .before .before .if2 .left) (sym (c .before .before .before .is-edge-mark .ensures) ∙ not-false _ (c .before .before .if3 .left)) (c .if4 .taken)
+returns-4 c =
+    let c3 = c .before .before .before in
+    let c5 = c3 .before .before in
+    let c10 = c5 .before .before .before .before .before in
+    edge-zero (c10 .args .l) _ (c10 .args .b .now) (c5 .if2 .left) (sym (c3 .is-edge-mark .ensures) ∙ not-false _ (c .before .before .if3 .left)) (c .if4 .taken)
 
 shared-slice-read-wide : tie.Need-shared-slice-read-wide
 shared-slice-read-wide c = search needs
@@ -45,7 +52,13 @@ wide-requires : tie.Need-wide-requires
 wide-requires c κs = search needs
 
 returns-5 : tie.Need-returns-5
-returns-5 c = edge-size (c .before .before .before .before .before .before .before .before .before .before .before .before .before .before .args .l) _ (c .before .before .before .before .before .before .before .before .before .before .before .before .before .before .args .b .now) (c .before .before .before .before .before .before .before .before .before .if2 .left) (sym (c .before .before .before .before .before .before .before .is-edge-mark .ensures) ∙ not-false _ (c .before .before .before .before .before .before .if3 .left)) (c .before .before .before .before .if4 .left) (omega (arith, c .before .before .wide .ensures .0, c .if5 .taken))
+returns-5 c =
+    let c4 = c .before .before .before .before in
+    let c6 = c4 .before .before in
+    let c7 = c6 .before in
+    let c9 = c7 .before .before in
+    let c14 = c9 .before .before .before .before .before in
+    edge-size (c14 .args .l) _ (c14 .args .b .now) (c9 .if2 .left) (sym (c7 .is-edge-mark .ensures) ∙ not-false _ (c6 .if3 .left)) (c4 .if4 .left) (omega (arith, c .before .before .wide .ensures .0, c .if5 .taken))
 
 slot-number-requires : tie.Need-slot-number-requires
 slot-number-requires c κs = search needs
@@ -55,9 +68,16 @@ live-slot-requires c κs = search needs
 
 returns-6 : tie.Need-returns-6
 returns-6 c =
-    let l = c .before .before .before .before .before .before .before .before .before .before .before .before .before .before .before .before .before .args .l in
-    edge-source l _ (c .before .before .before .before .before .before .before .before .before .before .before .before .before .before .before .before .before .args .b .now) (c .before .before .before .before .before .before .before .before .before .before .before .before .if2 .left) (sym (c .before .before .before .before .before .before .before .before .before .before .is-edge-mark .ensures) ∙ not-false _ (c .before .before .before .before .before .before .before .before .before .if3 .left)) (c .before .before .before .before .before .before .before .if4 .left) (omega (arith, c .before .before .before .before .before .wide .ensures .0, c .before .before .before .if5 .left))
-    (live-end l (c .before .before .before .before .before .before .before .before .before .before .before .before .before .before .before .before .before .args .nodes .now) _ _ _ false (c .before .before .before .before .before .before .before .before .before .before .before .before .before .before .before .before .before .pre .0 .node) (c .before .before .slot-number .ensures) (c .before .live-slot .ensures) (not-true _ (c .if6 .taken)))
+    let c3 = c .before .before .before in
+    let c5 = c3 .before .before in
+    let c7 = c5 .before .before in
+    let c9 = c7 .before .before in
+    let c10 = c9 .before in
+    let c12 = c10 .before .before in
+    let c17 = c12 .before .before .before .before .before in
+    let l = c17 .args .l in
+    edge-source l _ (c17 .args .b .now) (c12 .if2 .left) (sym (c10 .is-edge-mark .ensures) ∙ not-false _ (c9 .if3 .left)) (c7 .if4 .left) (omega (arith, c5 .wide .ensures .0, c3 .if5 .left))
+    (live-end l (c17 .args .nodes .now) _ _ _ false (c17 .pre .0 .node) (c .before .before .slot-number .ensures) (c .before .live-slot .ensures) (not-true _ (c .if6 .taken)))
 
 add-slot-number : tie.Need-add-slot-number
 add-slot-number c = search needs
@@ -70,10 +90,20 @@ live-slot-requires-2 c κs = search needs
 
 returns-7 : tie.Need-returns-7
 returns-7 c =
-    let l = c .before .before .before .before .before .before .before .before .before .before .before .before .before .before .before .before .before .before .before .before .args .l in
-    edge-target l _ (c .before .before .before .before .before .before .before .before .before .before .before .before .before .before .before .before .before .before .before .before .args .b .now) (c .before .before .before .before .before .before .before .before .before .before .before .before .before .before .before .if2 .left) (sym (c .before .before .before .before .before .before .before .before .before .before .before .before .before .is-edge-mark .ensures) ∙ not-false _ (c .before .before .before .before .before .before .before .before .before .before .before .before .if3 .left)) (c .before .before .before .before .before .before .before .before .before .before .if4 .left) (omega (arith, c .before .before .before .before .before .before .before .before .wide .ensures .0, c .before .before .before .before .before .before .if5 .left))
-    (live-end l (c .before .before .before .before .before .before .before .before .before .before .before .before .before .before .before .before .before .before .before .before .args .nodes .now) _ _ _ true (c .before .before .before .before .before .before .before .before .before .before .before .before .before .before .before .before .before .before .before .before .pre .0 .node) (c .before .before .before .before .before .slot-number .ensures) (c .before .before .before .before .live-slot .ensures) (not-false _ (c .before .before .before .if6 .left)))
-    (live-end l (c .before .before .before .before .before .before .before .before .before .before .before .before .before .before .before .before .before .before .before .before .args .nodes .now) _ _ _ false (c .before .before .before .before .before .before .before .before .before .before .before .before .before .before .before .before .before .before .before .before .pre .0 .node) (c .before .before .slot-number2 .ensures) (c .before .live-slot2 .ensures) (not-true _ (c .if7 .taken)))
+    let c3 = c .before .before .before in
+    let c4 = c3 .before in
+    let c5 = c4 .before in
+    let c6 = c5 .before in
+    let c8 = c6 .before .before in
+    let c10 = c8 .before .before in
+    let c12 = c10 .before .before in
+    let c13 = c12 .before in
+    let c15 = c13 .before .before in
+    let c20 = c15 .before .before .before .before .before in
+    let l = c20 .args .l in
+    edge-target l _ (c20 .args .b .now) (c15 .if2 .left) (sym (c13 .is-edge-mark .ensures) ∙ not-false _ (c12 .if3 .left)) (c10 .if4 .left) (omega (arith, c8 .wide .ensures .0, c6 .if5 .left))
+    (live-end l (c20 .args .nodes .now) _ _ _ true (c20 .pre .0 .node) (c5 .slot-number .ensures) (c4 .live-slot .ensures) (not-false _ (c3 .if6 .left)))
+    (live-end l (c20 .args .nodes .now) _ _ _ false (c20 .pre .0 .node) (c .before .before .slot-number2 .ensures) (c .before .live-slot2 .ensures) (not-true _ (c .if7 .taken)))
 
 mul-zeros-from : tie.Need-mul-zeros-from
 mul-zeros-from c = search needs
@@ -92,13 +122,24 @@ zeros-from-requires-2 c κs = search needs
 
 returns-8 : tie.Need-returns-8
 returns-8 c =
-    let l = c .before .before .before .before .before .before .before .before .before .before .before .before .before .before .before .before .before .before .before .before .before .args .l in
-    let b = c .before .before .before .before .before .before .before .before .before .before .before .before .before .before .before .before .before .before .before .before .before .args .b .now in
+    let c3 = c .before .before .before in
+    let c4 = c3 .before in
+    let c5 = c4 .before in
+    let c6 = c5 .before in
+    let c7 = c6 .before in
+    let c9 = c7 .before .before in
+    let c11 = c9 .before .before in
+    let c13 = c11 .before .before in
+    let c14 = c13 .before in
+    let c16 = c14 .before .before in
+    let c21 = c16 .before .before .before .before .before in
+    let l = c21 .args .l in
+    let b = c21 .args .b .now in
     c .zeros-from2 .ensures
-    ∙ ap (λ n. zeros (drop (4 + 2 * l .width + 4 * n) b)) (c .before .before .before .before .before .before .before .before .before .wide .ensures .0)
-    ∙ edge-rest l _ b (c .before .before .before .before .before .before .before .before .before .before .before .before .before .before .before .before .if2 .left) (sym (c .before .before .before .before .before .before .before .before .before .before .before .before .before .before .is-edge-mark .ensures) ∙ not-false _ (c .before .before .before .before .before .before .before .before .before .before .before .before .before .if3 .left)) (c .before .before .before .before .before .before .before .before .before .before .before .if4 .left) (omega (arith, c .before .before .before .before .before .before .before .before .before .wide .ensures .0, c .before .before .before .before .before .before .before .if5 .left))
-    (live-end l (c .before .before .before .before .before .before .before .before .before .before .before .before .before .before .before .before .before .before .before .before .before .args .nodes .now) _ _ _ true (c .before .before .before .before .before .before .before .before .before .before .before .before .before .before .before .before .before .before .before .before .before .pre .0 .node) (c .before .before .before .before .before .before .slot-number .ensures) (c .before .before .before .before .before .live-slot .ensures) (not-false _ (c .before .before .before .before .if6 .left)))
-    (live-end l (c .before .before .before .before .before .before .before .before .before .before .before .before .before .before .before .before .before .before .before .before .before .args .nodes .now) _ _ _ true (c .before .before .before .before .before .before .before .before .before .before .before .before .before .before .before .before .before .before .before .before .before .pre .0 .node) (c .before .before .before .slot-number2 .ensures) (c .before .before .live-slot2 .ensures) (not-false _ (c .before .if7 .left)))
+    ∙ ap (λ n. zeros (drop (4 + 2 * l .width + 4 * n) b)) (c9 .wide .ensures .0)
+    ∙ edge-rest l _ b (c16 .if2 .left) (sym (c14 .is-edge-mark .ensures) ∙ not-false _ (c13 .if3 .left)) (c11 .if4 .left) (omega (arith, c9 .wide .ensures .0, c7 .if5 .left))
+    (live-end l (c21 .args .nodes .now) _ _ _ true (c21 .pre .0 .node) (c6 .slot-number .ensures) (c5 .live-slot .ensures) (not-false _ (c4 .if6 .left)))
+    (live-end l (c21 .args .nodes .now) _ _ _ true (c21 .pre .0 .node) (c3 .slot-number2 .ensures) (c .before .before .live-slot2 .ensures) (not-false _ (c .before .if7 .left)))
 
 pub keeps-edge-spec : {M : Type 1} → statement M
 keeps-edge-spec =

@@ -31,7 +31,10 @@ shared-slice-read-if4 : tie.Need-shared-slice-read-if4
 shared-slice-read-if4 c = search needs
 
 returns-4 : tie.Need-returns-4
-returns-4 c = node-root (c .before .before .before .before .before .before .before .before .args .l) (c .before .before .before .before .before .before .before .before .args .b .now) (c .before .before .before .before .if2 .left) (c .before .before .if3 .left) (c .if4 .taken)
+returns-4 c =
+    let c4 = c .before .before .before .before in
+    let c8 = c4 .before .before .before .before in
+    node-root (c8 .args .l) (c8 .args .b .now) (c4 .if2 .left) (c .before .before .if3 .left) (c .if4 .taken)
 
 shared-slice-read-wide : tie.Need-shared-slice-read-wide
 shared-slice-read-wide c = search needs
@@ -40,7 +43,12 @@ wide-requires : tie.Need-wide-requires
 wide-requires c κs = search needs
 
 returns-5 : tie.Need-returns-5
-returns-5 c = node-size (c .before .before .before .before .before .before .before .before .before .before .before .before .args .l) (c .before .before .before .before .before .before .before .before .before .before .before .before .args .b .now) (c .before .before .before .before .before .before .before .before .if2 .left) (c .before .before .before .before .before .before .if3 .left) (c .before .before .before .before .if4 .left) (omega (arith, c .before .before .wide .ensures .0, c .if5 .taken))
+returns-5 c =
+    let c4 = c .before .before .before .before in
+    let c6 = c4 .before .before in
+    let c8 = c6 .before .before in
+    let c12 = c8 .before .before .before .before in
+    node-size (c12 .args .l) (c12 .args .b .now) (c8 .if2 .left) (c6 .if3 .left) (c4 .if4 .left) (omega (arith, c .before .before .wide .ensures .0, c .if5 .taken))
 
 mul-zeros-from : tie.Need-mul-zeros-from
 mul-zeros-from c = search needs
@@ -53,10 +61,15 @@ zeros-from-requires-2 c κs = search needs
 
 returns-6 : tie.Need-returns-6
 returns-6 c =
-    let b = c .before .before .before .before .before .before .before .before .before .before .before .before .before .args .b .now in
+    let c3 = c .before .before .before in
+    let c5 = c3 .before .before in
+    let c7 = c5 .before .before in
+    let c9 = c7 .before .before in
+    let c13 = c9 .before .before .before .before in
+    let b = c13 .args .b .now in
     c .zeros-from2 .ensures
-    ∙ ap (λ n. zeros (drop (4 + 4 * n) b)) (c .before .before .before .wide .ensures .0)
-    ∙ node-rest (c .before .before .before .before .before .before .before .before .before .before .before .before .before .args .l) b (c .before .before .before .before .before .before .before .before .before .if2 .left) (c .before .before .before .before .before .before .before .if3 .left) (c .before .before .before .before .before .if4 .left) (omega (arith, c .before .before .before .wide .ensures .0, c .before .if5 .left))
+    ∙ ap (λ n. zeros (drop (4 + 4 * n) b)) (c3 .wide .ensures .0)
+    ∙ node-rest (c13 .args .l) b (c9 .if2 .left) (c7 .if3 .left) (c5 .if4 .left) (omega (arith, c3 .wide .ensures .0, c .before .if5 .left))
 
 pub keeps-node-spec : {M : Type 1} → statement M
 keeps-node-spec =

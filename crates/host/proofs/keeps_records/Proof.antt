@@ -25,7 +25,9 @@ div-if1 : tie.Need-div-if1 Inv-loop μ-loop
 div-if1 c = search needs
 
 returns : tie.Need-returns Inv-loop μ-loop
-returns c = records-over (c .before .before .before .before .args .l) (c .before .before .before .before .pre) (c .before .before .before .before .args .nodes .now) (c .before .before .before .before .args .edges .now) (c .before .before .before .before .args .journal .now) (c .before .before .before .before .args .count) (c .if1 .taken)
+returns c =
+    let c4 = c .before .before .before .before in
+    records-over (c4 .args .l) (c4 .pre) (c4 .args .nodes .now) (c4 .args .edges .now) (c4 .args .journal .now) (c4 .args .count) (c .if1 .taken)
 
 div-n : tie.Need-div-n Inv-loop μ-loop
 div-n c = search needs
@@ -50,11 +52,13 @@ loop-less c = omega arith
 
 loop-again : tie.Need-loop-again Inv-loop μ-loop
 loop-again c =
-    let a = c .before .before .before .before .before .before .before .before .before .before .before .args in
+    let c4 = c .before .before .before .before in
+    let c11 = c4 .before .before .before .before .before .before .before in
+    let a = c11 .args in
     let f = keepsRecord (a .l) (length (a .nodes .now) / a .l .node) (length (a .edges .now) / a .l .edge) in
     let p = pieces (a .l .change) (a .count) (a .journal .now) in
-    let q = sym (counted-at (a .l .change) (a .count) (c .before .before .before .before .loop .u) (a .journal .now) (search needs) (c .before .before .before .before .loop .inv .1)) ∙ sym (c .before .before .slot .ensures .0) in
-    (omega arith, c .before .before .before .before .loop .inv .1, c .before .before .before .before .loop .inv .2 ∙ every-more f p (c .before .before .before .before .loop .u) [] (rw length-pieces (search needs)) (ap f q ∙ sym (c .before .keeps-record .ensures) ∙ c .if2 .taken))
+    let q = sym (counted-at (a .l .change) (a .count) (c4 .loop .u) (a .journal .now) (search needs) (c4 .loop .inv .1)) ∙ sym (c .before .before .slot .ensures .0) in
+    (omega arith, c4 .loop .inv .1, c4 .loop .inv .2 ∙ every-more f p (c4 .loop .u) [] (rw length-pieces (search needs)) (ap f q ∙ sym (c .before .keeps-record .ensures) ∙ c .if2 .taken))
 
 returns-2 : tie.Need-returns-2 Inv-loop μ-loop
 returns-2 c =

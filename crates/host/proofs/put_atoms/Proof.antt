@@ -59,15 +59,18 @@ loop-less c = omega (arith, c .before .before .before .before .before .loop-test
 
 loop-again : tie.Need-loop-again Inv-loop μ-loop
 loop-again c =
-    let a = c .before .before .before .before .before .before .before .before .before .args in
-    let j = c .before .before .before .before .before .before .loop .j in
+    let c5 = c .before .before .before .before .before in
+    let c6 = c5 .before in
+    let c9 = c6 .before .before .before in
+    let a = c9 .args in
+    let j = c6 .loop .j in
     let x = bytes 4 (getD (a .label .now) j 0) in
-    let n = part-length (j * 4) 4 (c .before .before .before .before .before .before .loop .to) (take (j * 4 + 4 - j * 4) (drop (j * 4) (c .before .before .before .before .before .before .loop .to))) refl (omega (arith, c .before .before .before .before .before .before .loop .inv .1, c .before .before .before .before .before .loop-test .taken, c .before .before .before .before .before .before .before .before .before .pre)) in
-    let e = ap (λ l. putMid (j * 4) (j * 4 + 4 - j * 4) (c .before .before .before .before .before .before .loop .to) l) (c .before .before .put-number .ensures ∙ ap (λ k. bytes k (getD (a .label .now) j 0)) n)
-    ∙ slot-back 4 j x (c .before .before .before .before .before .before .loop .to)
-    ∙ ap (stored 4 j x) (c .before .before .before .before .before .before .loop .inv .2)
-    ∙ labelling-more (a .label .now) (a .to .now) j (c .before .before .before .before .before .loop-test .taken) (c .before .before .before .before .before .before .before .before .before .pre) in
-    (omega (arith, c .before .before .before .before .before .loop-test .taken), ap length e ∙ length-labelling (a .label .now) (a .to .now) (j + 1) (omega (arith, c .before .before .before .before .before .loop-test .taken)) (c .before .before .before .before .before .before .before .before .before .pre), e)
+    let n = part-length (j * 4) 4 (c6 .loop .to) (take (j * 4 + 4 - j * 4) (drop (j * 4) (c6 .loop .to))) refl (omega (arith, c6 .loop .inv .1, c5 .loop-test .taken, c9 .pre)) in
+    let e = ap (λ l. putMid (j * 4) (j * 4 + 4 - j * 4) (c6 .loop .to) l) (c .before .before .put-number .ensures ∙ ap (λ k. bytes k (getD (a .label .now) j 0)) n)
+    ∙ slot-back 4 j x (c6 .loop .to)
+    ∙ ap (stored 4 j x) (c6 .loop .inv .2)
+    ∙ labelling-more (a .label .now) (a .to .now) j (c5 .loop-test .taken) (c9 .pre) in
+    (omega (arith, c5 .loop-test .taken), ap length e ∙ length-labelling (a .label .now) (a .to .now) (j + 1) (omega (arith, c5 .loop-test .taken)) (c9 .pre), e)
 
 same-length : tie.Need-same-length Inv-loop μ-loop
 same-length c = c .before .loop .inv .1

@@ -24,8 +24,10 @@ part-requires c κs = search needs
 
 put-slot-requires : tie.Need-put-slot-requires
 put-slot-requires c κs =
-    let a = c .before .before .before .before .before .before .before .before .args in
-    (node-there (a .l) (length (a .nodes .now)) (length (a .edges .now)) _ (a .b .now) (c .before .before .before .before .before .before .before .before .pre .0 .node) (c .before .before .before .before .before .before .before .before .pre .1 .1) (c .before .before .if1 .taken) (c .before .before .before .before .slot-number .ensures), part-length (2 * a .l .width) (a .l .node) (a .b .now) _ (c .part .ensures) (omega (arith, c .before .before .before .before .before .before .before .before .pre .0 .node, c .before .before .before .before .before .before .before .before .pre .1 .0)))
+    let c4 = c .before .before .before .before in
+    let c8 = c4 .before .before .before .before in
+    let a = c8 .args in
+    (node-there (a .l) (length (a .nodes .now)) (length (a .edges .now)) _ (a .b .now) (c8 .pre .0 .node) (c8 .pre .1 .1) (c .before .before .if1 .taken) (c4 .slot-number .ensures), part-length (2 * a .l .width) (a .l .node) (a .b .now) _ (c .part .ensures) (omega (arith, c8 .pre .0 .node, c8 .pre .1 .0)))
 
 add-part-2 : tie.Need-add-part-2
 add-part-2 c = search needs
@@ -35,24 +37,34 @@ part-requires-2 c κs = search needs
 
 put-slot-requires-2 : tie.Need-put-slot-requires-2
 put-slot-requires-2 c κs =
-    let a = c .before .before .before .before .before .before .before .before .args in
-    (edge-there (a .l) (length (a .nodes .now)) (length (a .edges .now)) _ (a .b .now) (c .before .before .before .before .before .before .before .before .pre .0 .edge) (c .before .before .before .before .before .before .before .before .pre .1 .1) (c .before .before .if1 .left) (c .before .before .before .before .slot-number .ensures), part-length (2 * a .l .width) (a .l .edge) (a .b .now) _ (c .part2 .ensures) (omega (arith, c .before .before .before .before .before .before .before .before .pre .0 .edge, c .before .before .before .before .before .before .before .before .pre .1 .0)))
+    let c4 = c .before .before .before .before in
+    let c8 = c4 .before .before .before .before in
+    let a = c8 .args in
+    (edge-there (a .l) (length (a .nodes .now)) (length (a .edges .now)) _ (a .b .now) (c8 .pre .0 .edge) (c8 .pre .1 .1) (c .before .before .if1 .left) (c4 .slot-number .ensures), part-length (2 * a .l .width) (a .l .edge) (a .b .now) _ (c .part2 .ensures) (omega (arith, c8 .pre .0 .edge, c8 .pre .1 .0)))
 
 same-length : tie.Need-same-length
 same-length c = search needs
 
 returns : tie.Need-returns
 returns c =
-    let a = c .before .before .before .before .before .before .before .before .before .before .before .args in
-    put-node (a .l) (a .b .now) (a .nodes .now) (c .before .before .put-slot .last .0) (a .edges .now) _ _ (c .before .before .before .before .before .before .before .before .before .before .before .pre .0 .node) (c .before .before .before .before .before .if1 .taken) (c .before .before .before .before .before .before .before .slot-number .ensures) (c .before .before .before .part .ensures) (c .before .before .put-slot .ensures .0)
+    let c3 = c .before .before .before in
+    let c5 = c3 .before .before in
+    let c7 = c5 .before .before in
+    let c11 = c7 .before .before .before .before in
+    let a = c11 .args in
+    put-node (a .l) (a .b .now) (a .nodes .now) (c .before .before .put-slot .last .0) (a .edges .now) _ _ (c11 .pre .0 .node) (c5 .if1 .taken) (c7 .slot-number .ensures) (c3 .part .ensures) (c .before .before .put-slot .ensures .0)
 
 same-length-2 : tie.Need-same-length-2
 same-length-2 c = search needs
 
 returns-2 : tie.Need-returns-2
 returns-2 c =
-    let a = c .before .before .before .before .before .before .before .before .before .before .before .args in
-    put-edge (a .l) (a .b .now) (a .nodes .now) (a .edges .now) (c .before .before .put-slot2 .last .0) _ _ (c .before .before .before .before .before .before .before .before .before .before .before .pre .0 .edge) (c .before .before .before .before .before .if1 .left) (c .before .before .before .before .before .before .before .slot-number .ensures) (c .before .before .before .part2 .ensures) (c .before .before .put-slot2 .ensures .0)
+    let c3 = c .before .before .before in
+    let c5 = c3 .before .before in
+    let c7 = c5 .before .before in
+    let c11 = c7 .before .before .before .before in
+    let a = c11 .args in
+    put-edge (a .l) (a .b .now) (a .nodes .now) (a .edges .now) (c .before .before .put-slot2 .last .0) _ _ (c11 .pre .0 .edge) (c5 .if1 .left) (c7 .slot-number .ensures) (c3 .part2 .ensures) (c .before .before .put-slot2 .ensures .0)
 
 pub put-back-spec : {M : Type 1} → statement M
 put-back-spec =

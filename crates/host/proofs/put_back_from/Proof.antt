@@ -32,21 +32,29 @@ slot-requires c κs =
 
 put-back-requires : tie.Need-put-back-requires Inv-loop μ-loop
 put-back-requires c κs =
-    let a = c .before .before .before .before .before .before .before .before .args in
+    let c3 = c .before .before .before in
+    let c4 = c3 .before in
+    let c8 = c4 .before .before .before .before in
+    let a = c8 .args in
     let l = a .l in
-    let q = c .slot .ensures .0 ∙ ap (λ w. getD (cut w (a .journal .now)) (c .before .before .before .before .loop .u - 1) []) (c .before .before .before .before .before .before .before .before .pre .0 .change) in
-    (c .before .before .before .before .before .before .before .before .pre .0, (c .slot .ensures .1 ∙ c .before .before .before .before .before .before .before .before .pre .0 .change, rw (c .before .before .before .before .loop .inv .2, c .before .before .before .before .loop .inv .3, q) (kept-at l (a .mark) (a .journal .now) (keepsRecord l (length (a .nodes .now) / nodeLength l) (length (a .edges .now) / edgeLength l)) (a .used) (c .before .before .before .before .loop .u - 1) (c .before .before .before .before .before .before .before .before .pre .1 .1) (omega (arith, c .before .before .before .loop-test .taken)) (omega (arith, c .before .before .before .before .loop .inv .1, c .before .before .before .loop-test .taken)) (c .before .before .before .before .before .before .before .before .pre .1 .0 .1))))
+    let q = c .slot .ensures .0 ∙ ap (λ w. getD (cut w (a .journal .now)) (c4 .loop .u - 1) []) (c8 .pre .0 .change) in
+    (c8 .pre .0, (c .slot .ensures .1 ∙ c8 .pre .0 .change, rw (c4 .loop .inv .2, c4 .loop .inv .3, q) (kept-at l (a .mark) (a .journal .now) (keepsRecord l (length (a .nodes .now) / nodeLength l) (length (a .edges .now) / edgeLength l)) (a .used) (c4 .loop .u - 1) (c8 .pre .1 .1) (omega (arith, c3 .loop-test .taken)) (omega (arith, c4 .loop .inv .1, c3 .loop-test .taken)) (c8 .pre .1 .0 .1))))
 
 loop-less : tie.Need-loop-less Inv-loop μ-loop
 loop-less c = omega (arith, c .before .before .before .before .before .before .before .before .loop-test .taken)
 
 loop-again : tie.Need-loop-again Inv-loop μ-loop
 loop-again c =
-    let a = c .before .before .before .before .before .before .before .before .before .before .before .before .before .args in
+    let c4 = c .before .before .before .before in
+    let c5 = c4 .before in
+    let c8 = c5 .before .before .before in
+    let c9 = c8 .before in
+    let c13 = c9 .before .before .before .before in
+    let a = c13 .args in
     let l = a .l in
-    let t = tablesOf l (c .before .before .before .before .before .before .before .before .before .loop .nodes) (c .before .before .before .before .before .before .before .before .before .loop .edges) in
-    let q = c .before .before .before .before .before .slot .ensures .0 ∙ ap (λ w. getD (cut w (a .journal .now)) (c .before .before .before .before .before .before .before .before .before .loop .u - 1) []) (c .before .before .before .before .before .before .before .before .before .before .before .before .before .pre .0 .change) in
-    (omega (arith, c .before .before .before .before .before .before .before .before .loop-test .taken), omega (arith, c .before .before .before .before .before .before .before .before .before .loop .inv .1), c .before .before .before .before .put-back .kept .1 .0 ∙ c .before .before .before .before .before .before .before .before .before .loop .inv .2, c .before .before .before .before .put-back .kept .1 .1 .0 ∙ c .before .before .before .before .before .before .before .before .before .loop .inv .3, sym (back-more l (a .mark) (a .journal .now) (c .before .before .before .before .before .before .before .before .before .loop .u) t (c .before .before .before .before .before .before .before .before .loop-test .taken) (omega (arith, c .before .before .before .before .before .before .before .before .before .before .before .before .before .pre .1 .0 .1, c .before .before .before .before .before .before .before .before .before .loop .inv .1)) ∙ ap (λ b. putBack l (a .mark) (c .before .before .before .before .before .before .before .before .before .loop .u - 1) (a .journal .now) (put (readRecord l b) t)) (sym q) ∙ ap (putBack l (a .mark) (c .before .before .before .before .before .before .before .before .before .loop .u - 1) (a .journal .now)) (sym (c .before .before .before .before .put-back .ensures))) ∙ c .before .before .before .before .before .before .before .before .before .loop .inv .4)
+    let t = tablesOf l (c9 .loop .nodes) (c9 .loop .edges) in
+    let q = c5 .slot .ensures .0 ∙ ap (λ w. getD (cut w (a .journal .now)) (c9 .loop .u - 1) []) (c13 .pre .0 .change) in
+    (omega (arith, c8 .loop-test .taken), omega (arith, c9 .loop .inv .1), c4 .put-back .kept .1 .0 ∙ c9 .loop .inv .2, c4 .put-back .kept .1 .1 .0 ∙ c9 .loop .inv .3, sym (back-more l (a .mark) (a .journal .now) (c9 .loop .u) t (c8 .loop-test .taken) (omega (arith, c13 .pre .1 .0 .1, c9 .loop .inv .1)) ∙ ap (λ b. putBack l (a .mark) (c9 .loop .u - 1) (a .journal .now) (put (readRecord l b) t)) (sym q) ∙ ap (putBack l (a .mark) (c9 .loop .u - 1) (a .journal .now)) (sym (c4 .put-back .ensures))) ∙ c9 .loop .inv .4)
 
 same-length : tie.Need-same-length Inv-loop μ-loop
 same-length c = c .before .loop .inv .2

@@ -63,10 +63,14 @@ same-length c = search needs
 returns : tie.Need-returns
 unfolding edgeBytes
 returns c =
-    let a = c .before .before .before .before .before .before .before .before .before .before .before .before .before .before .before .before .before .before .args in
-    edge-put (a .mark) (a .source) (a .target) (a .l .width) (4 * a .l .atoms) (a .label .now) (c .before .before .before .before .before .before .before .before .before .before .before .before .before .before .put-head .last .0) (c .before .before .before .before .before .before .before .before .before .before .put-number .last .0) (c .before .before .before .before .before .before .put-number2 .last .0) (c .before .before .put-atoms .last .0)
-    (c .before .before .before .before .before .before .before .before .before .before .before .before .before .before .put-head .ensures ∙ ap (λ n. 1 ∷ a .mark ∷ 0 ∷ length (a .label .now) ∷ replicate (n - 4) 0) (c .before .before .before .before .before .before .before .before .before .before .before .before .before .before .before .before .before .before .pre .1 .0))
-    (c .before .before .before .before .before .before .before .before .before .before .put-number .ensures) (c .before .before .before .before .before .before .put-number2 .ensures) (c .before .before .put-atoms .ensures)
+    let c6 = c .before .before .before .before .before .before in
+    let c10 = c6 .before .before .before .before in
+    let c14 = c10 .before .before .before .before in
+    let c18 = c14 .before .before .before .before in
+    let a = c18 .args in
+    edge-put (a .mark) (a .source) (a .target) (a .l .width) (4 * a .l .atoms) (a .label .now) (c14 .put-head .last .0) (c10 .put-number .last .0) (c6 .put-number2 .last .0) (c .before .before .put-atoms .last .0)
+    (c14 .put-head .ensures ∙ ap (λ n. 1 ∷ a .mark ∷ 0 ∷ length (a .label .now) ∷ replicate (n - 4) 0) (c18 .pre .1 .0))
+    (c10 .put-number .ensures) (c6 .put-number2 .ensures) (c .before .before .put-atoms .ensures)
 
 pub put-edge-spec : {M : Type 1} → statement M
 put-edge-spec =

@@ -25,7 +25,9 @@ same-length : tie.Need-same-length
 same-length c = search needs
 
 returns : tie.Need-returns
-returns c = head-put (c .before .before .before .before .before .args .to .now) (c .before .before .clear .last .0) (c .before .before .before .before .before .args .mark) (c .before .before .before .before .before .args .third) (c .before .before .before .before .before .args .size) (c .before .before .before .before .before .pre) (c .before .before .clear .ensures)
+returns c =
+    let c5 = c .before .before .before .before .before in
+    head-put (c5 .args .to .now) (c .before .before .clear .last .0) (c5 .args .mark) (c5 .args .third) (c5 .args .size) (c5 .pre) (c .before .before .clear .ensures)
 
 pub put-head-spec : {M : Type 1} → statement M
 put-head-spec =

@@ -32,9 +32,11 @@ same-length c = search needs
 
 returns : tie.Need-returns
 returns c =
-    let a = c .before .before .before .before .before .before .before .before .before .before .args in
-    node-put (a .mark) (a .root) (length (a .to .now)) (a .label .now) (c .before .before .before .before .before .before .put-head .last .0) (c .before .before .put-atoms .last .0) (omega (arith, c .before .before .before .before .before .before .before .before .before .before .pre .1 .0)) (c .before .before .before .before .before .before .put-head .ensures) (c .before .before .put-atoms .ensures)
-    ∙ ap (λ n. padded n (nodeBytes (live (record { mark = a .mark; root = a .root; label = a .label .now })))) (c .before .before .before .before .before .before .before .before .before .before .pre .1 .0)
+    let c6 = c .before .before .before .before .before .before in
+    let c10 = c6 .before .before .before .before in
+    let a = c10 .args in
+    node-put (a .mark) (a .root) (length (a .to .now)) (a .label .now) (c6 .put-head .last .0) (c .before .before .put-atoms .last .0) (omega (arith, c10 .pre .1 .0)) (c6 .put-head .ensures) (c .before .before .put-atoms .ensures)
+    ∙ ap (λ n. padded n (nodeBytes (live (record { mark = a .mark; root = a .root; label = a .label .now })))) (c10 .pre .1 .0)
 
 pub put-node-spec : {M : Type 1} → statement M
 put-node-spec =

@@ -43,26 +43,34 @@ part-copy-start c = search needs
 
 part-copy-end : tie.Need-part-copy-end
 part-copy-end c =
-    let a = c .before .before .before .before .before .before .before .before .before .before .args in
-    omega (arith, same-len-mid {X = ℕ} (a .l .width) (2 * a .l .width - a .l .width) (set (c .before .before .before .before .before .before .clear .last .0) 0 (a .kind)) (c .before .before .put-number .last .0) (c .before .before .put-number .kept .0), length-set (c .before .before .before .before .before .before .clear .last .0) 0 (a .kind), c .before .before .before .before .before .before .clear .kept .0, c .before .before .before .before .before .before .before .before .before .before .pre)
+    let c6 = c .before .before .before .before .before .before in
+    let c10 = c6 .before .before .before .before in
+    let a = c10 .args in
+    omega (arith, same-len-mid {X = ℕ} (a .l .width) (2 * a .l .width - a .l .width) (set (c6 .clear .last .0) 0 (a .kind)) (c .before .before .put-number .last .0) (c .before .before .put-number .kept .0), length-set (c6 .clear .last .0) 0 (a .kind), c6 .clear .kept .0, c10 .pre)
 
 copy-requires : tie.Need-copy-requires
 copy-requires c κs = search needs
 
 same-length : tie.Need-same-length
 same-length c =
-    let a = c .before .before .before .before .before .before .before .before .before .before .before .before .before .before .args in
+    let c6 = c .before .before .before .before .before .before in
+    let c10 = c6 .before .before .before .before in
+    let c14 = c10 .before .before .before .before in
+    let a = c14 .args in
     let w = a .l .width in
-    let r : List ℕ = set (c .before .before .before .before .before .before .before .before .before .before .clear .last .0) 0 (a .kind) in
-    same-len-mid {X = ℕ} (2 * w) (2 * w + length (a .old .now) - 2 * w) (borrow.Rule.Slice.PartMut.putMid w (2 * w - w) r (c .before .before .before .before .before .before .put-number .last .0)) (c .before .before .copy .last .0) (c .before .before .copy .kept .0)
-    ∙ same-len-mid {X = ℕ} w (2 * w - w) r (c .before .before .before .before .before .before .put-number .last .0) (c .before .before .before .before .before .before .put-number .kept .0)
-    ∙ length-set (c .before .before .before .before .before .before .before .before .before .before .clear .last .0) 0 (a .kind)
-    ∙ c .before .before .before .before .before .before .before .before .before .before .clear .kept .0
+    let r : List ℕ = set (c10 .clear .last .0) 0 (a .kind) in
+    same-len-mid {X = ℕ} (2 * w) (2 * w + length (a .old .now) - 2 * w) (borrow.Rule.Slice.PartMut.putMid w (2 * w - w) r (c6 .put-number .last .0)) (c .before .before .copy .last .0) (c .before .before .copy .kept .0)
+    ∙ same-len-mid {X = ℕ} w (2 * w - w) r (c6 .put-number .last .0) (c6 .put-number .kept .0)
+    ∙ length-set (c10 .clear .last .0) 0 (a .kind)
+    ∙ c10 .clear .kept .0
 
 returns : tie.Need-returns
 returns c =
-    let a = c .before .before .before .before .before .before .before .before .before .before .before .before .before .before .args in
-    record-put (a .l .width) (edgeLength (a .l)) (a .kind) (a .i) (a .to .now) (c .before .before .before .before .before .before .before .before .before .before .clear .last .0) (c .before .before .before .before .before .before .put-number .last .0) (c .before .before .copy .last .0) (a .old .now) (c .before .before .before .before .before .before .before .before .before .before .before .before .before .before .pre .0 .narrow) (c .before .before .before .before .before .before .before .before .before .before .before .before .before .before .pre .1 .1) (c .before .before .before .before .before .before .before .before .before .before .before .before .before .before .pre .1 .0) (c .before .before .before .before .before .before .before .before .before .before .clear .ensures) (c .before .before .before .before .before .before .put-number .ensures) (c .before .before .copy .ensures)
+    let c6 = c .before .before .before .before .before .before in
+    let c10 = c6 .before .before .before .before in
+    let c14 = c10 .before .before .before .before in
+    let a = c14 .args in
+    record-put (a .l .width) (edgeLength (a .l)) (a .kind) (a .i) (a .to .now) (c10 .clear .last .0) (c6 .put-number .last .0) (c .before .before .copy .last .0) (a .old .now) (c14 .pre .0 .narrow) (c14 .pre .1 .1) (c14 .pre .1 .0) (c10 .clear .ensures) (c6 .put-number .ensures) (c .before .before .copy .ensures)
 
 pub put-record-spec : {M : Type 1} → statement M
 put-record-spec =

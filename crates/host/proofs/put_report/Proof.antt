@@ -32,7 +32,10 @@ same-length : tie.Need-same-length
 same-length c = search needs
 
 returns : tie.Need-returns
-returns c = report-put (c .before .before .before .before .before .before .before .before .before .args .steps) (c .before .before .before .before .before .before .before .before .before .args .records) (c .before .before .before .before .before .before .before .before .before .args .report .now) (c .before .before .before .before .before .before .put-number .last .0) (c .before .before .put-number2 .last .0) (c .before .before .before .before .before .before .before .before .before .pre) (c .before .before .before .before .before .before .put-number .ensures) (c .before .before .put-number2 .ensures)
+returns c =
+    let c6 = c .before .before .before .before .before .before in
+    let c9 = c6 .before .before .before in
+    report-put (c9 .args .steps) (c9 .args .records) (c9 .args .report .now) (c6 .put-number .last .0) (c .before .before .put-number2 .last .0) (c9 .pre) (c6 .put-number .ensures) (c .before .before .put-number2 .ensures)
 
 pub put-report-spec : {M : Type 1} → statement M
 put-report-spec =

@@ -32,8 +32,11 @@ same-length-4 c = search needs
 returns : tie.Need-returns
 unfolding refusalOf answerNumber
 returns c =
-    let a = c .before .before .before .before .before .before .before .before .before .before .before .before .before .before .before .before .args in
-    leaves-refused (a .l) (a .nodes .now) (a .edges .now) (a .journal .now) (a .count) (a .report .now) (c .before .before .before .before .before .check .given .0 .0) (c .before .before .refuse .last .0) (sym (ap refusalOf (c .before .before .before .before .before .check .given .1)) ∙ c .before .before .before .before .before .before .before .undo-check .ensures) (c .before .before .refuse .ensures)
+    let c5 = c .before .before .before .before .before in
+    let c7 = c5 .before .before in
+    let c16 = c7 .before .before .before .before .before .before .before .before .before in
+    let a = c16 .args in
+    leaves-refused (a .l) (a .nodes .now) (a .edges .now) (a .journal .now) (a .count) (a .report .now) (c5 .check .given .0 .0) (c .before .before .refuse .last .0) (sym (ap refusalOf (c5 .check .given .1)) ∙ c7 .undo-check .ensures) (c .before .before .refuse .ensures)
 
 enum-told : tie.Need-enum-told
 enum-told c = search needs
@@ -48,8 +51,11 @@ undo-to-requires c κs =
 put-report-requires : tie.Need-put-report-requires
 unfolding refusalOf
 put-report-requires c κs =
-    let a = c .before .before .before .before .before .before .before .before .before .before .before .before .before .before .before .before .before .before .before .before .before .before .args in
-    sound (a .l) (a .nodes .now) (a .edges .now) (a .journal .now) (a .count) (a .report .now) (sym (c .before .before .before .before .before .before .before .before .before .before .before .before .before .undo-check .ensures) ∙ ap refusalOf (c .before .before .before .before .before .before .before .before .before .before .before .enum-told .given .1)) .reports
+    let c11 = c .before .before .before .before .before .before .before .before .before .before .before in
+    let c13 = c11 .before .before in
+    let c22 = c13 .before .before .before .before .before .before .before .before .before in
+    let a = c22 .args in
+    sound (a .l) (a .nodes .now) (a .edges .now) (a .journal .now) (a .count) (a .report .now) (sym (c13 .undo-check .ensures) ∙ ap refusalOf (c11 .enum-told .given .1)) .reports
 
 same-length-5 : tie.Need-same-length-5
 same-length-5 c = search needs
@@ -66,8 +72,12 @@ same-length-8 c = search needs
 returns-2 : tie.Need-returns-2
 unfolding refusalOf answerNumber
 returns-2 c =
-    let a = c .before .before .before .before .before .before .before .before .before .before .before .before .before .before .before .before .before .before .before .before .before .before .before .before .before .args in
-    leaves-undone (a .l) (a .nodes .now) (a .edges .now) (a .journal .now) (a .count) (a .report .now) (c .before .before .before .before .before .before .before .before .before .before .undo-to .last .1 .0) (c .before .before .before .before .before .before .before .before .before .before .undo-to .last .1 .1 .0) (c .before .before .before .before .before .before .before .before .before .before .undo-to .last .1 .1 .1 .0) (c .before .before .put-report .last .0) (sym (ap refusalOf (c .before .before .before .before .before .before .before .before .before .before .before .before .before .before .enum-told .given .1)) ∙ c .before .before .before .before .before .before .before .before .before .before .before .before .before .before .before .before .undo-check .ensures) (c .before .before .before .before .before .before .before .before .before .before .undo-to .kept .1 .0) (c .before .before .before .before .before .before .before .before .before .before .undo-to .kept .1 .1 .0) (c .before .before .before .before .before .before .before .before .before .before .undo-to .ensures .0) (c .before .before .before .before .before .before .before .before .before .before .undo-to .ensures .1) (c .before .before .put-report .ensures)
+    let c10 = c .before .before .before .before .before .before .before .before .before .before in
+    let c14 = c10 .before .before .before .before in
+    let c16 = c14 .before .before in
+    let c25 = c16 .before .before .before .before .before .before .before .before .before in
+    let a = c25 .args in
+    leaves-undone (a .l) (a .nodes .now) (a .edges .now) (a .journal .now) (a .count) (a .report .now) (c10 .undo-to .last .1 .0) (c10 .undo-to .last .1 .1 .0) (c10 .undo-to .last .1 .1 .1 .0) (c .before .before .put-report .last .0) (sym (ap refusalOf (c14 .enum-told .given .1)) ∙ c16 .undo-check .ensures) (c10 .undo-to .kept .1 .0) (c10 .undo-to .kept .1 .1 .0) (c10 .undo-to .ensures .0) (c10 .undo-to .ensures .1) (c .before .before .put-report .ensures)
 
 pub undo-call-spec : {M : Type 1} → statement M
 undo-call-spec =

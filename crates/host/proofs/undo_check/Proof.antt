@@ -28,14 +28,18 @@ keeps-records-requires c κs = search needs
 returns-2 : tie.Need-returns-2
 unfolding refusalOf
 returns-2 c =
-    let a = c .before .before .before .before .before .before .before .before .before .args in
-    check-kept (a .l) (a .nodes .now) (a .edges .now) (a .journal .now) (a .count) (a .report .now) (sym (c .before .before .before .before .lengths .ensures) ∙ ap refusalOf (c .before .before .enum-told2 .given .1)) _ (c .before .keeps-records .ensures) (c .if1 .taken)
+    let c4 = c .before .before .before .before in
+    let c9 = c4 .before .before .before .before .before in
+    let a = c9 .args in
+    check-kept (a .l) (a .nodes .now) (a .edges .now) (a .journal .now) (a .count) (a .report .now) (sym (c4 .lengths .ensures) ∙ ap refusalOf (c .before .before .enum-told2 .given .1)) _ (c .before .keeps-records .ensures) (c .if1 .taken)
 
 returns-3 : tie.Need-returns-3
 unfolding refusalOf
 returns-3 c =
-    let a = c .before .before .before .before .before .before .before .before .before .args in
-    check-bad (a .l) (a .nodes .now) (a .edges .now) (a .journal .now) (a .count) (a .report .now) (sym (c .before .before .before .before .lengths .ensures) ∙ ap refusalOf (c .before .before .enum-told2 .given .1)) _ (c .before .keeps-records .ensures) (c .if1 .left)
+    let c4 = c .before .before .before .before in
+    let c9 = c4 .before .before .before .before .before in
+    let a = c9 .args in
+    check-bad (a .l) (a .nodes .now) (a .edges .now) (a .journal .now) (a .count) (a .report .now) (sym (c4 .lengths .ensures) ∙ ap refusalOf (c .before .before .enum-told2 .given .1)) _ (c .before .keeps-records .ensures) (c .if1 .left)
 
 pub undo-check-spec : {M : Type 1} → statement M
 undo-check-spec =

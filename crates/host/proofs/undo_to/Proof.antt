@@ -23,19 +23,29 @@ put-back-from-requires : tie.Need-put-back-from-requires
 put-back-from-requires c κs = search needs
 
 mul-start : tie.Need-mul-start
-mul-start c = let a = c .before .before .before .before .before .before .before .before .before .before .before .args in omega (arith, ends (a .l .change) (a .used) (a .mark) (length (a .journal .now)) (recordLength (a .l)) (c .before .before .before .before .before .before .before .before .before .before .before .pre .0 .change) (c .before .before .before .before .before .before .before .before .before .before .before .pre .1 .0 .0) (c .before .before .before .before .before .before .before .before .before .before .before .pre .1 .0 .1), starts (a .l .change) (a .used) (a .mark) (length (a .journal .now)) (recordLength (a .l)) (c .before .before .before .before .before .before .before .before .before .before .before .pre .0 .change) (c .before .before .before .before .before .before .before .before .before .before .before .pre .1 .0 .0) (c .before .before .before .before .before .before .before .before .before .before .before .pre .1 .0 .1), c .before .before .before .before .before .before .before .before .before .before .before .good)
+mul-start c =
+    let c11 = c .before .before .before .before .before .before .before .before .before .before .before in
+    let a = c11 .args in omega (arith, ends (a .l .change) (a .used) (a .mark) (length (a .journal .now)) (recordLength (a .l)) (c11 .pre .0 .change) (c11 .pre .1 .0 .0) (c11 .pre .1 .0 .1), starts (a .l .change) (a .used) (a .mark) (length (a .journal .now)) (recordLength (a .l)) (c11 .pre .0 .change) (c11 .pre .1 .0 .0) (c11 .pre .1 .0 .1), c11 .good)
 
 mul-end : tie.Need-mul-end
-mul-end c = let a = c .before .before .before .before .before .before .before .before .before .before .before .args in omega (arith, ends (a .l .change) (a .used) (a .mark) (length (a .journal .now)) (recordLength (a .l)) (c .before .before .before .before .before .before .before .before .before .before .before .pre .0 .change) (c .before .before .before .before .before .before .before .before .before .before .before .pre .1 .0 .0) (c .before .before .before .before .before .before .before .before .before .before .before .pre .1 .0 .1), c .before .before .before .before .before .before .before .before .before .before .before .good)
+mul-end c =
+    let c11 = c .before .before .before .before .before .before .before .before .before .before .before in
+    let a = c11 .args in omega (arith, ends (a .l .change) (a .used) (a .mark) (length (a .journal .now)) (recordLength (a .l)) (c11 .pre .0 .change) (c11 .pre .1 .0 .0) (c11 .pre .1 .0 .1), c11 .good)
 
 sub-clear : tie.Need-sub-clear
-sub-clear c = let a = c .before .before .before .before .before .before .before .before .before .before .before .args in starts (a .l .change) (a .used) (a .mark) (length (a .journal .now)) (recordLength (a .l)) (c .before .before .before .before .before .before .before .before .before .before .before .pre .0 .change) (c .before .before .before .before .before .before .before .before .before .before .before .pre .1 .0 .0) (c .before .before .before .before .before .before .before .before .before .before .before .pre .1 .0 .1)
+sub-clear c =
+    let c11 = c .before .before .before .before .before .before .before .before .before .before .before in
+    let a = c11 .args in starts (a .l .change) (a .used) (a .mark) (length (a .journal .now)) (recordLength (a .l)) (c11 .pre .0 .change) (c11 .pre .1 .0 .0) (c11 .pre .1 .0 .1)
 
 part-clear-start : tie.Need-part-clear-start
-part-clear-start c = let a = c .before .before .before .before .before .before .before .before .before .before .before .args in starts (a .l .change) (a .used) (a .mark) (length (a .journal .now)) (recordLength (a .l)) (c .before .before .before .before .before .before .before .before .before .before .before .pre .0 .change) (c .before .before .before .before .before .before .before .before .before .before .before .pre .1 .0 .0) (c .before .before .before .before .before .before .before .before .before .before .before .pre .1 .0 .1)
+part-clear-start c =
+    let c11 = c .before .before .before .before .before .before .before .before .before .before .before in
+    let a = c11 .args in starts (a .l .change) (a .used) (a .mark) (length (a .journal .now)) (recordLength (a .l)) (c11 .pre .0 .change) (c11 .pre .1 .0 .0) (c11 .pre .1 .0 .1)
 
 part-clear-end : tie.Need-part-clear-end
-part-clear-end c = let a = c .before .before .before .before .before .before .before .before .before .before .before .args in ends (a .l .change) (a .used) (a .mark) (length (a .journal .now)) (recordLength (a .l)) (c .before .before .before .before .before .before .before .before .before .before .before .pre .0 .change) (c .before .before .before .before .before .before .before .before .before .before .before .pre .1 .0 .0) (c .before .before .before .before .before .before .before .before .before .before .before .pre .1 .0 .1)
+part-clear-end c =
+    let c11 = c .before .before .before .before .before .before .before .before .before .before .before in
+    let a = c11 .args in ends (a .l .change) (a .used) (a .mark) (length (a .journal .now)) (recordLength (a .l)) (c11 .pre .0 .change) (c11 .pre .1 .0 .0) (c11 .pre .1 .0 .1)
 
 clear-requires : tie.Need-clear-requires
 clear-requires c κs = search needs
@@ -51,10 +61,12 @@ same-length-3 c = search needs
 
 returns : tie.Need-returns
 returns c =
-    let a = c .before .before .before .before .before .before .before .before .before .before .before .before .before .before .before .args in
+    let c8 = c .before .before .before .before .before .before .before .before in
+    let c15 = c8 .before .before .before .before .before .before .before in
+    let a = c15 .args in
     let w = a .l .change in
     let j = a .journal .now in
-    (c .before .before .before .before .before .before .before .before .put-back-from .ensures, ap (λ l. putMid (a .mark * w) (a .used * w - a .mark * w) j l) (c .before .before .clear .ensures) ∙ cleared w (a .mark) (a .used) j (c .before .before .before .before .before .before .before .before .before .before .before .before .before .before .before .pre .1 .0 .0) (ends w (a .used) (a .mark) (length j) (recordLength (a .l)) (c .before .before .before .before .before .before .before .before .before .before .before .before .before .before .before .pre .0 .change) (c .before .before .before .before .before .before .before .before .before .before .before .before .before .before .before .pre .1 .0 .0) (c .before .before .before .before .before .before .before .before .before .before .before .before .before .before .before .pre .1 .0 .1)) ∙ ap (λ n. take (a .mark * n) j ++ replicate ((a .used - a .mark) * n) 0 ++ drop (a .used * n) j) (c .before .before .before .before .before .before .before .before .before .before .before .before .before .before .before .pre .0 .change))
+    (c8 .put-back-from .ensures, ap (λ l. putMid (a .mark * w) (a .used * w - a .mark * w) j l) (c .before .before .clear .ensures) ∙ cleared w (a .mark) (a .used) j (c15 .pre .1 .0 .0) (ends w (a .used) (a .mark) (length j) (recordLength (a .l)) (c15 .pre .0 .change) (c15 .pre .1 .0 .0) (c15 .pre .1 .0 .1)) ∙ ap (λ n. take (a .mark * n) j ++ replicate ((a .used - a .mark) * n) 0 ++ drop (a .used * n) j) (c15 .pre .0 .change))
 
 pub undo-to-spec : {M : Type 1} → statement M
 undo-to-spec =

@@ -1,0 +1,52 @@
+-- `edge_arrives` meets its contract: what it tests of the edge, in the order of the definition.
+use borrow.Author.Tests.{eq-eqb, ne-eqb}
+use borrow.Author.Needs.{needs}
+use Rattle.meaning.specs.Basics.{both}
+use Rattle.meaning.specs.Matching.{arrives}
+use Rattle.graph.proofs.edge_arrives.Statement.{statement}
+use Rattle.graph.proofs.edge_arrives.Tie as tie
+
+edge-live-requires : tie.Need-edge-live-requires
+edge-live-requires c κs = search needs
+
+edge-target-requires : tie.Need-edge-target-requires
+edge-target-requires c κs = search needs
+
+edge-source-requires : tie.Need-edge-source-requires
+edge-source-requires c κs = search needs
+
+returns : tie.Need-returns
+unfolding arrives both
+returns c =
+    rw (
+      ← (c .before .before .before .before .edge-live .ensures),
+      ← (c .before .before .edge-target .ensures),
+      ← (c .edge-source .ensures),
+      c .before .before .before .if1 .taken,
+      eq-eqb _ _ (c .before .if2 .taken),
+    )
+
+returns-2 : tie.Need-returns-2
+unfolding arrives both
+returns-2 c =
+    rw (
+      ← (c .before .before .before .edge-live .ensures),
+      ← (c .before .edge-target .ensures),
+      c .before .before .if1 .taken,
+      ne-eqb _ _ (c .if2 .left),
+    )
+
+returns-3 : tie.Need-returns-3
+unfolding arrives both
+returns-3 c = rw (← (c .before .edge-live .ensures), c .if1 .left)
+
+pub edge-arrives-spec : {M : Type 1} → statement M
+edge-arrives-spec =
+    tie.close
+    (tie.spec
+    edge-live-requires
+    edge-target-requires
+    edge-source-requires
+    returns
+    returns-2
+    returns-3)

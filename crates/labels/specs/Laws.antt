@@ -1,0 +1,207 @@
+-- Laws of labels in hand: filling one, a part of one, and comparing one with a part of another.
+-- Rests on Labels and on the meaning's laws.
+use mathlib.Core.Path.{_≡_, refl, sym, _∙_, ap}
+use mathlib.Core.Bool.{Bool, true, false}
+use mathlib.Core.List.{List, [], _∷_, _++_}
+use Prim.Native.Nat.{ℕ, zero, suc, _+_, _-_, _*_, _<_, _≤_}
+use native.Mathlib.Omega.{arith}
+use native.Mathlib.Numerals.{add-one}
+use native.Mathlib.Decide.{ℕ-discrete}
+use borrow.Author.Tests.{eq-eqb, ne-eqb}
+use lib.Dec.{eqb}
+use lib.ListN.{length, getD, set, take, drop, replicate, length-take, length-drop, length-set, drop-of-length-le}
+use lib.Seq.{length-take-le, take-all, take-nil, take-suc, take-suc-set, getD-set-same, getD-set-other, getD-take, getD-drop, drop-drop, ext-getD}
+use Rattle.meaning.specs.Basics.{both, same}
+use Rattle.meaning.specs.Numbers.{number, whole}
+use Rattle.meaning.specs.Layout.{atoms}
+use Rattle.meaning.specs.Laws.Tests.{same-true, same-of}
+use Rattle.meaning.specs.Laws.Layout.{length-atoms, getD-atoms}
+use Rattle.labels.specs.Labels.{atomsIn, Held, Holds}
+use Rattle.labels.specs.declared.Label.{Label}
+
+-- Filling a label.
+
+-- the first j of eight words are those of the list
+pub record Filled (m : List ℕ) (j : ℕ) (l : List ℕ) : Type 0 where
+  pub room : length l ≡ 8
+  pub small : (i : ℕ) → getD l i 0 < whole
+  pub front : take j l ≡ take j m
+
+zero-at : (n i : ℕ) → _≡_ {A = ℕ} (getD (replicate n 0) i 0) 0
+zero-at zero i = refl
+zero-at (suc n) zero = refl
+zero-at (suc n) (suc i) = zero-at n i
+
+pub filled-none : (m : List ℕ) → Filled m 0 (replicate 8 0)
+filled-none m = record { room = refl; small = λ i. omega (arith, zero-at 8 i); front = refl }
+
+pub filled-more : (m l : List ℕ) (j v : ℕ) → Filled m j l → j < 8 → j < length m → v < whole → v ≡ getD m j 0
+    → Filled m (j + 1) (set l j v)
+filled-more m l j v f h k s e =
+    let r = f .room in
+    record {
+      room = length-set l j v ∙ r;
+      small = λ i. go i (ℕ-discrete i j);
+      front = rw (add-one j, take-suc-set l j v (omega arith), take-suc m j 0 k, f .front, e);
+    }
+  where
+    go : (i : ℕ) → Dec (i ≡ j) → getD (set l j v) i 0 < whole
+    go i (yes q) = let r = f .room in rw (q, getD-set-same l j v 0 (omega arith)) s
+    go i (no q) = rw (getD-set-other l j i v 0 q) (f .small i)
+
+pub filled-all : (m l : List ℕ) (n : ℕ) → Filled m n l → n ≤ 8 → n ≡ length m → Holds m (record { len = n; atoms = l })
+filled-all m l n f h e =
+    record {
+      held = record { few = h; room = f .room; small = f .small };
+      atoms = f .front ∙ take-all n m (omega arith);
+    }
+
+-- how many atoms a label in hand has
+pub held-length : (a : Label) → Held a → length (atomsIn a) ≡ a .len
+held-length a h = let f = h .few in let r = h .room in length-take-le (a .len) (a .atoms) (omega arith)
+
+-- atom j of a slot, from its own bytes
+pub atoms-from : (n j start : ℕ) (bs : List ℕ) → j < n → number (take 4 (drop (start + 4 * j) bs)) ≡ getD (atoms n (drop start bs)) j 0
+atoms-from n j start bs h =
+    let e : 4 * j ≡ j * 4 = omega arith in
+    sym (getD-atoms n (drop start bs) j h ∙ rw (drop-drop (j * 4) start bs, e))
+
+-- A part of a label.
+
+module _ (x : List ℕ) (len from n : ℕ) (fits : from + n ≤ len) (there : len ≤ length x) where
+  part-length : length (take n (drop from (take len x))) ≡ n
+  part-length =
+      let k = length-take-le len x there in
+      let d = length-drop from (take len x) in
+      length-take-le n (drop from (take len x)) (omega arith)
+
+  part-at : (j : ℕ) → j < n → getD (take n (drop from (take len x))) j 0 ≡ getD x (from + j) 0
+  part-at j h = getD-take n _ j 0 h ∙ getD-drop from _ j 0 ∙ getD-take len x (from + j) 0 (omega arith)
+
+  pub part-same : take n (drop from x) ≡ take n (drop from (take len x))
+  part-same =
+      let d = length-drop from x in
+      let k = length-take-le n (drop from x) (omega arith) in
+      ext-getD 0 _ _ (k ∙ sym part-length) (λ j h.
+      let i : j < n = omega arith in
+      getD-take n (drop from x) j 0 i ∙ getD-drop from x j 0 ∙ sym (part-at j i))
+
+-- copying a part
+module _ (a : Label) (from n j : ℕ) (l : List ℕ) (h : Held a) (fits : from + n ≤ a .len) (f : Filled (take n (drop from (a .atoms))) j l) where
+  copied-length : length (take n (drop from (a .atoms))) ≡ n
+  copied-length =
+      let w = h .few in
+      let r = h .room in
+      let d = length-drop from (a .atoms) in
+      length-take-le n (drop from (a .atoms)) (omega arith)
+
+  pub copied-more : j < n → Filled (take n (drop from (a .atoms))) (j + 1) (set l j (getD (a .atoms) (from + j) 0))
+  copied-more k =
+      let w = h .few in
+      let e = copied-length in
+      filled-more _ l j _ f (omega arith) (omega arith) (h .small (from + j))
+      (sym (getD-take n (drop from (a .atoms)) j 0 k ∙ getD-drop from (a .atoms) j 0))
+
+  pub copied-all : j ≡ n → Holds (take n (drop from (atomsIn a))) (record { len = n; atoms = l })
+  copied-all e =
+      let w = h .few in
+      let r = h .room in
+      rw (← (part-same (a .atoms) (a .len) from n fits (omega arith)))
+      (filled-all _ l n (rw e at f) (omega arith) (sym copied-length))
+
+-- cutting: nothing from the end on, and what is left where that is less
+pub cut-none : (a r : Label) (from n : ℕ) → Held a → a .len ≤ from → Holds [] r → Holds (take n (drop from (atomsIn a))) r
+cut-none a r from n h k e =
+    let i = held-length a h in
+    rw (drop-of-length-le (atomsIn a) {i = from} (omega arith), take-nil {A = ℕ} n) e
+
+pub cut-rest : (a r : Label) (from n : ℕ) → Held a → a .len - from ≤ n → Holds (take (a .len - from) (drop from (atomsIn a))) r
+    → Holds (take n (drop from (atomsIn a))) r
+cut-rest a r from n h k e =
+    let i = held-length a h in
+    let d = length-drop from (atomsIn a) in
+    rw (take-all n (drop from (atomsIn a)) (omega arith)) (rw (take-all (a .len - from) (drop from (atomsIn a)) (omega arith)) at e)
+
+-- reading a slot's label
+module _ (b : List ℕ) (start n j : ℕ) (l : List ℕ) (few : n ≤ 8) (f : Filled (atoms n (drop start b)) j l) where
+  pub read-more : (v : ℕ) → v ≡ number (take 4 (drop (start + 4 * j) b)) → v < whole → j < n → Filled (atoms n (drop start b)) (j + 1) (set l j v)
+  read-more v e s k =
+      let i = length-atoms n (drop start b) in
+      filled-more _ l j v f (omega arith) (omega arith) s (e ∙ atoms-from n j start b k)
+
+  pub read-all : n ≡ getD b 3 0 → j ≡ n → Holds (atoms (getD b 3 0) (drop start b)) (record { len = n; atoms = l })
+  read-all e q = rw (← e) (filled-all _ l n (rw q at f) few (sym (length-atoms n (drop start b))))
+
+-- Comparing.
+
+same-no : (l m : List ℕ) → (l ≡ m → ⊥) → false ≡ same l m
+same-no l m h = go (same l m) refl
+  where
+    go : (b : Bool) → same l m ≡ b → false ≡ same l m
+    go true q = absurd (h (same-true l m q))
+    go false q = sym q
+
+-- label a has all of label b from a place on, if it has as many atoms and each is the same
+module _ (a : Label) (from : ℕ) (b : Label) (h : Held a) (k : Held b) where
+  abbrev there : List ℕ
+  there = take (length (atomsIn b)) (drop from (atomsIn a))
+
+  pub has-short : from ≤ a .len → a .len - from < b .len → false ≡ same there (atomsIn b)
+  has-short f s =
+      same-no _ _ (λ e.
+      let i = held-length a h in
+      let j = held-length b k in
+      let d = length-drop from (atomsIn a) in
+      let t = length-take (length (atomsIn b)) (drop from (atomsIn a)) in
+      let q = ap length e in
+      omega arith)
+
+  module _ (fits : from + b .len ≤ a .len) where
+    there-length : length there ≡ b .len
+    there-length =
+        let f = h .few in
+        let r = h .room in
+        rw (held-length b k) (part-length (a .atoms) (a .len) from (b .len) fits (omega arith))
+
+    there-at : (j : ℕ) → j < b .len → getD there j 0 ≡ getD (a .atoms) (from + j) 0
+    there-at j l =
+        let f = h .few in
+        let r = h .room in
+        rw (held-length b k) (part-at (a .atoms) (a .len) from (b .len) fits (omega arith) j l)
+
+    pub has-other : (j : ℕ) → j < b .len → (getD (a .atoms) (from + j) 0 ≡ getD (b .atoms) j 0 → ⊥) → false ≡ same there (atomsIn b)
+    has-other j l d =
+        same-no _ _ (λ e. d (sym (there-at j l) ∙ ap (λ (m : List ℕ). getD m j 0) e ∙ getD-take (b .len) (b .atoms) j 0 l))
+
+    pub has-all : ((j : ℕ) → j < b .len → getD (a .atoms) (from + j) 0 ≡ getD (b .atoms) j 0) → true ≡ same there (atomsIn b)
+    has-all e =
+        let t = there-length in
+        let u = held-length b k in
+        sym (same-of there (atomsIn b) (ext-getD 0 there (atomsIn b) (t ∙ sym u) (λ j l.
+        there-at j (omega arith) ∙ e j (omega arith) ∙ sym (getD-take (b .len) (b .atoms) j 0 (omega arith)))))
+
+-- the atoms of a label are those of two in a row, if it begins with the first and goes on with the second
+pub same-append : (xs ys zs : List ℕ) → same xs (ys ++ zs) ≡ both (same (take (length ys) xs) ys) (same (drop (length ys) xs) zs)
+unfolding same both
+same-append xs [] zs = refl
+same-append [] (b ∷ ys) zs = refl
+same-append (a ∷ xs) (b ∷ ys) zs = at (eqb a b) (same-append xs ys zs)
+  where
+    at : (t : Bool) → same xs (ys ++ zs) ≡ both (same (take (length ys) xs) ys) (same (drop (length ys) xs) zs)
+        → both t (same xs (ys ++ zs)) ≡ both (both t (same (take (length ys) xs) ys)) (same (drop (length ys) xs) zs)
+    at true e = e
+    at false e = refl
+
+-- the same from a place on: a step of a walk, and its end
+pub same-step : (xs ys zs : List ℕ) (from : ℕ)
+    → same (drop from xs) (ys ++ zs) ≡ both (same (take (length ys) (drop from xs)) ys) (same (drop (from + length ys) xs) zs)
+same-step xs ys zs from = rw (← (drop-drop (length ys) from xs)) (same-append (drop from xs) ys zs)
+
+pub same-end : (xs : List ℕ) (from : ℕ) → from ≤ length xs → same (drop from xs) [] ≡ eqb from (length xs)
+same-end xs from h = go (ℕ-discrete from (length xs))
+  where
+    go : Dec (from ≡ length xs) → same (drop from xs) [] ≡ eqb from (length xs)
+    go (yes e) = same-of _ [] (drop-of-length-le xs {i = from} (omega arith)) ∙ sym (eq-eqb _ _ e)
+    go (no d) =
+        let k = length-drop from xs in
+        sym (same-no (drop from xs) [] (λ e. let z = ap length e in omega arith)) ∙ sym (ne-eqb _ _ d)

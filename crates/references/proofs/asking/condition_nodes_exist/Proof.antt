@@ -1,0 +1,54 @@
+-- `asking::condition_nodes_exist` meets its contract.
+use borrow.Author.Needs.{needs}
+use Rattle.references.specs.Asking.{nodes-edge, nodes-equal, nodes-in, nodes-less, nodes-out}
+use Rattle.references.proofs.asking.condition_nodes_exist.Statement.{statement}
+use Rattle.references.proofs.asking.condition_nodes_exist.Tie as tie
+
+enum-known-c : tie.Need-enum-known-c
+enum-known-c c = search needs
+
+both-below-requires : tie.Need-both-below-requires
+both-below-requires c κs = search needs
+
+enum-known-c-2 : tie.Need-enum-known-c-2
+enum-known-c-2 c = search needs
+
+enum-known-c-3 : tie.Need-enum-known-c-3
+enum-known-c-3 c = search needs
+
+enum-known-c-4 : tie.Need-enum-known-c-4
+enum-known-c-4 c = search needs
+
+enum-known-c-5 : tie.Need-enum-known-c-5
+enum-known-c-5 c = search needs
+
+returns : tie.Need-returns
+returns c ts = nodes-edge _ _ ts _ _ _ (c .both-below .ensures) (c .before .before .c .given .1)
+
+returns-2 : tie.Need-returns-2
+returns-2 c ts = nodes-in _ _ ts _ _ (c .before .c2 .given .1)
+
+returns-3 : tie.Need-returns-3
+returns-3 c ts = nodes-out _ _ ts _ _ (c .before .c3 .given .1)
+
+returns-4 : tie.Need-returns-4
+returns-4 c ts = nodes-equal _ _ ts _ _ (c .before .c4 .given .1)
+
+returns-5 : tie.Need-returns-5
+returns-5 c ts = nodes-less _ _ ts _ _ (c .before .c5 .given .1)
+
+pub condition-nodes-exist-spec : {M : Type 1} → statement M
+condition-nodes-exist-spec =
+    tie.close
+    (tie.spec
+    enum-known-c
+    both-below-requires
+    enum-known-c-2
+    enum-known-c-3
+    enum-known-c-4
+    enum-known-c-5
+    returns
+    returns-2
+    returns-3
+    returns-4
+    returns-5)

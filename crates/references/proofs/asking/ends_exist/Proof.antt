@@ -1,0 +1,24 @@
+-- `asking::ends_exist` meets its contract.
+use borrow.Author.Needs.{needs}
+use Rattle.references.specs.Asking.{ends-edge, ends-node}
+use Rattle.references.proofs.asking.ends_exist.Statement.{statement}
+use Rattle.references.proofs.asking.ends_exist.Tie as tie
+
+returns : tie.Need-returns
+returns c = ends-node _ _ _ (c .if1 .taken)
+
+byte-at-requires : tie.Need-byte-at-requires
+byte-at-requires c κs = search needs
+
+byte-at-requires-2 : tie.Need-byte-at-requires-2
+byte-at-requires-2 c κs = search needs
+
+both-below-requires : tie.Need-both-below-requires
+both-below-requires c κs = search needs
+
+returns-2 : tie.Need-returns-2
+returns-2 c = ends-edge _ _ _ _ _ _ (c .before .before .before .if1 .left) (c .before .before .byte-at .ensures .0) (c .before .byte-at2 .ensures .0) (c .both-below .ensures)
+
+pub ends-exist-spec : {M : Type 1} → statement M
+ends-exist-spec =
+    tie.close (tie.spec returns byte-at-requires byte-at-requires-2 both-below-requires returns-2)

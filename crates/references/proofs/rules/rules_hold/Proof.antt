@@ -1,0 +1,68 @@
+-- `rules::rules_hold` meets its contract. The loop's invariant: what is asked of all is what is asked from the place on.
+-- The measure is what is left of the bytes.
+use Prim.Native.Nat.{_-_}
+use borrow.Author.Needs.{needs}
+use lib.ListN.{length}
+use Rattle.meaning.specs.Basics.{every}
+use Rattle.meaning.specs.Image.{program}
+use Rattle.meaning.specs.References.{ruleHolds}
+use Rattle.references.specs.Asked.{partHolds}
+use Rattle.references.specs.Rows.{image-run, imagePart, imageParts}
+use Rattle.references.specs.Runs.{Walk, walk-cut, walk-done, walk-next, walk-start, walk-stop}
+use Rattle.references.specs.Ties.{parts-hold}
+use Rattle.references.proofs.Loops.{a-field, nearer, no-field, part-in}
+use Rattle.references.proofs.rules.rules_hold.Statement.{statement}
+use Rattle.references.proofs.rules.rules_hold.Tie as tie
+
+abbrev Inv-loop : tie.InvT-loop
+Inv-loop image at₀ at = Walk imagePart partHolds image (program image) (λ p. every ruleHolds (p .rules)) at
+
+abbrev μ-loop : tie.MeasureT-loop
+μ-loop image at₀ at = length image - at
+
+loop-holds : tie.Need-loop-holds Inv-loop μ-loop
+loop-holds c = walk-start (λ p e. let t = image-run _ p e in (imageParts (t .0) p, t .2, parts-hold (t .0) p))
+
+read-field-requires : tie.Need-read-field-requires Inv-loop μ-loop
+read-field-requires c κs = search needs
+
+enum-known-found : tie.Need-enum-known-found Inv-loop μ-loop
+enum-known-found c = search needs
+
+returns : tie.Need-returns Inv-loop μ-loop
+returns c = walk-cut (c .before .before .before .loop .inv) (c .before .before .loop-test .taken) (no-field _ _ _ (c .before .read-field .ensures) (c .match .keys2))
+
+part-requires : tie.Need-part-requires Inv-loop μ-loop
+part-requires c κs = part-in (a-field _ _ (c .before .before .before .read-field .ensures) (c .before .found .given .1))
+
+part-holds-requires : tie.Need-part-holds-requires Inv-loop μ-loop
+part-holds-requires c κs = search needs
+
+loop-less : tie.Need-loop-less Inv-loop μ-loop
+loop-less c = nearer (a-field _ _ (c .before .before .before .before .before .before .read-field .ensures) (c .before .before .before .before .found .given .1))
+
+loop-again : tie.Need-loop-again Inv-loop μ-loop
+loop-again c = walk-next (c .before .before .before .before .before .before .before .before .loop .inv) (c .before .before .before .before .before .before .before .loop-test .taken) (a-field _ _ (c .before .before .before .before .before .before .read-field .ensures) (c .before .before .before .before .found .given .1)) (c .before .before .part .ensures) (c .before .part-holds .ensures) (c .if1 .taken)
+
+returns-2 : tie.Need-returns-2 Inv-loop μ-loop
+returns-2 c = walk-stop (c .before .before .before .before .before .before .before .before .loop .inv) (c .before .before .before .before .before .before .before .loop-test .taken) (a-field _ _ (c .before .before .before .before .before .before .read-field .ensures) (c .before .before .before .before .found .given .1)) (c .before .before .part .ensures) (c .before .part-holds .ensures) (c .if1 .left)
+
+returns-3 : tie.Need-returns-3 Inv-loop μ-loop
+returns-3 c = walk-done (c .before .loop .inv) (c .loop-test .left)
+
+pub rules-hold-spec : {M : Type 1} → statement M
+rules-hold-spec =
+    tie.close
+    (tie.spec
+    Inv-loop
+    μ-loop
+    loop-holds
+    read-field-requires
+    enum-known-found
+    returns
+    part-requires
+    part-holds-requires
+    loop-less
+    loop-again
+    returns-2
+    returns-3)

@@ -1,0 +1,146 @@
+-- What the walks ask of each element, item, test and command. Rests on the meaning's References and on Rows.
+use mathlib.Core.Bool.{Bool, true, false, not}
+use mathlib.Core.List.{List, [], _∷_}
+use Prim.Native.Nat.{ℕ, _+_}
+use lib.ListN.{length, getD}
+use lib.Dec.{eqb, leb, ltb}
+use Rattle.meaning.specs.Basics.{choose, both, either, every, absent}
+use Rattle.meaning.specs.Image.{RuleGraph, Rule, Command, ruleSet, sequence, guarded, loop, skip, fail, break, Commands, stop, then, anyMark}
+use Rattle.meaning.specs.References.{operandNames, elementOperands, elementNames, conditionOperands, conditionNodes, isPlain, endsExist, testNodesExist, interfaceFits, leftPlain, leftSimple, operandsInt, variablesOnLeft, anyPlaced, ruleHolds}
+use Rattle.meaning.specs.declared.Operand.{Operand}
+use Rattle.meaning.specs.declared.Operand.the-variants.{Constant as constantOperand, Variable as variableOperand}
+use Rattle.meaning.specs.declared.Element.{Element}
+use Rattle.meaning.specs.declared.Element.the-variants.{Constant, Variable, Sum, Difference}
+use Rattle.meaning.specs.declared.Condition.{Condition}
+use Rattle.meaning.specs.declared.Test.{Test}
+use Rattle.references.specs.declared.Ask.{Ask}
+use Rattle.references.specs.declared.Ask.the-variants.{Named, Int, Lacks, Plain}
+use Rattle.references.specs.declared.Check.{Check}
+use Rattle.references.specs.declared.Check.the-variants.{Elements, Lists, Nodes, Marks}
+use Rattle.references.specs.declared.Demand.{Demand}
+use Rattle.references.specs.declared.Demand.the-variants.{Rules, Breaks}
+use Rattle.references.specs.Rows.{Item, node, edge, items, Part, ruleOf, mainOf}
+
+-- Elements and operands; `ts` are the types of the variables.
+
+unfoldable pub intOperand : List ℕ → Operand → Bool
+intOperand ts (constantOperand c) = true
+intOperand ts (variableOperand v) = eqb (getD ts v 0) 1
+
+unfoldable pub operandAsked : Ask → List ℕ → Operand → Bool
+operandAsked Named ts o = every (λ v. ltb v (length ts)) (operandNames o)
+operandAsked Int ts o = intOperand ts o
+operandAsked (Lacks u) ts o = absent u (operandNames o)
+operandAsked Plain ts o = false
+
+unfoldable pub elementAsked : Ask → List ℕ → Element → Bool
+elementAsked Named ts e = every (λ v. ltb v (length ts)) (elementNames e)
+elementAsked Int ts e = every (intOperand ts) (elementOperands e)
+elementAsked (Lacks u) ts e = absent u (elementNames e)
+elementAsked Plain ts e = isPlain e
+
+-- how many elements are list variables
+
+unfoldable pub listOf : List ℕ → Element → ℕ
+listOf ts (Constant c) = 0
+listOf ts (Variable v) = choose (eqb (getD ts v 0) 2) 1 0
+listOf ts (Sum a b) = 0
+listOf ts (Difference a b) = 0
+
+unfoldable pub listsIn : List ℕ → List Element → ℕ
+listsIn ts [] = 0
+listsIn ts (e ∷ l) = listOf ts e + listsIn ts l
+
+-- Items of a graph, and tests.
+
+unfoldable pub itemLabel : Item → List Element
+itemLabel (node n) = n .label
+itemLabel (edge e) = e .label
+
+unfoldable pub endsBelow : ℕ → Item → Bool
+endsBelow n (node x) = true
+endsBelow n (edge e) = both (ltb (e .source) n) (ltb (e .target) n)
+
+unfoldable pub edgeMarked : Item → Bool
+edgeMarked (node x) = true
+edgeMarked (edge e) = not (eqb (e .mark) anyMark)
+
+unfoldable pub itemAsked : Check → List ℕ → Item → Bool
+itemAsked (Elements ask) ts i = every (elementAsked ask ts) (itemLabel i)
+itemAsked Lists ts i = leb (listsIn ts (itemLabel i)) 1
+itemAsked (Nodes n) ts i = endsBelow n i
+itemAsked Marks ts i = edgeMarked i
+
+unfoldable pub graphAsked : Check → List ℕ → RuleGraph → Bool
+graphAsked check ts g = every (itemAsked check ts) (items g)
+
+unfoldable pub conditionAsked : Check → List ℕ → Condition → Bool
+conditionAsked (Elements ask) ts c = every (operandAsked ask ts) (conditionOperands c)
+conditionAsked Lists ts c = true
+conditionAsked (Nodes n) ts c = every (λ a. ltb a n) (conditionNodes c)
+conditionAsked Marks ts c = true
+
+unfoldable pub testAsked : Check → List ℕ → Test → Bool
+testAsked check ts t = conditionAsked check ts (t .condition)
+
+-- Rules.
+
+-- the right side and the tests
+unfoldable pub rightAsked : Check → Rule → Bool
+rightAsked check x = both (graphAsked check (x .variables) (x .right)) (every (testAsked check (x .variables)) (x .tests))
+
+-- a variable that the left side lacks, the right side and the tests lack
+unfoldable pub keptOnLeft : Rule → ℕ → Bool
+keptOnLeft x v =
+    either (not (graphAsked (Elements (Lacks v)) (x .variables) (x .left))) (rightAsked (Elements (Lacks v)) x)
+
+unfoldable pub nodesAsked : Rule → Bool
+nodesAsked x = both (endsExist (x .left)) (both (endsExist (x .right)) (both (testNodesExist x) (interfaceFits x)))
+
+unfoldable pub labelsAsked : Rule → Bool
+labelsAsked x = both (leftPlain x) (both (leftSimple x) (both (operandsInt x) (both (variablesOnLeft x) (anyPlaced x))))
+
+unfoldable pub partHolds : Part → Bool
+partHolds (ruleOf x) = ruleHolds x
+partHolds (mainOf t c) = true
+
+-- Commands.
+
+unfoldable pub numbersAsked : Demand → List ℕ → Bool
+numbersAsked (Rules n) l = every (λ i. ltb i n) l
+numbersAsked (Breaks ok) l = true
+
+abbrev pub breakAsked : Demand → Bool
+breakAsked (Rules n) = true
+breakAsked (Breaks ok) = ok
+
+abbrev pub inBody : Demand → Demand
+inBody (Rules n) = Rules n
+inBody (Breaks ok) = Breaks true
+
+abbrev pub inGuard : Demand → Demand
+inGuard (Rules n) = Rules n
+inGuard (Breaks ok) = Breaks false
+
+unfoldable mutual
+  pub commandAsked : Demand → Command → Bool
+  commandAsked d (ruleSet l) = numbersAsked d l
+  commandAsked d (sequence cs) = commandsAsked d cs
+  commandAsked d (guarded keep g a b) = both (commandAsked (inGuard d) g) (both (commandAsked d a) (commandAsked d b))
+  commandAsked d (loop c) = commandAsked (inBody d) c
+  commandAsked d skip = true
+  commandAsked d fail = true
+  commandAsked d break = breakAsked d
+
+  pub commandsAsked : Demand → Commands → Bool
+  commandsAsked d stop = true
+  commandsAsked d (then c cs) = both (commandAsked d c) (commandsAsked d cs)
+
+-- what is asked of the first of some commands, and of the others
+unfoldable pub partsAsked : Demand → Demand → List Command → Bool
+partsAsked first others [] = true
+partsAsked first others (c ∷ l) = both (commandAsked first c) (partsAsked others others l)
+
+-- what is asked of the first part of a command of a tag: a loop's body, a sequence's first command, or a guard
+unfoldable pub ofFirst : Demand → ℕ → Demand
+ofFirst d tag = choose (eqb tag 0x54) (inBody d) (choose (eqb tag 0x51) d (inGuard d))

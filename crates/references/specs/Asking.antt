@@ -1,0 +1,334 @@
+-- Laws of Asked, one for each answer of the code: elements, operands, conditions and items. Rests on Asked.
+use mathlib.Core.Path.{_≡_, refl, sym, _∙_, ap}
+use mathlib.Core.Bool.{Bool, true, false, not}
+use mathlib.Core.Option.{some, none}
+use mathlib.Core.List.{List, [], _∷_, _++_}
+use Prim.Native.Nat.{ℕ, _+_, _-_, _<_, _≤_}
+use native.Mathlib.Omega.{arith}
+use borrow.Author.Tests.{lt-ltb, le-ltb}
+use lib.ListN.{length, getD, take, drop}
+use lib.Dec.{eqb, leb, ltb}
+use Rattle.meaning.specs.Basics.{choose, both, every, absent}
+use Rattle.meaning.specs.Image.{label, element}
+use Rattle.meaning.specs.Image.{field, anyTag}
+use Rattle.meaning.specs.References.{operandNames, elementOperands, elementNames, conditionOperands, conditionNodes, isPlain}
+use Rattle.meaning.specs.Laws.Tests.{every-append, both-yes, both-no, choose-eq, choose-ne}
+use Rattle.meaning.specs.declared.Operand.{Operand}
+use Rattle.meaning.specs.declared.Operand.the-variants.{Constant as constantOperand, Variable as variableOperand}
+use Rattle.meaning.specs.declared.Element.{Element}
+use Rattle.meaning.specs.declared.Element.the-variants.{Constant, Variable, Sum, Difference}
+use Rattle.meaning.specs.declared.Condition.{Condition}
+use Rattle.meaning.specs.declared.Condition.the-variants.{Edge, InDegree, OutDegree, Equal, Less}
+use Rattle.fields.specs.Laws.{Lies}
+use Rattle.references.specs.declared.Ask.{Ask}
+use Rattle.references.specs.declared.Ask.the-variants.{Named, Int, Lacks, Plain}
+use Rattle.references.specs.declared.Check.{Check}
+use Rattle.references.specs.declared.Check.the-variants.{Elements, Lists, Nodes, Marks}
+use Rattle.references.specs.Runs.{For, Run, only-run, run-none, run-some, run-there}
+use Rattle.references.specs.Rows.{Item, node, edge, graphItem, item-is, node-is, edge-is}
+use Rattle.references.specs.Asked.{intOperand, operandAsked, elementAsked, listOf, listsIn, itemLabel, endsBelow, edgeMarked, itemAsked, conditionAsked}
+
+pub both-unit : (b : Bool) → b ≡ both b true
+unfolding both
+both-unit true = refl
+both-unit false = refl
+
+pub both-below : (a b n : ℕ) → a < n → ltb b n ≡ both (ltb a n) (ltb b n)
+both-below a b n h = sym (both-yes _ _ (lt-ltb a n h))
+
+pub both-above : (a b n : ℕ) → n ≤ a → false ≡ both (ltb a n) (ltb b n)
+both-above a b n h = sym (both-no _ _ (le-ltb a n h))
+
+-- a first answer that is true, and the second; or a first that is false
+pub both-then : {a b x y : Bool} → a ≡ true → a ≡ x → b ≡ y → b ≡ both x y
+both-then {x = x} {y = y} h p q = q ∙ sym (both-yes x y (sym p ∙ h))
+
+pub both-not : {a x : Bool} (y : Bool) → a ≡ false → a ≡ x → false ≡ both x y
+both-not {x = x} y h p = sym (both-no x y (sym p ∙ h))
+
+pub absent-append : (u : ℕ) (l m : List ℕ) → absent u (l ++ m) ≡ both (absent u l) (absent u m)
+unfolding absent both
+absent-append u [] m = refl
+absent-append u (a ∷ l) m = at (not (eqb a u)) (absent-append u l m)
+  where
+    at : (b : Bool) → absent u (l ++ m) ≡ both (absent u l) (absent u m) → both b (absent u (l ++ m)) ≡ both (both b (absent u l)) (absent u m)
+    at true e = e
+    at false e = refl
+
+-- Variables and constants.
+
+module _ (ask : Ask) (ts : List ℕ) where
+  module _ (v : ℕ) where
+    pub variable-named : ask ≡ Named → ltb v (length ts) ≡ elementAsked ask ts (Variable v)
+    unfolding elementAsked elementNames every
+    variable-named e = rw e (both-unit _)
+
+    pub variable-int : ask ≡ Int → true ≡ elementAsked ask ts (Variable v)
+    unfolding elementAsked elementOperands every
+    variable-int e = rw e
+
+    pub variable-lacks : (u : ℕ) → ask ≡ Lacks u → not (eqb v u) ≡ elementAsked ask ts (Variable v)
+    unfolding elementAsked elementNames absent
+    variable-lacks u e = rw e (both-unit _)
+
+    pub variable-plain : ask ≡ Plain → true ≡ elementAsked ask ts (Variable v)
+    unfolding elementAsked isPlain
+    variable-plain e = rw e
+
+    pub operand-named : ask ≡ Named → ltb v (length ts) ≡ operandAsked ask ts (variableOperand v)
+    unfolding operandAsked operandNames every
+    operand-named e = rw e (both-unit _)
+
+    pub operand-int : (t : ℕ) → t ≡ getD ts v 0 → ask ≡ Int → eqb t 1 ≡ operandAsked ask ts (variableOperand v)
+    unfolding operandAsked intOperand
+    operand-int t h e = rw (e, h)
+
+    pub operand-lacks : (u : ℕ) → ask ≡ Lacks u → not (eqb v u) ≡ operandAsked ask ts (variableOperand v)
+    unfolding operandAsked operandNames absent
+    operand-lacks u e = rw e (both-unit _)
+
+    pub operand-plain : ask ≡ Plain → false ≡ operandAsked ask ts (variableOperand v)
+    unfolding operandAsked
+    operand-plain e = rw e
+
+  module _ (c : ℕ) where
+    pub constant-named : ask ≡ Named → true ≡ operandAsked ask ts (constantOperand c)
+    unfolding operandAsked operandNames every
+    constant-named e = rw e
+
+    pub constant-int : ask ≡ Int → true ≡ operandAsked ask ts (constantOperand c)
+    unfolding operandAsked intOperand
+    constant-int e = rw e
+
+    pub constant-lacks : (u : ℕ) → ask ≡ Lacks u → true ≡ operandAsked ask ts (constantOperand c)
+    unfolding operandAsked operandNames absent
+    constant-lacks u e = rw e
+
+    pub constant-plain : ask ≡ Plain → false ≡ operandAsked ask ts (constantOperand c)
+    unfolding operandAsked
+    constant-plain e = rw e
+
+  pub operand-of : (r : Bool) (o p : Operand) → o ≡ p → r ≡ operandAsked ask ts p → r ≡ operandAsked ask ts o
+  operand-of r o p e q = rw e q
+
+-- Elements.
+
+constant-holds : (ask : Ask) (ts : List ℕ) (c : ℕ) → true ≡ elementAsked ask ts (Constant c)
+unfolding elementAsked elementNames elementOperands every absent isPlain
+constant-holds Named ts c = refl
+constant-holds Int ts c = refl
+constant-holds (Lacks u) ts c = refl
+constant-holds Plain ts c = refl
+
+sum-holds : (ask : Ask) (ts : List ℕ) (a b : Operand) → both (operandAsked ask ts a) (operandAsked ask ts b) ≡ elementAsked ask ts (Sum a b)
+unfolding elementAsked operandAsked elementNames elementOperands every isPlain both
+sum-holds Named ts a b = sym (every-append _ (operandNames a) (operandNames b))
+sum-holds Int ts a b = ap (both (intOperand ts a)) (both-unit _)
+sum-holds (Lacks u) ts a b = sym (absent-append u (operandNames a) (operandNames b))
+sum-holds Plain ts a b = refl
+
+difference-holds : (ask : Ask) (ts : List ℕ) (a b : Operand) → both (operandAsked ask ts a) (operandAsked ask ts b) ≡ elementAsked ask ts (Difference a b)
+unfolding elementAsked operandAsked elementNames elementOperands every isPlain both
+difference-holds Named ts a b = sym (every-append _ (operandNames a) (operandNames b))
+difference-holds Int ts a b = ap (both (intOperand ts a)) (both-unit _)
+difference-holds (Lacks u) ts a b = sym (absent-append u (operandNames a) (operandNames b))
+difference-holds Plain ts a b = refl
+
+module _ (ask : Ask) (ts : List ℕ) (e : Element) where
+  pub element-constant : (c : ℕ) → e ≡ Constant c → true ≡ elementAsked ask ts e
+  element-constant c h = rw h (constant-holds ask ts c)
+
+  pub element-variable : (r : Bool) (v : ℕ) → e ≡ Variable v → r ≡ elementAsked ask ts (Variable v) → r ≡ elementAsked ask ts e
+  element-variable r v h q = rw h q
+
+  module _ (r : Bool) (a b : Operand) (q : r ≡ both (operandAsked ask ts a) (operandAsked ask ts b)) where
+    pub element-sum : e ≡ Sum a b → r ≡ elementAsked ask ts e
+    element-sum h = rw h (q ∙ sum-holds ask ts a b)
+
+    pub element-difference : e ≡ Difference a b → r ≡ elementAsked ask ts e
+    element-difference h = rw h (q ∙ difference-holds ask ts a b)
+
+-- Conditions.
+
+module _ (ask : Ask) (ts : List ℕ) (c : Condition) where
+  pub operands-edge : (a b : ℕ) → c ≡ Edge a b → true ≡ conditionAsked (Elements ask) ts c
+  unfolding conditionAsked conditionOperands every
+  operands-edge a b h = rw h
+
+  pub operands-in : (a b : ℕ) → c ≡ InDegree a b → true ≡ conditionAsked (Elements ask) ts c
+  unfolding conditionAsked conditionOperands every
+  operands-in a b h = rw h
+
+  pub operands-out : (a b : ℕ) → c ≡ OutDegree a b → true ≡ conditionAsked (Elements ask) ts c
+  unfolding conditionAsked conditionOperands every
+  operands-out a b h = rw h
+
+  module _ (r : Bool) (a b : Operand) (q : r ≡ both (operandAsked ask ts a) (operandAsked ask ts b)) where
+    pub operands-equal : c ≡ Equal a b → r ≡ conditionAsked (Elements ask) ts c
+    unfolding conditionAsked conditionOperands every
+    operands-equal h = rw h (q ∙ ap (both (operandAsked ask ts a)) (both-unit _))
+
+    pub operands-less : c ≡ Less a b → r ≡ conditionAsked (Elements ask) ts c
+    unfolding conditionAsked conditionOperands every
+    operands-less h = rw h (q ∙ ap (both (operandAsked ask ts a)) (both-unit _))
+
+module _ (n : ℕ) (c : Condition) (ts : List ℕ) where
+  pub nodes-edge : (r : Bool) (a b : ℕ) → r ≡ both (ltb a n) (ltb b n) → c ≡ Edge a b → r ≡ conditionAsked (Nodes n) ts c
+  unfolding conditionAsked conditionNodes every
+  nodes-edge r a b q h = rw h (q ∙ ap (both (ltb a n)) (both-unit _))
+
+  pub nodes-in : (a b : ℕ) → c ≡ InDegree a b → ltb a n ≡ conditionAsked (Nodes n) ts c
+  unfolding conditionAsked conditionNodes every
+  nodes-in a b h = rw h (both-unit _)
+
+  pub nodes-out : (a b : ℕ) → c ≡ OutDegree a b → ltb a n ≡ conditionAsked (Nodes n) ts c
+  unfolding conditionAsked conditionNodes every
+  nodes-out a b h = rw h (both-unit _)
+
+  pub nodes-equal : (a b : Operand) → c ≡ Equal a b → true ≡ conditionAsked (Nodes n) ts c
+  unfolding conditionAsked conditionNodes every
+  nodes-equal a b h = rw h
+
+  pub nodes-less : (a b : Operand) → c ≡ Less a b → true ≡ conditionAsked (Nodes n) ts c
+  unfolding conditionAsked conditionNodes every
+  nodes-less a b h = rw h
+
+module _ (check : Check) (ts : List ℕ) (c : Condition) where
+  pub condition-of : (r : Bool) (k : Check) → check ≡ k → r ≡ conditionAsked k ts c → r ≡ conditionAsked check ts c
+  condition-of r k e q = rw e q
+
+  pub condition-lists : check ≡ Lists → true ≡ conditionAsked check ts c
+  unfolding conditionAsked
+  condition-lists e = rw e
+
+  pub condition-marks : check ≡ Marks → true ≡ conditionAsked check ts c
+  unfolding conditionAsked
+  condition-marks e = rw e
+
+-- Lists.
+
+module _ (ts : List ℕ) (e : Element) where
+  pub list-constant : (c : ℕ) → e ≡ Constant c → 0 ≡ listOf ts e
+  unfolding listOf
+  list-constant c h = rw h
+
+  pub list-sum : (a b : Operand) → e ≡ Sum a b → 0 ≡ listOf ts e
+  unfolding listOf
+  list-sum a b h = rw h
+
+  pub list-difference : (a b : Operand) → e ≡ Difference a b → 0 ≡ listOf ts e
+  unfolding listOf
+  list-difference a b h = rw h
+
+  module _ (v t : ℕ) (q : t ≡ getD ts v 0) (h : e ≡ Variable v) where
+    pub list-yes : t ≡ 2 → 1 ≡ listOf ts e
+    unfolding listOf
+    list-yes k = rw h (sym (choose-eq (getD ts v 0) 2 1 0 (sym q ∙ k)))
+
+    pub list-no : (t ≡ 2 → ⊥) → 0 ≡ listOf ts e
+    unfolding listOf
+    list-no k = rw h (sym (choose-ne (getD ts v 0) 2 1 0 (λ x. k (q ∙ x))))
+
+list-small : (ts : List ℕ) (e : Element) → listOf ts e ≤ 1
+unfolding listOf choose
+list-small ts (Constant c) = omega arith
+list-small ts (Variable v) = at (eqb (getD ts v 0) 2)
+  where
+    at : (b : Bool) → choose b 1 0 ≤ 1
+    at true = omega arith
+    at false = omega arith
+list-small ts (Sum a b) = omega arith
+list-small ts (Difference a b) = omega arith
+
+-- n list variables are counted, and those from the place on are the others
+pub record Listing (ts bs : List ℕ) (at n : ℕ) : Type 0 where
+  pub left : For (label bs) (λ l. (m : List Element) × (Run element m [] (drop at bs)) × (listsIn ts l ≡ n + listsIn ts m))
+  pub few : n ≤ at
+  pub inside : at ≤ length bs
+
+pub label-run : (bs : List ℕ) (l : List Element) → label bs ≡ some l → Run element l [] bs
+unfolding label
+label-run bs l e = only-run anyTag element element (λ t b a p x. x) 4 bs l e
+
+pub listing-start : (ts bs : List ℕ) → Listing ts bs 0 0
+listing-start ts bs = record { left = λ l e. (l, label-run bs l e, omega arith); few = omega arith; inside = omega arith }
+
+module _ {ts bs : List ℕ} {at n : ℕ} (w : Listing ts bs at n) where
+  pub listing-done : length bs ≤ at → For (label bs) (λ l. n ≡ listsIn ts l)
+  unfolding listsIn
+  listing-done h l e =
+      let t = w .left l e in
+      let z : listsIn ts (t .0) ≡ 0 = ap (listsIn ts) (run-none element bs at (t .0) (t .1) h) in
+      omega (arith, t .2)
+
+  pub listing-cut : at < length bs → field (drop at bs) ≡ none → For (label bs) (λ l. n ≡ listsIn ts l)
+  listing-cut h k l e = let t = w .left l e in absurd (run-there element bs at (t .0) (t .1) h k)
+
+  module _ {tag start end r : ℕ} {part : List ℕ} {x : Element} (h : at < length bs) (k : Lies bs at tag start end) (p : part ≡ take (end - start) (drop start bs)) (q : For (element tag part) (λ e. x ≡ e)) (z : r ≡ listOf ts x) where
+    pub listing-next : Listing ts bs end (n + r)
+    unfolding listsIn
+    listing-next = record {
+      left = λ l e.
+          let t = w .left l e in
+          let u = run-some element bs at (t .0) (t .1) h tag start end k in
+          let s : r ≡ listOf ts (u .first) = z ∙ ap (listOf ts) (q (u .first) (ap (element tag) p ∙ u .read)) in
+          let v : listsIn ts (t .0) ≡ listOf ts (u .first) + listsIn ts (u .others) = ap (listsIn ts) (u .parts) in
+          (u .others, u .run, omega (arith, t .2, s, v));
+      few = omega (arith, w .few, z, list-small ts x, k .starts, k .ends);
+      inside = k .inside;
+    }
+
+    pub listing-fits : n + r ≤ length bs
+    listing-fits = omega (arith, w .few, z, list-small ts x, k .starts, k .ends, k .inside)
+
+-- Items.
+
+module _ (tag : ℕ) (bs : List ℕ) where
+  pub label-node : (rest : List ℕ) → tag ≡ 0x20 → rest ≡ drop 2 bs → For (graphItem tag bs) (λ i. label rest ≡ some (itemLabel i))
+  unfolding itemLabel
+  label-node rest h q (node n) e = ap label q ∙ node-is bs n (item-is tag bs (node n) e .1) .labelled
+  label-node rest h q (edge n) e = let t = item-is tag bs (edge n) e .0 in absurd (omega arith)
+
+  pub label-edge : (rest : List ℕ) → (tag ≡ 0x20 → ⊥) → rest ≡ drop 3 bs → For (graphItem tag bs) (λ i. label rest ≡ some (itemLabel i))
+  unfolding itemLabel
+  label-edge rest h q (node n) e = absurd (h (item-is tag bs (node n) e .0))
+  label-edge rest h q (edge n) e = ap label q ∙ edge-is bs n (item-is tag bs (edge n) e .1) .labelled
+
+  pub ends-node : (n : ℕ) → tag ≡ 0x20 → For (graphItem tag bs) (λ i. true ≡ endsBelow n i)
+  unfolding endsBelow
+  ends-node n h (node x) e = refl
+  ends-node n h (edge x) e = let t = item-is tag bs (edge x) e .0 in absurd (omega arith)
+
+  pub ends-edge : (n : ℕ) (r : Bool) (a b : ℕ) → (tag ≡ 0x20 → ⊥) → a ≡ getD bs 1 0 → b ≡ getD bs 2 0 → r ≡ both (ltb a n) (ltb b n) → For (graphItem tag bs) (λ i. r ≡ endsBelow n i)
+  unfolding endsBelow
+  ends-edge n r a b h p q z (node x) e = absurd (h (item-is tag bs (node x) e .0))
+  ends-edge n r a b h p q z (edge x) e =
+      let i = edge-is bs x (item-is tag bs (edge x) e .1) in
+      z ∙ rw (p ∙ i .source, q ∙ i .target)
+
+  pub marks-node : tag ≡ 0x20 → For (graphItem tag bs) (λ i. true ≡ edgeMarked i)
+  unfolding edgeMarked
+  marks-node h (node x) e = refl
+  marks-node h (edge x) e = let t = item-is tag bs (edge x) e .0 in absurd (omega arith)
+
+  pub marks-edge : (m : ℕ) → (tag ≡ 0x20 → ⊥) → m ≡ getD bs 0 0 → For (graphItem tag bs) (λ i. not (eqb m 6) ≡ edgeMarked i)
+  unfolding edgeMarked
+  marks-edge m h q (node x) e = absurd (h (item-is tag bs (node x) e .0))
+  marks-edge m h q (edge x) e = rw (q ∙ edge-is bs x (item-is tag bs (edge x) e .1) .mark)
+
+module _ (check : Check) (ts : List ℕ) (i : Item) where
+  pub item-elements : (r : Bool) (ask : Ask) → check ≡ Elements ask → r ≡ every (elementAsked ask ts) (itemLabel i) → r ≡ itemAsked check ts i
+  unfolding itemAsked
+  item-elements r ask e q = rw e q
+
+  pub item-lists : (n : ℕ) → check ≡ Lists → n ≡ listsIn ts (itemLabel i) → leb n 1 ≡ itemAsked check ts i
+  unfolding itemAsked
+  item-lists n e q = rw (e, q)
+
+  pub item-nodes : (r : Bool) (n : ℕ) → check ≡ Nodes n → r ≡ endsBelow n i → r ≡ itemAsked check ts i
+  unfolding itemAsked
+  item-nodes r n e q = rw e q
+
+  pub item-marks : (r : Bool) → check ≡ Marks → r ≡ edgeMarked i → r ≡ itemAsked check ts i
+  unfolding itemAsked
+  item-marks r e q = rw e q

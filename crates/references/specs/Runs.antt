@@ -1,0 +1,250 @@
+-- Rows of fields: what stands one after the other in bytes, each field read by `item` from its tag and payload; the walk of
+-- a loop over them; and the field of a number among them. Rests on the meaning's Image and on Fields.
+use mathlib.Core.Path.{_≡_, refl, sym, _∙_, ap}
+use mathlib.Core.Bool.{Bool, true, false}
+use mathlib.Core.Option.{Option, some, none}
+use mathlib.Core.List.{List, [], _∷_, _++_, map}
+use Prim.Native.Nat.{ℕ, zero, suc, _+_, _-_, _<_, _≤_}
+use native.Mathlib.Omega.{arith}
+use lib.ListN.{length, getD, take, drop, length-drop}
+use Rattle.meaning.specs.Basics.{every}
+use Rattle.meaning.specs.Image.{field, leading, only, Read}
+use Rattle.meaning.specs.Image.{Field as Whole}
+use Rattle.meaning.specs.Laws.Tests.{both-yes, both-no, bind-some, ensure-some, choose-true, choose-false, some-inj, empty-true}
+use Rattle.meaning.specs.Laws.Image.{field-is}
+use Rattle.fields.specs.Fields.{fieldAt, onward, nthField}
+use Rattle.fields.specs.Laws.{Lies, found-field, at-field}
+use Rattle.fields.specs.declared.Found.{Found}
+use Rattle.fields.specs.declared.Found.the-variants.{Field, Short, End}
+
+-- what holds of the value that is there, if there is one
+abbrev pub For : {A : Type 0} → Option A → (A → Type 0) → Type 0
+For {A} o P = (a : A) → o ≡ some a → P a
+
+-- a field that is read as `a`, and what is said of the bytes behind it
+pub record Next {A : Type 0} (item : ℕ → List ℕ → Option A) (a : A) (More : List ℕ → Type 0) (bs : List ℕ) : Type 0 where
+  pub whole : Whole
+  pub there : field bs ≡ some whole
+  pub read : item (whole .tag) (whole .payload) ≡ some a
+  pub more : More (whole .rest)
+
+-- the bytes are fields that are read as the items of the list, and then the rest
+unfoldable pub Run : {A : Type 0} → (ℕ → List ℕ → Option A) → List A → List ℕ → List ℕ → Type 0
+Run item [] rest bs = bs ≡ rest
+Run item (a ∷ l) rest bs = Next item a (Run item l rest) bs
+
+-- What `leading` and `only` read, each item read in the same way by `other` where its tag passes.
+
+module _ {A : Type 0} (passes : ℕ → Bool) (item other : ℕ → List ℕ → Option A) (keeps : (tag : ℕ) (bs : List ℕ) (a : A) → passes tag ≡ true → item tag bs ≡ some a → other tag bs ≡ some a) where
+  stop-run : (bs : List ℕ) (r : Read A) → some (record { items = []; rest = bs }) ≡ some r → Run other (r .items) (r .rest) bs
+  unfolding Run
+  stop-run bs r e = rw (← (some-inj (record { items = []; rest = bs }) r e))
+
+  pub leading-run : (n : ℕ) (bs : List ℕ) (r : Read A) → leading passes item n bs ≡ some r → Run other (r .items) (r .rest) bs
+  unfolding leading Run
+  leading-run zero bs r e = stop-run bs r e
+  leading-run (suc n) [] r e = stop-run [] r e
+  leading-run (suc n) (t ∷ bs) r e = at (passes t) refl (λ cs x h. leading-run n cs x h)
+    where
+      at : (b : Bool) → passes t ≡ b → ((cs : List ℕ) (x : Read A) → leading passes item n cs ≡ some x → Run other (x .items) (x .rest) cs) → Run other (r .items) (r .rest) (t ∷ bs)
+      at false h later = stop-run (t ∷ bs) r (sym (choose-false _ _ _ h) ∙ e)
+      at true h later =
+          let u = bind-some (field (t ∷ bs)) _ r (sym (choose-true _ _ _ h) ∙ e) in
+          let v = bind-some (item (u .0 .tag) (u .0 .payload)) _ r (u .2) in
+          let w = bind-some (leading passes item n (u .0 .rest)) _ r (v .2) in
+          let passed : passes (u .0 .tag) ≡ true = ap passes (field-is (t ∷ bs) (u .0) (u .1) .tag) ∙ h in
+          rw (← (some-inj (record { items = v .0 ∷ w .0 .items; rest = w .0 .rest }) r (w .2))) (record { whole = u .0; there = u .1; read = keeps _ _ _ passed (v .1); more = later (u .0 .rest) (w .0) (w .1) })
+
+  pub only-run : (n : ℕ) (bs : List ℕ) (l : List A) → only passes item n bs ≡ some l → Run other l [] bs
+  unfolding only
+  only-run n bs l e =
+      let t = bind-some (leading passes item n bs) _ l e in
+      let u = ensure-some _ _ l (t .2) in
+      let k = leading-run n bs (t .0) (t .1) in
+      rw (empty-true (t .0 .rest) (u .0), some-inj (t .0 .items) l (u .1)) at k
+
+-- two rows, one behind the other; a row read in another way
+module _ {A : Type 0} (item : ℕ → List ℕ → Option A) where
+  pub run-append : (l m : List A) (rest bs cs : List ℕ) → Run item l rest bs → Run item m cs rest → Run item (l ++ m) cs bs
+  unfolding Run
+  run-append [] m rest bs cs r s = rw r s
+  run-append (a ∷ l) m rest bs cs r s = record { whole = r .whole; there = r .there; read = r .read; more = run-append l m rest (r .whole .rest) cs (r .more) s }
+
+  pub run-map : {B : Type 0} (other : ℕ → List ℕ → Option B) (h : A → B) → ((tag : ℕ) (bs : List ℕ) (a : A) → item tag bs ≡ some a → other tag bs ≡ some (h a)) → (l : List A) (rest bs : List ℕ) → Run item l rest bs → Run other (map h l) rest bs
+  unfolding Run
+  run-map other h f [] rest bs r = r
+  run-map other h f (a ∷ l) rest bs r = record { whole = r .whole; there = r .there; read = f _ _ a (r .read); more = run-map other h f l rest (r .whole .rest) (r .more) }
+
+-- One step of a row that ends with the bytes.
+
+-- the first item, read from the part of the bytes where it lies, and the row behind it
+pub record Taken {A : Type 0} (item : ℕ → List ℕ → Option A) (l : List A) (bs : List ℕ) (tag start end : ℕ) : Type 0 where
+  pub first : A
+  pub others : List A
+  pub parts : l ≡ first ∷ others
+  pub read : item tag (take (end - start) (drop start bs)) ≡ some first
+  pub run : Run item others [] (drop end bs)
+
+module _ {A : Type 0} (item : ℕ → List ℕ → Option A) (bs : List ℕ) (at : ℕ) where
+  pub run-none : (l : List A) → Run item l [] (drop at bs) → length bs ≤ at → l ≡ []
+  unfolding Run
+  run-none [] r h = refl
+  run-none (a ∷ l) r h =
+      let i = field-is (drop at bs) (r .whole) (r .there) .long in
+      let d = length-drop at bs in
+      absurd (omega arith)
+
+  pub run-some : (l : List A) → Run item l [] (drop at bs) → at < length bs → (tag start end : ℕ) → Lies bs at tag start end → Taken item l bs tag start end
+  unfolding Run
+  run-some [] r h tag start end f =
+      let d : length (drop at bs) ≡ 0 = ap length r in
+      let e = length-drop at bs in
+      absurd (omega arith)
+  run-some (a ∷ l) r h tag start end f =
+      let same : r .whole ≡ f .whole = some-inj _ _ (sym (r .there) ∙ f .is) in
+      record {
+        first = a;
+        others = l;
+        parts = refl;
+        read = rw (← (f .tagged), ← (f .payload), ← same) (r .read);
+        run = rw (← (f .rest), ← same) (r .more);
+      }
+
+  -- a row that has not ended has a field
+  pub run-there : (l : List A) → Run item l [] (drop at bs) → at < length bs → field (drop at bs) ≡ none → ⊥
+  unfolding Run
+  run-there [] r h e =
+      let d : length (drop at bs) ≡ 0 = ap length r in
+      let k = length-drop at bs in
+      omega arith
+  run-there (a ∷ l) r h e =
+      let z : _≡_ {A = ℕ} 0 1 = cc (r .there) in
+      omega arith
+
+-- A loop that asks the same of every item of a row: `total` is what it is to answer, from what the bytes stand for.
+
+pub record Left {A : Type 0} (item : ℕ → List ℕ → Option A) (f : A → Bool) (bs : List ℕ) (at : ℕ) (total : Bool) : Type 0 where
+  pub items : List A
+  pub run : Run item items [] (drop at bs)
+  pub same : total ≡ every f items
+
+pub record Walk {A L : Type 0} (item : ℕ → List ℕ → Option A) (f : A → Bool) (bs : List ℕ) (o : Option L) (total : L → Bool) (at : ℕ) : Type 0 where
+  pub left : For o (λ x. Left item f bs at (total x))
+
+module _ {A L : Type 0} {item : ℕ → List ℕ → Option A} {f : A → Bool} {bs : List ℕ} {o : Option L} {total : L → Bool} where
+  pub walk-start : ((x : L) → o ≡ some x → (l : List A) × (Run item l [] bs) × (total x ≡ every f l)) → Walk item f bs o total 0
+  walk-start h = record { left = λ x e. let t = h x e in record { items = t .0; run = t .1; same = t .2 } }
+
+  module _ {at : ℕ} (w : Walk item f bs o total at) where
+    pub walk-done : length bs ≤ at → For o (λ x. true ≡ total x)
+    unfolding every
+    walk-done h x e =
+        let l = w .left x e in
+        sym (l .same ∙ ap (every f) (run-none item bs at (l .items) (l .run) h))
+
+    pub walk-cut : at < length bs → field (drop at bs) ≡ none → For o (λ x. false ≡ total x)
+    walk-cut h k x e = let l = w .left x e in absurd (run-there item bs at (l .items) (l .run) h k)
+
+    module _ {tag start end : ℕ} {part : List ℕ} {r : Bool} (h : at < length bs) (k : Lies bs at tag start end) (p : part ≡ take (end - start) (drop start bs)) (q : For (item tag part) (λ a. r ≡ f a)) where
+      pub walk-next : r ≡ true → Walk item f bs o total end
+      unfolding every
+      walk-next g = record {
+        left = λ x e.
+            let l = w .left x e in
+            let t = run-some item bs at (l .items) (l .run) h tag start end k in
+            record {
+              items = t .others;
+              run = t .run;
+              same = l .same ∙ ap (every f) (t .parts) ∙ both-yes (f (t .first)) (every f (t .others)) (sym (q (t .first) (ap (item tag) p ∙ t .read)) ∙ g);
+            };
+      }
+
+      pub walk-stop : r ≡ false → For o (λ x. false ≡ total x)
+      unfolding every
+      walk-stop g x e =
+          let l = w .left x e in
+          let t = run-some item bs at (l .items) (l .run) h tag start end k in
+          sym (l .same ∙ ap (every f) (t .parts) ∙ both-no (f (t .first)) (every f (t .others)) (sym (q (t .first) (ap (item tag) p ∙ t .read)) ∙ g))
+
+-- The field of a number.
+
+-- the part of the bytes that is the payload of a field that was found, and its tag
+unfoldable pub partOf : List ℕ → Found → List ℕ
+partOf bs (Field tag start end) = take (end - start) (drop start bs)
+partOf bs Short = []
+partOf bs End = []
+
+unfoldable pub tagOf : Found → ℕ
+tagOf (Field tag start end) = tag
+tagOf Short = 0
+tagOf End = 0
+
+abbrev pub nthPart : ℕ → List ℕ → List ℕ
+nthPart n bs = partOf bs (nthField n bs 0)
+
+abbrev pub nthTag : ℕ → List ℕ → ℕ
+nthTag n bs = tagOf (nthField n bs 0)
+
+pub part-field : (bs : List ℕ) (f : Found) (tag start end : ℕ) → f ≡ Field tag start end → partOf bs f ≡ take (end - start) (drop start bs)
+unfolding partOf
+part-field bs f tag start end e = rw e
+
+pub tag-field : (f : Found) (tag start end : ℕ) → f ≡ Field tag start end → tagOf f ≡ tag
+unfolding tagOf
+tag-field f tag start end e = rw e
+
+pub part-short : (bs : List ℕ) (f : Found) → f ≡ Short → partOf bs f ≡ []
+unfolding partOf
+part-short bs f e = rw e
+
+pub part-end : (bs : List ℕ) (f : Found) → f ≡ End → partOf bs f ≡ []
+unfolding partOf
+part-end bs f e = rw e
+
+pub tag-short : (f : Found) → f ≡ Short → tagOf f ≡ 0
+unfolding tagOf
+tag-short f e = rw e
+
+pub tag-end : (f : Found) → f ≡ End → tagOf f ≡ 0
+unfolding tagOf
+tag-end f e = rw e
+
+module _ (bs : List ℕ) where
+  -- a field that is found lies in the bytes
+  pub nth-inside : (n at tag start end : ℕ) → Field tag start end ≡ nthField n bs at → (start ≤ end) × (end ≤ length bs)
+  unfolding nthField onward
+  nth-inside zero at tag start end e =
+      let l = found-field bs at tag start end e in
+      (omega (arith, l .starts, l .ends), l .inside)
+  nth-inside (suc n) at tag start end e = go (fieldAt bs at) (λ x k. nth-inside n x tag start end k) e
+    where
+      go : (f : Found) → ((x : ℕ) → Field tag start end ≡ nthField n bs x → (start ≤ end) × (end ≤ length bs)) → Field tag start end ≡ onward f (λ x. nthField n bs x) → (start ≤ end) × (end ≤ length bs)
+      go (Field t s x) i e = i x e
+      go Short i e = let z : _≡_ {A = ℕ} 0 1 = cc in absurd (omega arith)
+      go End i e = let z : _≡_ {A = ℕ} 0 1 = cc in absurd (omega arith)
+
+  -- a field of a row, with its place
+  row-field : {A : Type 0} (item : ℕ → List ℕ → Option A) (a : A) (l : List A) (at : ℕ) → Run item (a ∷ l) [] (drop at bs) → (tag : ℕ) × (start : ℕ) × (end : ℕ) × (fieldAt bs at ≡ Field tag start end) × (item tag (take (end - start) (drop start bs)) ≡ some a) × (Run item l [] (drop end bs))
+  unfolding Run
+  row-field item a l at r =
+      let i = field-is (drop at bs) (r .whole) (r .there) .long in
+      let d = length-drop at bs in
+      let h : at < length bs = omega arith in
+      let f = at-field bs at h (r .whole) (r .there) in
+      let k = found-field bs at _ _ _ f in
+      let same : r .whole ≡ k .whole = some-inj _ _ (sym (r .there) ∙ k .is) in
+      (r .whole .tag, at + 3, at + 3 + length (r .whole .payload), sym f, rw (← (k .payload), ← same) (r .read), rw (← (k .rest), ← same) (r .more))
+
+  nth-run : {A : Type 0} (item : ℕ → List ℕ → Option A) (l : List A) (at n : ℕ) (d : A) → Run item l [] (drop at bs) → n < length l → item (tagOf (nthField n bs at)) (partOf bs (nthField n bs at)) ≡ some (getD l n d)
+  unfolding nthField onward
+  nth-run item [] at n d r h = absurd (omega arith)
+  nth-run item (a ∷ l) at zero d r h =
+      let t = row-field item a l at r in
+      rw (tag-field _ _ _ _ (t .3), part-field bs _ _ _ _ (t .3)) (t .4)
+  nth-run item (a ∷ l) at (suc n) d r h =
+      let t = row-field item a l at r in
+      rw (t .3) (nth-run item l (t .2) n d (t .5) (omega arith))
+
+  -- the item of a number is read from the field of that number
+  pub nth-item : {A : Type 0} (item : ℕ → List ℕ → Option A) (l : List A) (n : ℕ) (d : A) → Run item l [] bs → n < length l → item (nthTag n bs) (nthPart n bs) ≡ some (getD l n d)
+  nth-item item l n d r h = nth-run item l 0 n d r h

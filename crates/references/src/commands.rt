@@ -1,0 +1,119 @@
+// What is asked of commands: that the rules they name exist, or that each break lies in a loop body with no guard between.
+ghost use mathlib.Core.Path.{_≡_};
+ghost use lib.Dec.{ltb};
+ghost use Rattle.meaning.specs.Basics.{every};
+ghost use Rattle.meaning.specs.Image.{only, anyTag, command, program};
+ghost use Rattle.references.specs.Runs.{For};
+ghost use Rattle.references.specs.Asked.{numbersAsked, breakAsked, inBody, inGuard, ofFirst, commandAsked, partsAsked};
+use crate::Demand;
+use crate::parts;
+use fields::Found;
+
+pub fn numbers_below(p: &[u8], n: usize) -> bool
+    ensures { λ r. ⌜ r ≡ every (λ i. ltb i n) (now (p .entry)) ⌝ }
+{
+    let mut i: usize = 0;
+    while i < p.len() {
+        if fields::wide(p[i]) < n {
+            i += 1;
+        } else {
+            return false;
+        }
+    }
+    true
+}
+
+pub fn rule_set_holds(demand: Demand, p: &[u8]) -> bool
+    ensures { λ r. ⌜ r ≡ numbersAsked demand (now (p .entry)) ⌝ }
+{
+    match demand {
+        Demand::Rules(n) => numbers_below(p, n),
+        Demand::Breaks(ok) => true,
+    }
+}
+
+pub fn break_holds(demand: Demand) -> bool
+    ensures { λ r. ⌜ r ≡ breakAsked demand ⌝ }
+{
+    match demand {
+        Demand::Rules(n) => true,
+        Demand::Breaks(ok) => ok,
+    }
+}
+
+// What is asked in a loop's body.
+pub fn in_body(demand: Demand) -> Demand
+    ensures { λ r. ⌜ r ≡ inBody demand ⌝ }
+{
+    match demand {
+        Demand::Rules(n) => Demand::Rules(n),
+        Demand::Breaks(ok) => Demand::Breaks(true),
+    }
+}
+
+// What is asked in the guard of an if or a try.
+pub fn in_guard(demand: Demand) -> Demand
+    ensures { λ r. ⌜ r ≡ inGuard demand ⌝ }
+{
+    match demand {
+        Demand::Rules(n) => Demand::Rules(n),
+        Demand::Breaks(ok) => Demand::Breaks(false),
+    }
+}
+
+// What is asked of the first of a command's parts: all but a sequence treat it in their own way.
+pub fn of_first(demand: Demand, tag: u8) -> Demand
+    ensures { λ r. ⌜ r ≡ ofFirst demand tag ⌝ }
+{
+    if tag == 0x54 {
+        return in_body(demand);
+    }
+    if tag == 0x51 {
+        return demand;
+    }
+    in_guard(demand)
+}
+
+// A command, nested at most `depth` deep, from its tag and payload.
+pub fn command_holds(demand: Demand, tag: u8, p: &[u8], depth: usize) -> bool
+    ensures { λ r. ⌜ For (command depth tag (now (p .entry))) (λ c. r ≡ commandAsked demand c) ⌝ }
+{
+    if depth == 0 {
+        return true;
+    }
+    if tag == 0x50 {
+        return rule_set_holds(demand, p);
+    }
+    if tag == 0x57 {
+        return break_holds(demand);
+    }
+    commands_hold(of_first(demand, tag), demand, p, depth - 1)
+}
+
+// Commands one after the other: what is asked of the first, and of the others.
+pub fn commands_hold(first: Demand, others: Demand, p: &[u8], depth: usize) -> bool
+    ensures { λ r. ⌜ For (only anyTag (command depth) 16 (now (p .entry))) (λ l. r ≡ partsAsked first others l) ⌝ }
+{
+    let mut at: usize = 0;
+    let mut demand = first;
+    while at < p.len() {
+        let found = fields::read_field(p, at);
+        let Found::Field(tag, start, end) = found else {
+            return false;
+        };
+        if command_holds(demand, tag, fields::part(p, start, end), depth) {
+            at = end;
+            demand = others;
+        } else {
+            return false;
+        }
+    }
+    true
+}
+
+// The main command of an image.
+pub fn main_holds(demand: Demand, image: &[u8]) -> bool
+    ensures { λ r. ⌜ For (program (now (image .entry))) (λ p. r ≡ commandAsked demand (p .main)) ⌝ }
+{
+    command_holds(demand, parts::main_tag(image), parts::main_part(image), 16)
+}

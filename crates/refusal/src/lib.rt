@@ -1,0 +1,78 @@
+// What a run refuses before it starts: the lowest applicable number from 9 to 18, over the whole input, changing nothing.
+ghost use mathlib.Core.Path.{_≡_};
+ghost use Rattle.meaning.specs.Basics.{firstFailing};
+ghost use Rattle.meaning.specs.Layout.{Sized, base};
+ghost use Rattle.meaning.specs.Calls.{runRefusal};
+ghost use Rattle.meaning.specs.declared.Layout.{Layout};
+ghost use Rattle.host.specs.Host.{refusalOf};
+ghost use Rattle.refusal.specs.Checks.{imageChecks, contentChecks};
+use host::Checked;
+use meaning::Layout;
+use meaning::Refusal;
+
+// Form, references and placement of an image: 16, 17, 18.
+pub fn image_check(image: &[u8]) -> Checked
+    ensures { λ r. ⌜ ((l : Layout) → refusalOf r ≡ firstFailing (imageChecks l (now (image .entry)))) ⌝ }
+{
+    if image::form_ok(image) {
+        if references::references_ok(image) {
+            if references::placement_ok(image) {
+                return Checked::Fine;
+            }
+            return Checked::Refused(Refusal::BadPlacement);
+        }
+        return Checked::Refused(Refusal::BadReferences);
+    }
+    Checked::Refused(Refusal::BadForm)
+}
+
+// Fuel, the image's length, the host and the image: 13 to 18.
+pub fn content_check(l: Layout, nodes: &[u8], edges: &[u8], image: &[u8], fuel: u32) -> Checked
+    requires { ⌜ Sized l ⌝ }
+    ensures { λ r. ⌜ refusalOf r ≡ firstFailing (contentChecks l (now (nodes .entry)) (now (edges .entry)) (now (image .entry)) fuel) ⌝ }
+{
+    if fuel > 1000000 {
+        return Checked::Refused(Refusal::TooMuchFuel);
+    }
+    if image.len() > 8192 {
+        return Checked::Refused(Refusal::ImageTooLong);
+    }
+    if host::keeps_layout(l, nodes, edges) {
+        return image_check(image);
+    }
+    Checked::Refused(Refusal::BadHost)
+}
+
+// The lowest applicable number from 9 to 18.
+pub fn run_check(
+    l: Layout,
+    nodes: &[u8],
+    edges: &[u8],
+    journal: &[u8],
+    image: &[u8],
+    fuel: u32,
+    report: &[u8],
+) -> Checked
+    requires { ⌜ Sized l ⌝ }
+    ensures { λ r. ⌜ refusalOf r ≡ runRefusal l (now (nodes .entry)) (now (edges .entry)) (now (journal .entry)) (now (image .entry)) fuel (now (report .entry)) ⌝ }
+{
+    let fit = host::lengths(l, nodes, edges, journal, report);
+    match fit {
+        Checked::Refused(w) => fit,
+        Checked::Fine => content_check(l, nodes, edges, image, fuel),
+    }
+}
+
+// The same at document 01's layout, on all inputs.
+pub fn run_refusal(
+    nodes: &[u8],
+    edges: &[u8],
+    journal: &[u8],
+    image: &[u8],
+    fuel: u32,
+    report: &[u8],
+) -> Checked
+    ensures { λ r. ⌜ refusalOf r ≡ runRefusal base (now (nodes .entry)) (now (edges .entry)) (now (journal .entry)) (now (image .entry)) fuel (now (report .entry)) ⌝ }
+{
+    run_check(Layout::base(), nodes, edges, journal, image, fuel, report)
+}

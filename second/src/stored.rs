@@ -1,0 +1,156 @@
+//! Stored inputs of the test programs that run proved code, with what each must write: a folder of a program holds both as
+//! `stdin` and `stdout`. What must be written is this interpreter's answer.
+
+use std::fmt::Write;
+
+use crate::calls::{self, Outcome};
+use crate::corpus;
+use crate::encode::{self, field};
+use crate::listing;
+use crate::refusals::{self, RunCall, UndoCall};
+
+/// What a test program reads and what it must write.
+pub struct Stored {
+    pub stdin: Vec<u8>,
+    pub stdout: String,
+}
+
+/// The stored inputs by the name of their program.
+pub fn named(name: &str) -> Option<Stored> {
+    match name {
+        "undo_cases" => Some(undo_cases()),
+        "refusal_cases" => Some(refusal_cases()),
+        _ => None,
+    }
+}
+
+pub const NAMES: [&str; 2] = ["refusal_cases", "undo_cases"];
+
+/// What a test program reads at most.
+const MOST_BYTES: usize = 262_144;
+
+/// Drawn images whose runs are looked at, and how long one may be.
+const DRAWN: u64 = 400;
+const LONGEST: usize = 1_200;
+
+/// Calls of undo: every refusal with its accepted twin, then the journals that drawn runs leave, undone in whole and in part.
+pub fn undo_cases() -> Stored {
+    let mut calls: Vec<UndoCall> = Vec::new();
+    for refusal in refusals::of_undo() {
+        calls.push(refusal.accepted);
+        calls.push(refusal.refused);
+    }
+    calls.extend(drawn_calls().iter().flat_map(undone_after));
+    calls.retain(|call| call.journal.len() + call.nodes.len() + call.edges.len() < 30_000);
+    let stdin = calls.iter().flat_map(undo_case).collect();
+    let mut stdout = String::new();
+    for call in &calls {
+        let left = call.outcome();
+        write!(stdout, "{}", left.answer).expect("a string takes all");
+        for buffer in [&left.report, &left.nodes, &left.edges, &left.journal] {
+            write!(stdout, " {}", hexadecimal(buffer)).expect("a string takes all");
+        }
+        stdout.push('\n');
+    }
+    Stored { stdin, stdout }
+}
+
+/// Undo of a run's journal: all of its records, and all but the last.
+fn undone_after(run: &RunCall) -> Vec<UndoCall> {
+    let left = run.outcome();
+    let records = records_of(&left);
+    if left.answer != calls::answer::RESULT || records == 0 {
+        return Vec::new();
+    }
+    let undo = |count: u32| UndoCall {
+        nodes: left.nodes.clone(),
+        edges: left.edges.clone(),
+        journal: left.journal.clone(),
+        count,
+        report: vec![7; calls::REPORT_BYTES],
+    };
+    vec![undo(records), undo(records - 1)]
+}
+
+fn records_of(left: &Outcome) -> u32 {
+    left.report[4..8].iter().fold(0, |number, byte| number << 8 | u32::from(*byte))
+}
+
+fn undo_case(call: &UndoCall) -> Vec<u8> {
+    let parts = [
+        field(0x01, &call.nodes),
+        field(0x02, &call.edges),
+        field(0x03, &call.journal),
+        field(0x04, &call.count.to_be_bytes()),
+        field(0x05, &call.report),
+    ];
+    field(0x07, &parts.concat())
+}
+
+fn hexadecimal(bytes: &[u8]) -> String {
+    bytes.iter().fold(String::new(), |mut text, byte| {
+        write!(text, "{byte:02x}").expect("a string takes all");
+        text
+    })
+}
+
+/// Calls of run: refused ones, then their accepted twins and drawn ones, the shortest first, as many as are read. The line of a case is the number that refuses it, 0
+/// where the run starts.
+pub fn refusal_cases() -> Stored {
+    let mut calls: Vec<RunCall> = Vec::new();
+    for refusal in refusals::of_run() {
+        calls.push(refusal.accepted);
+        calls.push(refusal.refused);
+    }
+    calls.extend(drawn_calls());
+    calls.sort_by_key(|call| (run_case(call).len() > 9_000, refused_by(call) == 0, run_case(call).len()));
+    let mut stdin = Vec::new();
+    let mut stdout = String::new();
+    for call in &calls {
+        let case = run_case(call);
+        if stdin.len() + case.len() > MOST_BYTES {
+            break;
+        }
+        stdin.extend(case);
+        writeln!(stdout, "{}", refused_by(call)).expect("a string takes all");
+    }
+    Stored { stdin, stdout }
+}
+
+/// The number that refuses a run, 0 where it starts.
+fn refused_by(call: &RunCall) -> u32 {
+    match call.outcome().answer {
+        answer if answer < calls::answer::REPORT => 0,
+        answer => answer,
+    }
+}
+
+fn run_case(call: &RunCall) -> Vec<u8> {
+    let parts = [
+        field(0x01, &call.nodes),
+        field(0x02, &call.edges),
+        field(0x03, &call.journal),
+        field(0x04, &call.fuel.to_be_bytes()),
+        field(0x05, &call.program),
+        field(0x06, &call.report),
+    ];
+    field(0x07, &parts.concat())
+}
+
+/// Short drawn runner inputs as calls.
+fn drawn_calls() -> Vec<RunCall> {
+    let images = (corpus::fixed_count()..corpus::fixed_count() + DRAWN).map(|index| corpus::image(1, index));
+    images
+        .filter(|image| image.len() <= LONGEST)
+        .filter_map(|image| listing::read_input(&image))
+        .filter(|input| input.records <= 40)
+        .map(|input: encode::RunnerInput| RunCall {
+            nodes: input.nodes,
+            edges: input.edges,
+            journal: vec![1; usize::from(input.records) * crate::host::limit::RECORD],
+            program: input.program,
+            fuel: input.fuel,
+            report: vec![7; calls::REPORT_BYTES],
+        })
+        .collect()
+}

@@ -1,0 +1,41 @@
+//! The stored inputs of the test programs are what the second interpreter makes, and their expected outputs what it answers.
+
+use std::path::Path;
+
+use second::stored;
+
+fn folder(name: &str) -> std::path::PathBuf {
+    Path::new(env!("CARGO_MANIFEST_DIR")).join("../crates").join(name)
+}
+
+#[test]
+fn stored_inputs_and_outputs_are_what_this_interpreter_gives() {
+    let mut compared = 0;
+    for name in stored::NAMES {
+        if !folder(name).exists() {
+            continue;
+        }
+        let stored = stored::named(name).expect("a listed name is known");
+        let file = |part: &str| std::fs::read(folder(name).join(part)).expect("a test program has stored inputs");
+        assert!(file("stdin") == stored.stdin, "{name}: stdin differs; write it anew by `second stored {name} FOLDER`");
+        assert!(file("stdout") == stored.stdout.as_bytes(), "{name}: stdout differs");
+        compared += 1;
+    }
+    assert!(compared > 0);
+}
+
+#[test]
+fn undo_cases_have_every_answer_of_undo() {
+    let text = stored::undo_cases().stdout;
+    for answer in [0, 9, 10, 11, 12, 20] {
+        assert!(text.lines().any(|line| line.starts_with(&format!("{answer} "))), "no case answers {answer}");
+    }
+}
+
+#[test]
+fn refusal_cases_have_every_refusal_of_run() {
+    let text = stored::refusal_cases().stdout;
+    for answer in [0, 9, 10, 11, 12, 13, 14, 15, 16, 17, 18] {
+        assert!(text.lines().any(|line| line == answer.to_string()), "no case answers {answer}");
+    }
+}
