@@ -1,0 +1,160 @@
+-- The values that a placement gives: that of a variable, from the first item that has it; and that the elements of a placed
+-- item's label have values. Rests on Fitting and on the meaning's laws of labels and assignments.
+use mathlib.Core.Path.{_≡_, refl, sym, _∙_, ap}
+use mathlib.Core.Bool.{Bool, true, false}
+use mathlib.Core.List.{List, [], _∷_, _++_, map}
+use Prim.Native.Nat.{ℕ, zero, suc, _+_, _<_, _≤_}
+use native.Mathlib.Omega.{arith}
+use native.Mathlib.Decide.{decLt}
+use borrow.Author.Tests.{eq-eqb}
+use lib.ListN.{length, getD, take, drop, length-map}
+use Rattle.meaning.specs.Basics.{choose}
+use Rattle.meaning.specs.Layout.{Host}
+use Rattle.meaning.specs.Image.{Rule}
+use Rattle.meaning.specs.References.{elementNames, labels, isPlain, ruleHolds}
+use Rattle.meaning.specs.Matching.{nodeAt, edgeAt, leftNodes, leftEdges}
+use Rattle.meaning.specs.FirstMatch.{isVariable, spare, taken, paired, hostLabels, orElse, valueFrom, assigned, has, firstWith}
+use Rattle.meaning.specs.Laws.Tests.{choose-lt, choose-le, either-left, either-right}
+use Rattle.meaning.specs.Laws.Every.{Every}
+use Rattle.meaning.specs.Laws.References.{label-plain, label-variables}
+use Rattle.meaning.specs.Laws.Labels.{taken-has, taken-not}
+use Rattle.meaning.specs.Laws.Assignment.{labels-length}
+use Rattle.meaning.specs.declared.Element.{Element}
+use Rattle.meaning.specs.declared.Element.the-variants.{Constant, Variable, Sum, Difference}
+use Rattle.labels.specs.Labels.{atomsIn, Held, Holds}
+use Rattle.labels.specs.declared.Label.{Label}
+use Rattle.fitting.specs.Fitting.{slots, slotOf, labelAt, ElementValued, HasValue}
+
+-- what variable v takes of atoms m at label l, or nothing
+abbrev takenOf : Rule → ℕ → List Element → List ℕ → List ℕ
+takenOf r v l m = orElse (taken r v (spare r l (length m)) l m) []
+
+-- The first of the items that has a variable gives it its value.
+
+value-first : (r : Rule) (v : ℕ) (ls : List (List Element)) (ms : List (List ℕ)) → firstWith v ls < length ls → firstWith v ls < length ms
+    → valueFrom r (paired ls ms) v ≡ takenOf r v (getD ls (firstWith v ls) []) (getD ms (firstWith v ls) [])
+unfolding firstWith paired valueFrom orElse choose
+value-first r v [] ms h k = absurd (omega arith)
+value-first r v (l ∷ ls) [] h k = absurd (omega arith)
+value-first r v (l ∷ ls) (m ∷ ms) h k = go (has v l) refl h k (value-first r v ls ms)
+  where
+    go : (b : Bool) → has v l ≡ b → choose b 0 (suc (firstWith v ls)) < suc (length ls) → choose b 0 (suc (firstWith v ls)) < suc (length ms)
+        → (firstWith v ls < length ls → firstWith v ls < length ms → valueFrom r (paired ls ms) v ≡ takenOf r v (getD ls (firstWith v ls) []) (getD ms (firstWith v ls) []))
+        → orElse (taken r v (spare r l (length m)) l m) (valueFrom r (paired ls ms) v)
+        ≡ takenOf r v (getD (l ∷ ls) (choose b 0 (suc (firstWith v ls))) []) (getD (m ∷ ms) (choose b 0 (suc (firstWith v ls))) [])
+    go true q h k ih = rw (taken-has r v (spare r l (length m)) l m q .1)
+    go false q h k ih = rw (taken-not r v (spare r l (length m)) l m q) (ih (omega arith) (omega arith))
+
+-- The host labels by number.
+
+map-at : {A : Type 0} (f : A → List ℕ) (l : List A) (i : ℕ) (a : A) → i < length l → getD (map f l) i [] ≡ f (getD l i a)
+map-at f [] i a h = absurd (omega arith)
+map-at f (x ∷ l) zero a h = refl
+map-at f (x ∷ l) (suc i) a h = map-at f l i a (omega arith)
+
+module _ (f g : ℕ → List ℕ) where
+  parted-length : (n : ℕ) (q : List ℕ) → length (map f (take n q) ++ map g (drop n q)) ≡ length q
+  parted-length zero q = length-map q g
+  parted-length (suc n) [] = refl
+  parted-length (suc n) (x ∷ q) = ap suc (parted-length n q)
+
+  parted-front : (n : ℕ) (q : List ℕ) (j : ℕ) → j < n → j < length q → getD (map f (take n q) ++ map g (drop n q)) j [] ≡ f (getD q j 0)
+  parted-front zero q j h k = absurd (omega arith)
+  parted-front (suc n) [] j h k = absurd (omega arith)
+  parted-front (suc n) (x ∷ q) zero h k = refl
+  parted-front (suc n) (x ∷ q) (suc j) h k = parted-front n q j (omega arith) (omega arith)
+
+  parted-back : (n : ℕ) (q : List ℕ) (j : ℕ) → n ≤ j → j < length q → getD (map f (take n q) ++ map g (drop n q)) j [] ≡ g (getD q j 0)
+  parted-back zero q j h k = map-at g q j 0 k
+  parted-back (suc n) [] j h k = absurd (omega arith)
+  parted-back (suc n) (x ∷ q) zero h k = absurd (omega arith)
+  parted-back (suc n) (x ∷ q) (suc j) h k = parted-back n q j (omega arith) (omega arith)
+
+host-label : (h : Host) (r : Rule) (q : List ℕ) (j : ℕ) → j < length q → getD (hostLabels h r q) j [] ≡ labelAt h (leftNodes r) j (getD q j 0)
+host-label h r q j k = go (decLt j (leftNodes r))
+  where
+    go : Dec (j < leftNodes r) → getD (hostLabels h r q) j [] ≡ labelAt h (leftNodes r) j (getD q j 0)
+    go (yes l) =
+        parted-front (λ x. nodeAt h x .label) (λ x. edgeAt h x .label) (leftNodes r) q j l k
+        ∙ sym (choose-lt j (leftNodes r) (nodeAt h (getD q j 0) .label) (edgeAt h (getD q j 0) .label) l)
+    go (no l) =
+        parted-back (λ x. nodeAt h x .label) (λ x. edgeAt h x .label) (leftNodes r) q j (omega arith) k
+        ∙ sym (choose-le j (leftNodes r) (nodeAt h (getD q j 0) .label) (edgeAt h (getD q j 0) .label) (omega arith))
+
+assigned-first : (h : Host) (r : Rule) (q : List ℕ) (v : ℕ) → length q ≤ leftNodes r + leftEdges r → firstWith v (labels (r .left)) < length q
+    → assigned h r q v
+    ≡ takenOf r v (getD (labels (r .left)) (firstWith v (labels (r .left))) []) (labelAt h (leftNodes r) (firstWith v (labels (r .left))) (getD q (firstWith v (labels (r .left))) 0))
+assigned-first h r q v s k =
+    let n = labels-length r in
+    let m = parted-length (λ x. nodeAt h x .label) (λ x. edgeAt h x .label) (leftNodes r) q in
+    value-first r v (labels (r .left)) (hostLabels h r q) (omega arith) (omega arith)
+    ∙ ap (takenOf r v (getD (labels (r .left)) (firstWith v (labels (r .left))) [])) (host-label h r q _ k)
+
+-- A trial's variable, whose first item and its slot, label and value are in hand.
+
+module _ {h : Host} {bs plan at : List ℕ} {i c v : ℕ} (w : HasValue h bs plan at i c v) where
+  pub first-item : (j : ℕ) → j ≡ getD plan (28 + v) 0 → j ≡ firstWith v (labels (w .trial .rule .left))
+  first-item j e = e ∙ w .trial .planned .first v (w .valued .0)
+
+  pub first-placed : (j : ℕ) → j ≡ getD plan (28 + v) 0 → j < length (w .trial .placed)
+  first-placed j e = let f = first-item j e in omega (arith, w .valued .1)
+
+  pub first-there : (j : ℕ) → j ≡ getD plan (28 + v) 0 → j < leftNodes (w .trial .rule) + leftEdges (w .trial .rule)
+  first-there j e = let f = first-placed j e in omega (arith, w .trial .few)
+
+  -- it is below twelve, and its slot is inside its table
+  pub first-low : (j : ℕ) → j ≡ getD plan (28 + v) 0 → j < 12
+  first-low j e =
+      let t = w .trial .planned .laid .items in
+      omega (arith, first-there j e, t .fewNodes, t .fewEdges)
+
+  pub first-inside : (j x : ℕ) → j ≡ getD plan (28 + v) 0 → x ≡ slotOf at i c j → x < slots h (getD plan 0 0) j
+  first-inside j x e s =
+      let n : getD plan 0 0 ≡ leftNodes (w .trial .rule) = w .trial .planned .laid .items .nodes in
+      rw (n, s ∙ w .trial .slot j (first-placed j e)) (w .trial .inside j (first-placed j e))
+
+  pub value-holds : (j x : ℕ) (a b : Label) → j ≡ getD plan (28 + v) 0 → x ≡ slotOf at i c j → Holds (labelAt h (getD plan 0 0) j x) a → Held b
+      → atomsIn b ≡ takenOf (w .trial .rule) v (getD (labels (w .trial .rule .left)) j []) (atomsIn a)
+      → Holds (assigned h (w .trial .rule) (w .trial .placed) v) b
+  value-holds j x a b e s g d t =
+      let f = first-item j e in
+      let n : getD plan 0 0 ≡ leftNodes (w .trial .rule) = w .trial .planned .laid .items .nodes in
+      let y : x ≡ getD (w .trial .placed) j 0 = s ∙ w .trial .slot j (first-placed j e) in
+      let m : atomsIn a ≡ labelAt h (leftNodes (w .trial .rule)) j (getD (w .trial .placed) j 0) = g .atoms ∙ rw (n, y) in
+      let q = assigned-first h (w .trial .rule) (w .trial .placed) v (w .trial .few) (w .valued .1) in
+      record { held = d; atoms = t ∙ rw (m, f) (sym q) }
+
+-- The elements of a placed item's label have values.
+
+first-le : (v : ℕ) (ls : List (List Element)) (i : ℕ) → has v (getD ls i []) ≡ true → firstWith v ls ≤ i
+unfolding firstWith choose
+first-le v [] i e = omega arith
+first-le v (l ∷ ls) zero e = rw e (omega arith)
+first-le v (l ∷ ls) (suc i) e = go (has v l) (first-le v ls i e)
+  where
+    go : (b : Bool) → firstWith v ls ≤ i → choose b 0 (suc (firstWith v ls)) ≤ suc i
+    go true k = omega arith
+    go false k = omega arith
+
+module _ (r : Rule) (q : List ℕ) where
+  element-valued : (x : Element) → isPlain x ≡ true → Every (λ v. v < length (r .variables)) (elementNames x)
+      → ((v : ℕ) → isVariable v x ≡ true → firstWith v (labels (r .left)) < length q) → ElementValued r q x
+  unfolding isPlain elementNames isVariable
+  element-valued (Constant c) p e f = tt
+  element-valued (Variable v) p e f = ((e .0, f v (eq-eqb v v refl)), tt)
+  element-valued (Sum a b) p e f = let z : _≡_ {A = ℕ} 0 1 = cc in absurd (omega arith)
+  element-valued (Difference a b) p e f = let z : _≡_ {A = ℕ} 0 1 = cc in absurd (omega arith)
+
+  elements-valued : (l : List Element) → Every (λ x. isPlain x ≡ true) l → Every (λ x. Every (λ v. v < length (r .variables)) (elementNames x)) l
+      → ((v : ℕ) → has v l ≡ true → firstWith v (labels (r .left)) < length q) → Every (ElementValued r q) l
+  unfolding has
+  elements-valued [] p e f = tt
+  elements-valued (x ∷ l) p e f = (
+    element-valued x (p .0) (e .0) (λ v k. f v (either-left _ _ k)),
+    elements-valued l (p .1) (e .1) (λ v k. f v (either-right _ _ k)),
+  )
+
+  pub label-valued : ruleHolds r ≡ true → (i : ℕ) → i < length q → Every (ElementValued r q) (getD (labels (r .left)) i [])
+  label-valued holds i k =
+      elements-valued (getD (labels (r .left)) i []) (label-plain r holds i) (label-variables r holds i)
+      (λ v e. let f = first-le v (labels (r .left)) i e in omega arith)

@@ -1,0 +1,678 @@
+// Candidates of the search: whether a slot can stand for a left item behind the items placed so far, and whether a full
+// placement leaves nothing dangling and passes the tests.
+ghost use mathlib.Core.Path.{_≡_};
+ghost use mathlib.Core.List.{[]};
+ghost use Prim.Native.Nat.{_+_, _-_, _<_, _≤_, max};
+ghost use lib.ListN.{length, getD, take, drop};
+ghost use Rattle.meaning.specs.Basics.{any, all, count, every, absent, same};
+ghost use Rattle.meaning.specs.Numbers.{height};
+ghost use Rattle.meaning.specs.Layout.{Host};
+ghost use Rattle.meaning.specs.Image.{Rule};
+ghost use Rattle.meaning.specs.References.{labels};
+ghost use Rattle.meaning.specs.Matching.{leftNodes, leftEdges, leftEdge, nodeSlot, atomsOf, atomOf, instance, conditionHolds, testHolds};
+ghost use Rattle.meaning.specs.FirstMatch.{marksAgree, assigned, labelAgrees, linked as isLinked, leftTouches, canGo, testsSoFar, nodeFits, edgeFits, dangles as isDangling, complete as isComplete};
+ghost use Rattle.labels.specs.Labels.{atomsIn, Held, Holds};
+ghost use Rattle.graph.specs.Graph.{Legal, hostOf};
+ghost use Rattle.plan.specs.Plan.{For, IsLaid, HasEdge, testOf};
+ghost use Rattle.fitting.specs.Fitting.{Known, Inside, slots, labelAt, slotOf, Tried, TriedEdge, Full, HasValue, HasElement, HasOperand, HasElements, HasCondition, HasTest, Numbers, Room, joinsAt, goneAt};
+use labels::Front;
+use labels::Label;
+use meaning::Condition;
+use meaning::Element;
+use meaning::Layout;
+use meaning::Operand;
+
+// Labels.
+
+// The slot of item j, where item i is being tried at slot c.
+fn slot_of(at: &[usize; 12], i: usize, c: usize, j: usize) -> usize
+    requires { ⌜ (length (now at) ≡ 12) × (j < 12) ⌝ }
+    ensures { λ r. ⌜ r ≡ slotOf (now (at .entry)) i c j ⌝ }
+{
+    if j == i {
+        return c;
+    }
+    at[j]
+}
+
+// The label in the slot of item j.
+fn item_label(
+    l: Layout,
+    nodes: &[u8],
+    edges: &[u8],
+    plan: &[usize; 42],
+    j: usize,
+    x: usize,
+) -> Label
+    requires { ⌜ Legal l (now nodes) (now edges) ⌝ }
+    requires { ⌜ (0 < length (now plan)) × (x < slots (hostOf l (now nodes) (now edges)) (getD (now plan) 0 0) j) ⌝ }
+    ensures { λ r. ⌜ Holds (labelAt (hostOf l (now (nodes .entry)) (now (edges .entry))) (getD (now (plan .entry)) 0 0) j x) r ⌝ }
+{
+    if j < plan[0] {
+        return graph::node_label(l, nodes, edges, x);
+    }
+    graph::edge_label(l, nodes, edges, x)
+}
+
+// The value of variable v, which item plan[28 + v] is the first to have.
+pub fn value(
+    l: Layout,
+    nodes: &[u8],
+    edges: &[u8],
+    rule: &[u8],
+    plan: &[usize; 42],
+    at: &[usize; 12],
+    i: usize,
+    c: usize,
+    v: usize,
+) -> Label
+    requires { ⌜ Legal l (now nodes) (now edges) ⌝ }
+    requires { ⌜ HasValue (hostOf l (now nodes) (now edges)) (now rule) (now plan) (now at) i c v ⌝ }
+    ensures { λ r. ⌜ ((w : HasValue (hostOf l (now (nodes .entry)) (now (edges .entry))) (now (rule .entry)) (now (plan .entry)) (now (at .entry)) i c v) → Holds (assigned (hostOf l (now (nodes .entry)) (now (edges .entry))) (w .trial .rule) (w .trial .placed) v) r) ⌝ }
+{
+    let j = plan[28 + v];
+    let a = item_label(l, nodes, edges, plan, j, slot_of(at, i, c, j));
+    labels::taken(plan::types(rule, plan), plan::pattern(rule, plan, j), v, a)
+}
+
+// The atoms that a left element stands for.
+fn element_value(
+    l: Layout,
+    nodes: &[u8],
+    edges: &[u8],
+    rule: &[u8],
+    plan: &[usize; 42],
+    at: &[usize; 12],
+    i: usize,
+    c: usize,
+    e: Element,
+) -> Label
+    requires { ⌜ Legal l (now nodes) (now edges) ⌝ }
+    requires { ⌜ HasElement (hostOf l (now nodes) (now edges)) (now rule) (now plan) (now at) i c e ⌝ }
+    ensures { λ r. ⌜ ((w : HasElement (hostOf l (now (nodes .entry)) (now (edges .entry))) (now (rule .entry)) (now (plan .entry)) (now (at .entry)) i c e) → Holds (atomsOf (assigned (hostOf l (now (nodes .entry)) (now (edges .entry))) (w .trial .rule) (w .trial .placed)) e) r) ⌝ }
+{
+    match e {
+        Element::Constant(x) => labels::one(x),
+        Element::Variable(v) => value(l, nodes, edges, rule, plan, at, i, c, v),
+        Element::Sum(a, b) => labels::none(),
+        Element::Difference(a, b) => labels::none(),
+    }
+}
+
+// Whether label a is what the elements of p stand for.
+fn elements_agree(
+    l: Layout,
+    nodes: &[u8],
+    edges: &[u8],
+    rule: &[u8],
+    plan: &[usize; 42],
+    at: &[usize; 12],
+    i: usize,
+    c: usize,
+    p: &[u8],
+    a: Label,
+) -> bool
+    requires { ⌜ Legal l (now nodes) (now edges) ⌝ }
+    requires { ⌜ HasElements (hostOf l (now nodes) (now edges)) (now rule) (now plan) (now at) i c (now p) ⌝ }
+    requires { ⌜ Held a ⌝ }
+    ensures { λ r. ⌜ ((w : HasElements (hostOf l (now (nodes .entry)) (now (edges .entry))) (now (rule .entry)) (now (plan .entry)) (now (at .entry)) i c (now (p .entry))) → r ≡ same (atomsIn a) (instance (assigned (hostOf l (now (nodes .entry)) (now (edges .entry))) (w .trial .rule) (w .trial .placed)) (w .elements))) ⌝ }
+{
+    let mut rest = p;
+    let mut from: usize = 0;
+    loop {
+        let front = labels::first_element(rest);
+        match front {
+            Front::First(e, end) => {
+                let b = element_value(l, nodes, edges, rule, plan, at, i, c, e);
+                if !labels::has_at(a, from, b) {
+                    return false;
+                }
+                from += b.len;
+                rest = &rest[end..];
+            }
+            Front::Nothing => {
+                return from == a.len;
+            }
+        }
+    }
+}
+
+// Whether the label of item i at slot c agrees with its pattern.
+fn label_agrees(
+    l: Layout,
+    nodes: &[u8],
+    edges: &[u8],
+    rule: &[u8],
+    plan: &[usize; 42],
+    at: &[usize; 12],
+    i: usize,
+    c: usize,
+) -> bool
+    requires { ⌜ Legal l (now nodes) (now edges) ⌝ }
+    requires { ⌜ Tried (hostOf l (now nodes) (now edges)) (now rule) (now plan) (now at) i c ⌝ }
+    ensures { λ r. ⌜ ((w : Tried (hostOf l (now (nodes .entry)) (now (edges .entry))) (now (rule .entry)) (now (plan .entry)) (now (at .entry)) i c) → r ≡ labelAgrees (w .trial .rule) (assigned (hostOf l (now (nodes .entry)) (now (edges .entry))) (w .trial .rule) (w .trial .placed)) (getD (labels (w .trial .rule .left)) i []) (labelAt (hostOf l (now (nodes .entry)) (now (edges .entry))) (leftNodes (w .trial .rule)) i c)) ⌝ }
+{
+    let a = item_label(l, nodes, edges, plan, i, c);
+    let p = plan::pattern(rule, plan, i);
+    let s = labels::shape(plan::types(rule, plan), p);
+    if labels::length_fits(s, a.len) {
+        return elements_agree(l, nodes, edges, rule, plan, at, i, c, p, a);
+    }
+    false
+}
+
+// Marks, slots and edges.
+
+pub fn marks_agree(left: u8, mark: u8) -> bool
+    ensures { λ r. ⌜ r ≡ marksAgree left mark ⌝ }
+{
+    if left == 6 {
+        return true;
+    }
+    left == mark
+}
+
+// Whether slot c is none of at[from..to].
+fn absent(at: &[usize; 12], from: usize, to: usize, c: usize) -> bool
+    requires { ⌜ (from ≤ to) × (to ≤ 12) × (length (now at) ≡ 12) ⌝ }
+    ensures { λ r. ⌜ r ≡ absent c (drop from (take to (now (at .entry)))) ⌝ }
+{
+    let mut j = from;
+    while j < to {
+        if at[j] == c {
+            return false;
+        }
+        j += 1;
+    }
+    true
+}
+
+// Whether host edge x can stand for left edge k, whose ends are at slots s and t, as far as its mark and ends go.
+fn joins(
+    l: Layout,
+    nodes: &[u8],
+    edges: &[u8],
+    rule: &[u8],
+    plan: &[usize; 42],
+    k: usize,
+    s: usize,
+    t: usize,
+    x: usize,
+) -> bool
+    requires { ⌜ Legal l (now nodes) (now edges) ⌝ }
+    requires { ⌜ HasEdge (now rule) (now plan) k ⌝ }
+    requires { ⌜ x < length (hostOf l (now nodes) (now edges) .edges) ⌝ }
+    ensures { λ b. ⌜ For (now (rule .entry)) (now (plan .entry)) (λ r. b ≡ joinsAt (hostOf l (now (nodes .entry)) (now (edges .entry))) r k s t x) ⌝ }
+{
+    if graph::edge_runs(l, nodes, edges, s, t, x) {
+        return marks_agree(
+            plan::mark(rule, plan, plan[0] + k),
+            graph::edge_mark(l, nodes, edges, x),
+        );
+    }
+    false
+}
+
+fn any_joins(
+    l: Layout,
+    nodes: &[u8],
+    edges: &[u8],
+    rule: &[u8],
+    plan: &[usize; 42],
+    k: usize,
+    s: usize,
+    t: usize,
+) -> bool
+    requires { ⌜ Legal l (now nodes) (now edges) ⌝ }
+    requires { ⌜ HasEdge (now rule) (now plan) k ⌝ }
+    ensures { λ b. ⌜ For (now (rule .entry)) (now (plan .entry)) (λ r. b ≡ any (joinsAt (hostOf l (now (nodes .entry)) (now (edges .entry))) r k s t) (length (hostOf l (now (nodes .entry)) (now (edges .entry)) .edges))) ⌝ }
+{
+    let n = graph::edge_slots(l, edges);
+    let mut x: usize = 0;
+    while x < n {
+        if joins(l, nodes, edges, rule, plan, k, s, t, x) {
+            return true;
+        }
+        x += 1;
+    }
+    false
+}
+
+fn later(a: usize, b: usize) -> usize
+    ensures { λ c. ⌜ c ≡ max a b ⌝ }
+{
+    if a < b {
+        return b;
+    }
+    a
+}
+
+// Whether left edge k has a host edge, if node i, tried at slot c, is the later of its ends.
+fn link_holds(
+    l: Layout,
+    nodes: &[u8],
+    edges: &[u8],
+    rule: &[u8],
+    plan: &[usize; 42],
+    at: &[usize; 12],
+    i: usize,
+    c: usize,
+    k: usize,
+) -> bool
+    requires { ⌜ Legal l (now nodes) (now edges) ⌝ }
+    requires { ⌜ TriedEdge (hostOf l (now nodes) (now edges)) (now rule) (now plan) (now at) i c k ⌝ }
+    ensures { λ r. ⌜ ((w : Tried (hostOf l (now (nodes .entry)) (now (edges .entry))) (now (rule .entry)) (now (plan .entry)) (now (at .entry)) i c) → r ≡ isLinked (hostOf l (now (nodes .entry)) (now (edges .entry))) (w .trial .rule) (w .trial .placed) i k) ⌝ }
+{
+    let s = plan::source(rule, plan, k);
+    let t = plan::target(rule, plan, k);
+    if later(s, t) == i {
+        return any_joins(
+            l,
+            nodes,
+            edges,
+            rule,
+            plan,
+            k,
+            slot_of(at, i, c, s),
+            slot_of(at, i, c, t),
+        );
+    }
+    true
+}
+
+fn linked(
+    l: Layout,
+    nodes: &[u8],
+    edges: &[u8],
+    rule: &[u8],
+    plan: &[usize; 42],
+    at: &[usize; 12],
+    i: usize,
+    c: usize,
+) -> bool
+    requires { ⌜ Legal l (now nodes) (now edges) ⌝ }
+    requires { ⌜ Tried (hostOf l (now nodes) (now edges)) (now rule) (now plan) (now at) i c ⌝ }
+    ensures { λ r. ⌜ ((w : Tried (hostOf l (now (nodes .entry)) (now (edges .entry))) (now (rule .entry)) (now (plan .entry)) (now (at .entry)) i c) → r ≡ all (isLinked (hostOf l (now (nodes .entry)) (now (edges .entry))) (w .trial .rule) (w .trial .placed) i) (leftEdges (w .trial .rule))) ⌝ }
+{
+    let m = plan[1];
+    let mut k: usize = 0;
+    while k < m {
+        if !link_holds(l, nodes, edges, rule, plan, at, i, c, k) {
+            return false;
+        }
+        k += 1;
+    }
+    true
+}
+
+fn left_touches(rule: &[u8], plan: &[usize; 42], i: usize, k: usize) -> bool
+    requires { ⌜ HasEdge (now rule) (now plan) k ⌝ }
+    ensures { λ b. ⌜ For (now (rule .entry)) (now (plan .entry)) (λ r. (h : Host) → b ≡ leftTouches h r i k) ⌝ }
+{
+    if plan::source(rule, plan, k) == i {
+        return true;
+    }
+    plan::target(rule, plan, k) == i
+}
+
+fn left_degree(rule: &[u8], plan: &[usize; 42], i: usize) -> usize
+    requires { ⌜ IsLaid (now rule) (now plan) ⌝ }
+    ensures { λ d. ⌜ For (now (rule .entry)) (now (plan .entry)) (λ r. (h : Host) → d ≡ count (leftTouches h r i) (leftEdges r)) ⌝ }
+{
+    let m = plan[1];
+    let mut k: usize = 0;
+    let mut d: usize = 0;
+    while k < m {
+        if left_touches(rule, plan, i, k) {
+            d += 1;
+            k += 1;
+        } else {
+            k += 1;
+        }
+    }
+    d
+}
+
+// Whether left node i stays, or slot c has no more edges than left node i.
+fn can_go(
+    l: Layout,
+    nodes: &[u8],
+    edges: &[u8],
+    rule: &[u8],
+    plan: &[usize; 42],
+    i: usize,
+    c: usize,
+) -> bool
+    requires { ⌜ Legal l (now nodes) (now edges) ⌝ }
+    requires { ⌜ IsLaid (now rule) (now plan) ⌝ }
+    ensures { λ b. ⌜ For (now (rule .entry)) (now (plan .entry)) (λ r. b ≡ canGo (hostOf l (now (nodes .entry)) (now (edges .entry))) r i c) ⌝ }
+{
+    if i < plan[2] {
+        return true;
+    }
+    graph::degree(l, nodes, edges, c) <= left_degree(rule, plan, i)
+}
+
+// Tests.
+
+// An operand's atom.
+fn atom(
+    l: Layout,
+    nodes: &[u8],
+    edges: &[u8],
+    rule: &[u8],
+    plan: &[usize; 42],
+    at: &[usize; 12],
+    i: usize,
+    c: usize,
+    o: Operand,
+) -> u32
+    requires { ⌜ Legal l (now nodes) (now edges) ⌝ }
+    requires { ⌜ HasOperand (hostOf l (now nodes) (now edges)) (now rule) (now plan) (now at) i c o ⌝ }
+    ensures { λ r. ⌜ ((w : HasOperand (hostOf l (now (nodes .entry)) (now (edges .entry))) (now (rule .entry)) (now (plan .entry)) (now (at .entry)) i c o) → r ≡ atomOf (assigned (hostOf l (now (nodes .entry)) (now (edges .entry))) (w .trial .rule) (w .trial .placed)) o) ⌝ }
+{
+    match o {
+        Operand::Constant(x) => x,
+        Operand::Variable(v) => first_atom(value(l, nodes, edges, rule, plan, at, i, c, v)),
+    }
+}
+
+// The first atom of a label, or 0.
+fn first_atom(a: Label) -> u32
+    requires { ⌜ Held a ⌝ }
+    ensures { λ r. ⌜ r ≡ getD (atomsIn a) 0 0 ⌝ }
+{
+    if a.len == 0 {
+        return 0;
+    }
+    let atoms = a.atoms;
+    atoms[0]
+}
+
+// An atom's signed value plus 2^31.
+fn height(x: u32) -> u32
+    ensures { λ r. ⌜ r ≡ height x ⌝ }
+{
+    if x < 0x80000000 {
+        return x + 0x80000000;
+    }
+    x - 0x80000000
+}
+
+fn condition_holds(
+    l: Layout,
+    nodes: &[u8],
+    edges: &[u8],
+    rule: &[u8],
+    plan: &[usize; 42],
+    at: &[usize; 12],
+    i: usize,
+    c: usize,
+    k: Condition,
+) -> bool
+    requires { ⌜ Legal l (now nodes) (now edges) ⌝ }
+    requires { ⌜ HasCondition (hostOf l (now nodes) (now edges)) (now rule) (now plan) (now at) i c k ⌝ }
+    ensures { λ r. ⌜ ((w : HasCondition (hostOf l (now (nodes .entry)) (now (edges .entry))) (now (rule .entry)) (now (plan .entry)) (now (at .entry)) i c k) → r ≡ conditionHolds (hostOf l (now (nodes .entry)) (now (edges .entry))) (w .trial .placed) (assigned (hostOf l (now (nodes .entry)) (now (edges .entry))) (w .trial .rule) (w .trial .placed)) k) ⌝ }
+{
+    match k {
+        Condition::Edge(a, b) => graph::any_runs(
+            l,
+            nodes,
+            edges,
+            slot_of(at, i, c, a),
+            slot_of(at, i, c, b),
+        ),
+        Condition::InDegree(a, n) => graph::in_degree(l, nodes, edges, slot_of(at, i, c, a)) == n,
+        Condition::OutDegree(a, n) => graph::out_degree(l, nodes, edges, slot_of(at, i, c, a)) == n,
+        Condition::Equal(a, b) => {
+            atom(l, nodes, edges, rule, plan, at, i, c, a)
+                == atom(l, nodes, edges, rule, plan, at, i, c, b)
+        }
+        Condition::Less(a, b) => {
+            height(atom(l, nodes, edges, rule, plan, at, i, c, a))
+                < height(atom(l, nodes, edges, rule, plan, at, i, c, b))
+        }
+    }
+}
+
+// Whether test number t holds.
+fn test_holds(
+    l: Layout,
+    nodes: &[u8],
+    edges: &[u8],
+    rule: &[u8],
+    plan: &[usize; 42],
+    at: &[usize; 12],
+    i: usize,
+    c: usize,
+    t: usize,
+) -> bool
+    requires { ⌜ Legal l (now nodes) (now edges) ⌝ }
+    requires { ⌜ HasTest (hostOf l (now nodes) (now edges)) (now rule) (now plan) (now at) i c t ⌝ }
+    ensures { λ r. ⌜ ((w : HasTest (hostOf l (now (nodes .entry)) (now (edges .entry))) (now (rule .entry)) (now (plan .entry)) (now (at .entry)) i c t) → r ≡ testHolds (hostOf l (now (nodes .entry)) (now (edges .entry))) (w .trial .placed) (assigned (hostOf l (now (nodes .entry)) (now (edges .entry))) (w .trial .rule) (w .trial .placed)) (testOf (w .trial .rule) t)) ⌝ }
+{
+    let test = plan::test(rule, plan, t);
+    let k = test.condition;
+    let holds = condition_holds(l, nodes, edges, rule, plan, at, i, c, k);
+    if test.negated {
+        return !holds;
+    }
+    holds
+}
+
+// Whether the tests that item i decides hold.
+fn tests_so_far(
+    l: Layout,
+    nodes: &[u8],
+    edges: &[u8],
+    rule: &[u8],
+    plan: &[usize; 42],
+    at: &[usize; 12],
+    i: usize,
+    c: usize,
+) -> bool
+    requires { ⌜ Legal l (now nodes) (now edges) ⌝ }
+    requires { ⌜ Tried (hostOf l (now nodes) (now edges)) (now rule) (now plan) (now at) i c ⌝ }
+    ensures { λ r. ⌜ ((w : Tried (hostOf l (now (nodes .entry)) (now (edges .entry))) (now (rule .entry)) (now (plan .entry)) (now (at .entry)) i c) → r ≡ testsSoFar (hostOf l (now (nodes .entry)) (now (edges .entry))) (w .trial .rule) (w .trial .placed)) ⌝ }
+{
+    let n = plan[3];
+    let mut t: usize = 0;
+    while t < n {
+        if plan[34 + t] == i + 1 {
+            if !test_holds(l, nodes, edges, rule, plan, at, i, c, t) {
+                return false;
+            }
+            t += 1;
+        } else {
+            t += 1;
+        }
+    }
+    true
+}
+
+// Candidates.
+
+// Whether slot c can stand for left node i.
+pub fn node_fits(
+    l: Layout,
+    nodes: &[u8],
+    edges: &[u8],
+    rule: &[u8],
+    plan: &[usize; 42],
+    at: &[usize; 12],
+    i: usize,
+    c: usize,
+) -> bool
+    requires { ⌜ Legal l (now nodes) (now edges) ⌝ }
+    requires { ⌜ Known (now rule) (now plan) ⌝ }
+    requires { ⌜ (length (now at) ≡ 12) × Inside (hostOf l (now nodes) (now edges)) (getD (now plan) 0 0) (now at) i ⌝ }
+    requires { ⌜ (i < getD (now plan) 0 0) × (c < length (hostOf l (now nodes) (now edges) .nodes)) ⌝ }
+    ensures { λ r. ⌜ ((w : Known (now (rule .entry)) (now (plan .entry))) → r ≡ nodeFits (hostOf l (now (nodes .entry)) (now (edges .entry))) (w .rule) (take i (now (at .entry))) i c) ⌝ }
+{
+    if !graph::node_live(l, nodes, edges, c) {
+        return false;
+    }
+    if !marks_agree(
+        plan::mark(rule, plan, i),
+        graph::node_mark(l, nodes, edges, c),
+    ) {
+        return false;
+    }
+    if plan::root(rule, plan, i) != graph::node_root(l, nodes, edges, c) {
+        return false;
+    }
+    if !absent(at, 0, i, c) {
+        return false;
+    }
+    if !label_agrees(l, nodes, edges, rule, plan, at, i, c) {
+        return false;
+    }
+    if !linked(l, nodes, edges, rule, plan, at, i, c) {
+        return false;
+    }
+    if !can_go(l, nodes, edges, rule, plan, i, c) {
+        return false;
+    }
+    tests_so_far(l, nodes, edges, rule, plan, at, i, c)
+}
+
+// Whether slot c can stand for the left edge that is item i, whose ends are at slots s and t.
+pub fn edge_fits(
+    l: Layout,
+    nodes: &[u8],
+    edges: &[u8],
+    rule: &[u8],
+    plan: &[usize; 42],
+    at: &[usize; 12],
+    i: usize,
+    s: usize,
+    t: usize,
+    c: usize,
+) -> bool
+    requires { ⌜ Legal l (now nodes) (now edges) ⌝ }
+    requires { ⌜ Known (now rule) (now plan) ⌝ }
+    requires { ⌜ (length (now at) ≡ 12) × Inside (hostOf l (now nodes) (now edges)) (getD (now plan) 0 0) (now at) i ⌝ }
+    requires { ⌜ (getD (now plan) 0 0 ≤ i) × (i < getD (now plan) 0 0 + getD (now plan) 1 0) × (c < length (hostOf l (now nodes) (now edges) .edges)) ⌝ }
+    requires { ⌜ ((w : Known (now rule) (now plan)) → (s ≡ nodeSlot (take i (now at)) (leftEdge (w .rule) (i - leftNodes (w .rule)) .source)) × (t ≡ nodeSlot (take i (now at)) (leftEdge (w .rule) (i - leftNodes (w .rule)) .target))) ⌝ }
+    ensures { λ r. ⌜ ((w : Known (now (rule .entry)) (now (plan .entry))) → r ≡ edgeFits (hostOf l (now (nodes .entry)) (now (edges .entry))) (w .rule) (take i (now (at .entry))) (i - leftNodes (w .rule)) c) ⌝ }
+{
+    let n = plan[0];
+    if !joins(l, nodes, edges, rule, plan, i - n, s, t, c) {
+        return false;
+    }
+    if !absent(at, n, i, c) {
+        return false;
+    }
+    if !label_agrees(l, nodes, edges, rule, plan, at, i, c) {
+        return false;
+    }
+    tests_so_far(l, nodes, edges, rule, plan, at, i, c)
+}
+
+// Full placements.
+
+// Whether slot s or slot t is that of a left node that goes.
+fn touches_gone(plan: &[usize; 42], at: &[usize; 12], s: usize, t: usize) -> bool
+    requires { ⌜ Room (now plan) (now at) ⌝ }
+    ensures { λ r. ⌜ r ≡ any (goneAt (getD (now (plan .entry)) 2 0) (now (at .entry)) s t) (getD (now (plan .entry)) 0 0) ⌝ }
+{
+    let n = plan[0];
+    let mut j = plan[2];
+    while j < n {
+        let x = at[j];
+        if s == x {
+            return true;
+        }
+        if t == x {
+            return true;
+        }
+        j += 1;
+    }
+    false
+}
+
+// Whether edge x would be left without an end.
+fn dangles(
+    l: Layout,
+    nodes: &[u8],
+    edges: &[u8],
+    plan: &[usize; 42],
+    at: &[usize; 12],
+    x: usize,
+) -> bool
+    requires { ⌜ Legal l (now nodes) (now edges) ⌝ }
+    requires { ⌜ Room (now plan) (now at) ⌝ }
+    requires { ⌜ x < length (hostOf l (now nodes) (now edges) .edges) ⌝ }
+    ensures { λ b. ⌜ ((r : Rule) → Numbers (now (plan .entry)) r → b ≡ isDangling (hostOf l (now (nodes .entry)) (now (edges .entry))) r (take (leftNodes r + leftEdges r) (now (at .entry))) x) ⌝ }
+{
+    if graph::edge_live(l, nodes, edges, x) {
+        if touches_gone(
+            plan,
+            at,
+            graph::edge_source(l, nodes, edges, x),
+            graph::edge_target(l, nodes, edges, x),
+        ) {
+            return absent(at, plan[0], plan[0] + plan[1], x);
+        }
+    }
+    false
+}
+
+fn any_dangles(l: Layout, nodes: &[u8], edges: &[u8], plan: &[usize; 42], at: &[usize; 12]) -> bool
+    requires { ⌜ Legal l (now nodes) (now edges) ⌝ }
+    requires { ⌜ Room (now plan) (now at) ⌝ }
+    ensures { λ b. ⌜ ((r : Rule) → Numbers (now (plan .entry)) r → b ≡ any (isDangling (hostOf l (now (nodes .entry)) (now (edges .entry))) r (take (leftNodes r + leftEdges r) (now (at .entry)))) (length (hostOf l (now (nodes .entry)) (now (edges .entry)) .edges))) ⌝ }
+{
+    let n = graph::edge_slots(l, edges);
+    let mut x: usize = 0;
+    while x < n {
+        if dangles(l, nodes, edges, plan, at, x) {
+            return true;
+        }
+        x += 1;
+    }
+    false
+}
+
+fn all_tests(
+    l: Layout,
+    nodes: &[u8],
+    edges: &[u8],
+    rule: &[u8],
+    plan: &[usize; 42],
+    at: &[usize; 12],
+) -> bool
+    requires { ⌜ Legal l (now nodes) (now edges) ⌝ }
+    requires { ⌜ Full (hostOf l (now nodes) (now edges)) (now rule) (now plan) (now at) 12 0 ⌝ }
+    ensures { λ r. ⌜ ((w : Full (hostOf l (now (nodes .entry)) (now (edges .entry))) (now (rule .entry)) (now (plan .entry)) (now (at .entry)) 12 0) → r ≡ every (testHolds (hostOf l (now (nodes .entry)) (now (edges .entry))) (w .trial .placed) (assigned (hostOf l (now (nodes .entry)) (now (edges .entry))) (w .trial .rule) (w .trial .placed))) (w .trial .rule .tests)) ⌝ }
+{
+    let n = plan[3];
+    let mut t: usize = 0;
+    while t < n {
+        if !test_holds(l, nodes, edges, rule, plan, at, 12, 0, t) {
+            return false;
+        }
+        t += 1;
+    }
+    true
+}
+
+// Whether a full placement is a match.
+pub fn complete(
+    l: Layout,
+    nodes: &[u8],
+    edges: &[u8],
+    rule: &[u8],
+    plan: &[usize; 42],
+    at: &[usize; 12],
+) -> bool
+    requires { ⌜ Legal l (now nodes) (now edges) ⌝ }
+    requires { ⌜ Known (now rule) (now plan) ⌝ }
+    requires { ⌜ (length (now at) ≡ 12) × Inside (hostOf l (now nodes) (now edges)) (getD (now plan) 0 0) (now at) (getD (now plan) 0 0 + getD (now plan) 1 0) ⌝ }
+    ensures { λ r. ⌜ ((w : Known (now (rule .entry)) (now (plan .entry))) → r ≡ isComplete (hostOf l (now (nodes .entry)) (now (edges .entry))) (w .rule) (take (leftNodes (w .rule) + leftEdges (w .rule)) (now (at .entry)))) ⌝ }
+{
+    if any_dangles(l, nodes, edges, plan, at) {
+        return false;
+    }
+    all_tests(l, nodes, edges, rule, plan, at)
+}

@@ -1,0 +1,6 @@
+pub mod Plans
+pub mod Links
+pub mod Steps
+pub mod Falls
+pub mod Odometer
+pub mod Storing

@@ -1,0 +1,197 @@
+-- The values of the variables in arrays, one variable at a time.
+use Prim.Native.Nat.{ℕ, zero, suc, _+_, _-_, _*_, _≤_, _<_}
+use mathlib.Core.Path.{_≡_, refl, sym, _∙_, ap}
+use mathlib.Core.Logic.{_⊎_, inl, inr, ⊎-map}
+use mathlib.Core.Bool.{Bool, true, false}
+use mathlib.Core.List.{List, _++_}
+use native.Mathlib.Omega.{arith}
+use native.Mathlib.Decide.{ℕ-discrete, decLt}
+use borrow.Author.Tests.{ltb-true}
+use lib.Dec.{eqb, ltb}
+use lib.ListN.{length, getD, take, drop, set, replicate, length-set, length-drop}
+use lib.Seq.{ext-getD, getD-take, getD-drop, getD-set-same, getD-set-other, length-take-le}
+use Rattle.meaning.specs.Basics.{choose, absent}
+use Rattle.meaning.specs.Numbers.{whole}
+use Rattle.meaning.specs.Layout.{Host}
+use Rattle.meaning.specs.Image.{Rule}
+use Rattle.meaning.specs.References.{labels, names, testNames, variablesExist, ruleHolds}
+use Rattle.meaning.specs.Matching.{leftNodes}
+use Rattle.meaning.specs.FirstMatch.{firstWith, assigned}
+use Rattle.meaning.specs.Laws.Tests.{both-true, choose-ne, absent-false, every-true, every-append}
+use Rattle.meaning.specs.Laws.References.{clauses-true, left-plain}
+use Rattle.meaning.specs.Laws.Assignment.{labels-length}
+use Rattle.meaning.specs.Laws.Decided.{first-with}
+use Rattle.labels.specs.Labels.{atomsIn, Held}
+use Rattle.labels.specs.declared.Label.{Label}
+use Rattle.fitting.specs.Fitting.{Known, Inside, Trial, HasValue}
+use Rattle.matching.specs.Next.{total}
+use Rattle.matching.specs.Values.{Copied, Arrays, valuesOf, HasValues}
+use Rattle.matching.proofs.Plans.{nodes-of, levels-of, few-levels}
+
+-- two parts of one size are the same where their elements are
+same-part : (n k d : ℕ) (xs ys : List ℕ) → k + n ≤ length xs → d + n ≤ length ys
+    → ((j : ℕ) → j < n → getD xs (k + j) 0 ≡ getD ys (d + j) 0) → take n (drop k xs) ≡ take n (drop d ys)
+same-part n k d xs ys a b e =
+    let s : length (take n (drop k xs)) ≡ n = length-take-le n (drop k xs) (omega (arith, length-drop k xs)) in
+    let t : length (take n (drop d ys)) ≡ n = length-take-le n (drop d ys) (omega (arith, length-drop d ys)) in
+    ext-getD 0 (take n (drop k xs)) (take n (drop d ys)) (s ∙ sym t) (λ j h.
+    let l : j < n = omega arith in
+    getD-take n (drop k xs) j 0 l ∙ getD-drop k xs j 0 ∙ e j l ∙ sym (getD-take n (drop d ys) j 0 l ∙ getD-drop d ys j 0))
+
+-- Copying, one number at a time.
+
+pub record Copying (start j : ℕ) (new before after : List ℕ) : Type 0 where
+  pub room : length after ≡ 48
+  pub inside : (x : ℕ) → x < j → getD after (start + x) 0 ≡ getD new x 0
+  pub outside : (x : ℕ) → (x < start) ⊎ (start + j ≤ x) → getD after x 0 ≡ getD before x 0
+
+pub copy-none : (start : ℕ) (new before : List ℕ) → length before ≡ 48 → Copying start 0 new before before
+copy-none start new before e = record { room = e; inside = λ x k. absurd (omega arith); outside = λ x k. refl }
+
+pub copied-all : (start j : ℕ) (new before after : List ℕ) → j ≡ 8 → Copying start j new before after
+    → Copied start new before after
+copied-all start j new before after e s =
+    let t : Copying start 8 new before after = rw e at s in
+    record { room = t .room; inside = t .inside; outside = t .outside }
+
+pub copy-more : (start j : ℕ) (new before after : List ℕ) → start + j < 48 → Copying start j new before after
+    → Copying start (j + 1) new before (set after (start + j) (getD new j 0))
+copy-more start j new before after h s = record {
+  room = length-set after (start + j) (getD new j 0) ∙ s .room;
+  inside = λ x k. at x k (ℕ-discrete x j);
+  outside = λ x k.
+      getD-set-other after (start + j) x (getD new j 0) 0 (apart x k)
+      ∙ s .outside x (⊎-map (λ (l : x < start). l) (λ (l : start + (j + 1) ≤ x). omega arith) k);
+}
+  where
+    at : (x : ℕ) → x < j + 1 → Dec (x ≡ j) → getD (set after (start + j) (getD new j 0)) (start + x) 0 ≡ getD new x 0
+    at x k (yes e) = rw e (getD-set-same after (start + j) (getD new j 0) 0 (omega (arith, s .room)))
+    at x k (no e) = getD-set-other after (start + j) (start + x) (getD new j 0) 0 (omega arith) ∙ s .inside x (omega arith)
+
+    apart : (x : ℕ) → (x < start) ⊎ (start + (j + 1) ≤ x) → x ≡ start + j → ⊥
+    apart x (inl k) e = omega arith
+    apart x (inr k) e = omega arith
+
+-- The arrays, one variable at a time.
+
+none-at : (n v : ℕ) → _≡_ {A = ℕ} (getD (replicate n 0) v 0) 0
+none-at zero v = refl
+none-at (suc n) zero = refl
+none-at (suc n) (suc v) = none-at n v
+
+pub arrays-none : Arrays (replicate 6 0) (replicate 48 0)
+arrays-none = record {
+  variables = refl;
+  room = refl;
+  few = λ v. omega (arith, none-at 6 v);
+  words = λ i. omega (arith, none-at 48 i);
+}
+
+-- variable v gets the atoms of label a
+module _ (v : ℕ) (lens atoms after : List ℕ) (a : Label) (low : v < 6) (x : Arrays lens atoms)
+    (s : Copied (8 * v) (a .atoms) atoms after) (held : Held a) where
+  pub arrays-more : Arrays (set lens v (a .len)) after
+  arrays-more = record {
+    variables = length-set lens v (a .len) ∙ x .variables;
+    room = s .room;
+    few = λ u. short u (ℕ-discrete u v);
+    words = λ i. word i (decLt i (8 * v)) (decLt i (8 * v + 8));
+  }
+    where
+      short : (u : ℕ) → Dec (u ≡ v) → getD (set lens v (a .len)) u 0 ≤ 8
+      short u (yes e) = rw (e, getD-set-same lens v (a .len) 0 (omega (arith, x .variables))) (held .few)
+      short u (no e) = rw (getD-set-other lens v u (a .len) 0 e) (x .few u)
+
+      word : (i : ℕ) → Dec (i < 8 * v) → Dec (i < 8 * v + 8) → getD after i 0 < whole
+      word i (yes d) e = rw (s .outside i (inl d)) (x .words i)
+      word i (no d) (yes e) =
+          let f : 8 * v + (i - 8 * v) ≡ i = omega arith in
+          rw (rw f at (s .inside (i - 8 * v) (omega arith))) (held .small (i - 8 * v))
+      word i (no d) (no e) = rw (s .outside i (inr (omega arith))) (x .words i)
+
+  -- which it then has
+  pub value-new : valuesOf (set lens v (a .len)) after v ≡ atomsIn a
+  value-new =
+      let e : getD (set lens v (a .len)) v 0 ≡ a .len = getD-set-same lens v (a .len) 0 (omega (arith, x .variables)) in
+      rw e
+      (same-part (a .len) (8 * v) 0 after (a .atoms) (omega (arith, s .room, held .few)) (omega (arith, held .room, held .few))
+      (λ j k. s .inside j (omega (arith, held .few)) ∙ ap (λ (i : ℕ). getD (a .atoms) i 0) (sym (zero-plus j))))
+    where
+      zero-plus : (j : ℕ) → 0 + j ≡ j
+      zero-plus j = omega arith
+
+  -- and those before it keep theirs
+  pub value-old : (u : ℕ) → u < v → valuesOf (set lens v (a .len)) after u ≡ valuesOf lens atoms u
+  value-old u k =
+      rw (getD-set-other lens v u (a .len) 0 (omega arith))
+      (same-part (getD lens u 0) (8 * u) (8 * u) after atoms (omega (arith, s .room, x .few u)) (omega (arith, x .room, x .few u))
+      (λ j l. s .outside (8 * u + j) (inl (omega (arith, x .few u)))))
+
+  pub values-more : (h : Host) (r : Rule) (p : List ℕ) → atomsIn a ≡ assigned h r p v → HasValues h r p v lens atoms
+      → HasValues h r p (v + 1) (set lens v (a .len)) after
+  values-more h r p is y u k l = by (ℕ-discrete u v)
+    where
+      by : Dec (u ≡ v) → valuesOf (set lens v (a .len)) after u ≡ assigned h r p u
+      by (yes e) = rw e (value-new ∙ is)
+      by (no e) = value-old u (omega arith) ∙ y u (omega arith) l
+
+-- no left item has variable v
+pub values-skip : (h : Host) (r : Rule) (p : List ℕ) (v : ℕ) (lens atoms : List ℕ) → total r ≤ firstWith v (labels (r .left))
+    → HasValues h r p v lens atoms → HasValues h r p (v + 1) lens atoms
+values-skip h r p v lens atoms m x u k l = x u (by (ℕ-discrete u v)) l
+  where
+    by : Dec (u ≡ v) → u < v
+    by (yes e) = let f : total r ≤ firstWith u (labels (r .left)) = rw e m in absurd (omega arith)
+    by (no e) = omega arith
+
+-- a variable that occurs on the left is one of the rule's, and a left item has it
+pub on-left : (r : Rule) → ruleHolds r ≡ true → (v : ℕ) → absent v (names (r .left)) ≡ false
+    → (v < length (r .variables)) × (firstWith v (labels (r .left)) < total r)
+unfolding ruleHolds variablesExist
+on-left r holds v e =
+    let exists : ℕ → Bool = λ u. ltb u (length (r .variables)) in
+    let sides = names (r .left) ++ names (r .right) in
+    let all-exist = both-true _ _ (sym (every-append exists sides (testNames r)) ∙ clauses-true _ holds 0) .0 in
+    let left-exist = both-true _ _ (sym (every-append exists (names (r .left)) (names (r .right))) ∙ all-exist) .0 in
+    let t = absent-false v (names (r .left)) e in (
+      rw (t .2)
+          at (ltb-true (getD (names (r .left)) (t .0) 0) (length (r .variables)) (every-true exists (names (r .left)) 0 left-exist (t .0) (t .1))),
+      omega (arith, first-with v (labels (r .left)) (left-plain r holds) e .0, labels-length r),
+    )
+
+-- A full placement.
+
+module _ (h : Host) (bs plan at : List ℕ) (w : Known bs plan) (room : length at ≡ 12)
+    (inside : Inside h (getD plan 0 0) at (getD plan 0 0 + getD plan 1 0)) where
+  pub all-placed : length (take (total (w .rule)) at) ≡ total (w .rule)
+  all-placed = length-take-le (total (w .rule)) at (omega (arith, few-levels _ _ w))
+
+  pub in-array : (j : ℕ) → j < length (take (total (w .rule)) at)
+      → choose (eqb j 12) 0 (getD at j 0) ≡ getD (take (total (w .rule)) at) j 0
+  in-array j k =
+      choose-ne j 12 _ _ (λ e. omega (arith, all-placed, few-levels _ _ w))
+      ∙ sym (getD-take (total (w .rule)) at j 0 (omega (arith, all-placed)))
+
+  pub in-tables : (j : ℕ) → j < length (take (total (w .rule)) at)
+      → getD (take (total (w .rule)) at) j 0 < choose (ltb j (leftNodes (w .rule))) (length (h .nodes)) (length (h .edges))
+  in-tables j k =
+      rw (getD-take (total (w .rule)) at j 0 (omega (arith, all-placed)), ← nodes-of _ _ w)
+      (inside j (omega (arith, all-placed, levels-of _ _ w)))
+
+  abbrev full-trial : Trial h bs plan at 12 0
+  full-trial = record {
+    rule = w .rule;
+    planned = w .planned;
+    room = room;
+    placed = take (total (w .rule)) at;
+    few = omega (arith, all-placed);
+    slot = in-array;
+    inside = in-tables;
+  }
+
+  abbrev pub has-value : (v : ℕ) → v < length (w .rule .variables) → getD plan (28 + v) 0 < getD plan 0 0 + getD plan 1 0
+      → HasValue h bs plan at 12 0 v
+  has-value v k l = record {
+    trial = full-trial;
+    valued = (k, omega (arith, all-placed, w .planned .first v k, levels-of _ _ w));
+  }

@@ -1,0 +1,176 @@
+-- `matching::next_edge` meets its contract. The loop's invariant: no slot passed fits.
+use Prim.Native.Nat.{ℕ, _-_, _≤_, _<_}
+use mathlib.Core.Path.{_≡_, sym, _∙_}
+use mathlib.Core.Bool.{false}
+use native.Mathlib.Omega.{arith}
+use borrow.Author.Needs.{needs}
+use lib.ListN.{length, take, getD}
+use Rattle.meaning.specs.Matching.{leftNodes}
+use Rattle.meaning.specs.FirstMatch.{edgeFits}
+use Rattle.graph.specs.Graph.{hostOf}
+use Rattle.matching.specs.Next.{Of}
+use Rattle.matching.specs.declared.Next.the-variants.{At, Nothing}
+use Rattle.matching.proofs.Plans.{nodes-of, few-items, few-ends, has-edge, source-slot, target-slot, level-room}
+use Rattle.matching.proofs.Links.{none-more, edge-slot}
+use Rattle.matching.proofs.next_edge.Statement.{statement}
+use Rattle.matching.proofs.next_edge.Tie as tie
+
+abbrev Inv-loop : tie.InvT-loop
+Inv-loop l nodes edges rule plan at i c k a b s t n x₀ x =
+    (c ≤ x) × (n ≡ length (hostOf l nodes edges .edges))
+    × Of rule plan (λ r. (y : ℕ) → c ≤ y → y < x → edgeFits (hostOf l nodes edges) r (take i at) (i - leftNodes r) y ≡ false)
+
+abbrev μ-loop : tie.MeasureT-loop
+μ-loop l nodes edges rule plan at i c k a b s t n x₀ x = n - x
+
+element-copy-out-k : tie.Need-element-copy-out-k Inv-loop μ-loop
+element-copy-out-k c = search needs
+
+sub-k : tie.Need-sub-k Inv-loop μ-loop
+sub-k c = search needs
+
+source-requires : tie.Need-source-requires Inv-loop μ-loop
+source-requires c κs = has-edge _ _ (c .before .before .before .before .pre .0 .known) _ (omega arith)
+
+target-requires : tie.Need-target-requires Inv-loop μ-loop
+target-requires c κs = has-edge _ _ (c .before .before .before .before .before .pre .0 .known) _ (omega arith)
+
+mul-s : tie.Need-mul-s Inv-loop μ-loop
+mul-s c =
+    let s = c .before .before .before .before .before .before in
+    omega (
+      arith,
+      c .before .source .ensures (s .pre .0 .known .rule) (s .pre .0 .known .planned .laid),
+      few-ends _ _
+          (s .pre .0 .known) (s .args .i - getD (s .args .plan .now) 0 0) (omega arith) .0,
+      few-items _ _ (s .pre .0 .known) .0,
+    )
+
+element-copy-out-s : tie.Need-element-copy-out-s Inv-loop μ-loop
+element-copy-out-s c =
+    let s = c .before .before .before .before .before .before in
+    omega (
+      arith,
+      c .before .source .ensures (s .pre .0 .known .rule) (s .pre .0 .known .planned .laid),
+      few-ends _ _
+          (s .pre .0 .known) (s .args .i - getD (s .args .plan .now) 0 0) (omega arith) .0,
+      few-items _ _ (s .pre .0 .known) .0,
+    )
+
+mul-t : tie.Need-mul-t Inv-loop μ-loop
+mul-t c =
+    let s = c .before .before .before .before .before .before .before in
+    omega (
+      arith,
+      c .before .target .ensures (s .pre .0 .known .rule) (s .pre .0 .known .planned .laid),
+      few-ends _ _
+          (s .pre .0 .known) (s .args .i - getD (s .args .plan .now) 0 0) (omega arith) .1,
+      few-items _ _ (s .pre .0 .known) .0,
+    )
+
+element-copy-out-t : tie.Need-element-copy-out-t Inv-loop μ-loop
+element-copy-out-t c =
+    let s = c .before .before .before .before .before .before .before in
+    omega (
+      arith,
+      c .before .target .ensures (s .pre .0 .known .rule) (s .pre .0 .known .planned .laid),
+      few-ends _ _
+          (s .pre .0 .known) (s .args .i - getD (s .args .plan .now) 0 0) (omega arith) .1,
+      few-items _ _ (s .pre .0 .known) .0,
+    )
+
+edge-slots-requires : tie.Need-edge-slots-requires Inv-loop μ-loop
+edge-slots-requires c κs = search needs
+
+loop-holds : tie.Need-loop-holds Inv-loop μ-loop
+loop-holds c = (omega arith, c .edge-slots .ensures, λ w y h k. absurd (omega arith))
+
+edge-fits-requires : tie.Need-edge-fits-requires Inv-loop μ-loop
+edge-fits-requires c κs =
+    let s = c .before .before .before .before .before .before .before .before .before .before .before in
+    let a = s .args in
+    let target = c .before .before .before .before .before .target in
+    let source = c .before .before .before .before .before .before .source in
+    let w = s .pre .0 .known in (
+      s .pre .0 .legal,
+      (
+        w,
+        (
+          (s .pre .0 .room, s .pre .0 .inside),
+          (
+            (s .pre .1 .0, s .pre .1 .1, omega (arith, c .loop-test .taken, c .before .loop .inv .1)),
+            λ u. (
+              source-slot _ _ u (a .at .now) (a .i) (s .pre .1 .0) (s .pre .1 .1) (source .result)
+                  (source .ensures (u .rule) (u .planned .laid)),
+              target-slot _ _ u (a .at .now) (a .i) (s .pre .1 .0) (s .pre .1 .1) (target .result)
+                  (target .ensures (u .rule) (u .planned .laid)),
+            ),
+          ),
+        ),
+      ),
+    )
+
+returns : tie.Need-returns Inv-loop μ-loop
+returns c =
+    let l = c .before .before .before in
+    let s = l .before .before .before .before .before .before .before .before .before .before in
+    let a = s .args in
+    λ w.
+    edge-slot (hostOf (a .l) (a .nodes .now) (a .edges .now)) (w .rule) (a .at .now) (a .i) (a .c) (At (l .loop .x))
+    (level-room (s .pre .0) (s .pre .1 .1)) (omega (arith, nodes-of _ _ w)) (
+      l .loop .inv .0,
+      omega (arith, c .before .before .loop-test .taken, l .loop .inv .1),
+      sym (c .before .edge-fits .ensures w)
+          ∙ c .if1 .taken,
+      l .loop .inv .2 w,
+    )
+
+add-x : tie.Need-add-x Inv-loop μ-loop
+add-x c = search needs
+
+loop-less : tie.Need-loop-less Inv-loop μ-loop
+loop-less c = omega arith
+
+loop-again : tie.Need-loop-again Inv-loop μ-loop
+loop-again c =
+    let l = c .before .before .before in
+    let a = c .before .before .before .before .before .before .before .before .before .before .before .before .before .args in (
+      omega arith,
+      l .loop .inv .1,
+      λ w.
+          none-more (edgeFits (hostOf (a .l) (a .nodes .now) (a .edges .now)) (w .rule) (take (a .i) (a .at .now))
+          (a .i - leftNodes (w .rule)))
+          (a .c) (l .loop .x) (l .loop .inv .2 w) (sym (c .before .edge-fits .ensures w) ∙ c .if1 .left),
+    )
+
+returns-2 : tie.Need-returns-2 Inv-loop μ-loop
+returns-2 c =
+    let s = c .before .before .before .before .before .before .before .before .before .before .before in
+    let a = s .args in
+    λ w.
+    edge-slot (hostOf (a .l) (a .nodes .now) (a .edges .now)) (w .rule) (a .at .now) (a .i) (a .c) Nothing
+    (level-room (s .pre .0) (s .pre .1 .1)) (omega (arith, nodes-of _ _ w))
+    (λ y h k. c .before .loop .inv .2 w y h (omega (arith, c .loop-test .left, c .before .loop .inv .1)))
+
+pub next-edge-spec : {M : Type 1} → statement M
+next-edge-spec =
+    tie.close
+    (tie.spec
+    Inv-loop
+    μ-loop
+    element-copy-out-k
+    sub-k
+    source-requires
+    target-requires
+    mul-s
+    element-copy-out-s
+    mul-t
+    element-copy-out-t
+    edge-slots-requires
+    loop-holds
+    edge-fits-requires
+    returns
+    add-x
+    loop-less
+    loop-again
+    returns-2)

@@ -1,0 +1,85 @@
+-- What the functions of the search are handed, and what they answer. Rests on the meaning's FirstMatch.
+use Prim.Native.Nat.{ℕ, _+_, _<_, _≤_}
+use mathlib.Core.Path.{_≡_}
+use mathlib.Core.Logic.{_⊎_}
+use mathlib.Core.Bool.{Bool, true, false, not}
+use mathlib.Core.Option.{Option, some, none}
+use mathlib.Core.List.{List}
+use lib.ListN.{length, getD, take}
+use Rattle.meaning.specs.Layout.{Host, liveAt}
+use Rattle.meaning.specs.Image.{Rule}
+use Rattle.meaning.specs.Matching.{edgeAt, leftNodes, leftEdges}
+use Rattle.meaning.specs.FirstMatch.{marksAgree, fits, candidates, complete, firstMatch}
+use Rattle.meaning.specs.declared.Layout.{Layout}
+use Rattle.graph.specs.Graph.{Legal, hostOf}
+use Rattle.fitting.specs.Fitting.{Known, Inside}
+use Rattle.matching.specs.declared.Next.{Next}
+use Rattle.matching.specs.declared.Next.the-variants.{At, Nothing}
+use Rattle.matching.specs.declared.Step.{Step}
+use Rattle.matching.specs.declared.Step.the-variants.{Full, Take, Back}
+use Rattle.matching.specs.declared.Outcome.{Outcome}
+use Rattle.matching.specs.declared.Outcome.the-variants.{Match, NoMatch}
+use Rattle.matching.specs.declared.Placed.{Placed}
+
+-- What is handed.
+
+-- legal tables, and a rule with its plan
+pub record Handed (L : Layout) (nodes edges bs plan : List ℕ) : Type 0 where
+  pub legal : Legal L nodes edges
+  pub known : Known bs plan
+
+-- and the slots of the first i items
+pub record Ready (L : Layout) (nodes edges bs plan at : List ℕ) (i : ℕ) : Type 0 where
+  pub legal : Legal L nodes edges
+  pub known : Known bs plan
+  pub room : length at ≡ 12
+  pub inside : Inside (hostOf L nodes edges) (getD plan 0 0) at i
+
+-- What is answered, of whichever rule the plan is.
+
+abbrev pub Of : List ℕ → List ℕ → (Rule → Type 0) → Type 0
+Of bs plan P = (w : Known bs plan) → P (w .rule)
+
+-- the source of edge x, or else its target
+abbrev pub endOf : Host → Bool → ℕ → ℕ
+endOf h true x = edgeAt h x .source
+endOf h false x = edgeAt h x .target
+
+-- edge x joins slot p, which it leaves or else arrives at, to slot y, and can stand for a left edge of the mark
+pub record Meets (h : Host) (mark p : ℕ) (leaving : Bool) (x y : ℕ) : Type 0 where
+  pub live : liveAt (h .edges) x ≡ true
+  pub here : endOf h leaving x ≡ p
+  pub marks : marksAgree mark (edgeAt h x .mark) ≡ true
+  pub there : endOf h (not leaving) x ≡ y
+
+-- the lowest number of c .. b that passes the test, or none
+abbrev pub IsNext : (ℕ → Bool) → ℕ → ℕ → Next → Type 0
+IsNext test b c (At x) = (c ≤ x) × (x < b) × (test x ≡ true) × ((y : ℕ) → c ≤ y → y < x → test y ≡ false)
+IsNext test b c Nothing = (y : ℕ) → c ≤ y → y < b → test y ≡ false
+
+-- the lowest slot at c or above that fits behind the prefix p, or none
+abbrev pub NextSlot : Host → Rule → List ℕ → ℕ → Next → Type 0
+NextSlot h r p c x = IsNext (fits h r p) (candidates h r p) c x
+
+abbrev pub total : Rule → ℕ
+total r = leftNodes r + leftEdges r
+
+-- what there is to do behind the prefix p, at level i
+abbrev pub IsStep : Host → Rule → List ℕ → ℕ → ℕ → Step → Type 0
+IsStep h r p i c Full = (i ≡ total r) × (complete h r p ≡ true)
+IsStep h r p i c (Take x) = (i < total r) × NextSlot h r p c (At x)
+IsStep h r p i c Back = ((i < total r) × NextSlot h r p c Nothing) ⊎ ((i ≡ total r) × (complete h r p ≡ false))
+
+abbrev pub slotsAt : List ℕ → Outcome → Option (List ℕ)
+slotsAt p Match = some p
+slotsAt p NoMatch = none
+
+-- the slots of a placement, where there is one
+abbrev pub slotsOf : Rule → Placed → Option (List ℕ)
+slotsOf r x = slotsAt (take (total r) (x .slots)) (x .outcome)
+
+-- the first placement, or none
+pub record Sought (L : Layout) (nodes edges bs plan : List ℕ) (x : Placed) : Type 0 where
+  pub room : length (x .slots) ≡ 12
+  pub inside : x .outcome ≡ Match → Inside (hostOf L nodes edges) (getD plan 0 0) (x .slots) (getD plan 0 0 + getD plan 1 0)
+  pub right : Of bs plan (λ r. slotsOf r x ≡ firstMatch (hostOf L nodes edges) r)

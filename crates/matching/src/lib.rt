@@ -1,0 +1,399 @@
+// The search for the first match: nested loops over candidate node and edge slots, left from inside at the first full match.
+ghost use mathlib.Core.Path.{_≡_};
+ghost use mathlib.Core.Bool.{false};
+ghost use Prim.Native.Nat.{ℕ, _+_, _<_, _≤_};
+ghost use lib.ListN.{length, getD, take};
+ghost use Rattle.meaning.specs.FirstMatch.{nodeFits};
+ghost use Rattle.graph.specs.Graph.{Legal, hostOf};
+ghost use Rattle.plan.specs.Plan.{IsRule};
+ghost use Rattle.matching.specs.Next.{Handed, Ready, Of, endOf, Meets, NextSlot, total, IsStep, Sought};
+ghost use Rattle.matching.specs.Values.{Copied, Arrays, HasValues, IsFirst};
+use labels::Label;
+use meaning::Layout;
+
+// The next slot that fits, or none.
+pub enum Next {
+    At(usize),
+    Nothing,
+}
+
+// What to do at a level: stop at a full match, take a slot, or go back.
+pub enum Step {
+    Full,
+    Take(usize),
+    Back,
+}
+
+pub enum Outcome {
+    Match,
+    NoMatch,
+}
+
+// The slots stand beside the outcome, and mean something where it is Match: node slots in left order, then edge slots.
+pub struct Placed {
+    pub outcome: Outcome,
+    pub slots: [usize; 12],
+}
+
+// Whether there is a match; its slots as in Placed; and the values of the variables, variable v with lens[v] atoms from
+// atoms[8 * v] on.
+pub struct Matched {
+    pub outcome: Outcome,
+    pub slots: [usize; 12],
+    pub lens: [usize; 6],
+    pub atoms: [u32; 48],
+}
+
+// Those values by themselves.
+pub struct Values {
+    pub lens: [usize; 6],
+    pub atoms: [u32; 48],
+}
+
+// Candidates for a left node, from the edges that link it to an earlier one.
+
+// The node slot that edge x leaves, or else the one that it arrives at.
+fn edge_end(l: Layout, nodes: &[u8], edges: &[u8], leaving: bool, x: usize) -> usize
+    requires { ⌜ Legal l (now nodes) (now edges) ⌝ }
+    requires { ⌜ x < length (hostOf l (now nodes) (now edges) .edges) ⌝ }
+    ensures { λ r. ⌜ r ≡ endOf (hostOf l (now (nodes .entry)) (now (edges .entry))) leaving x ⌝ }
+{
+    if leaving {
+        return graph::edge_source(l, nodes, edges, x);
+    }
+    graph::edge_target(l, nodes, edges, x)
+}
+
+// The other end of edge x, if it is live, has one end at slot p and its mark agrees; else a number that is no slot's.
+fn other_end(
+    l: Layout,
+    nodes: &[u8],
+    edges: &[u8],
+    mark: u8,
+    p: usize,
+    leaving: bool,
+    x: usize,
+) -> usize
+    requires { ⌜ Legal l (now nodes) (now edges) ⌝ }
+    requires { ⌜ x < length (hostOf l (now nodes) (now edges) .edges) ⌝ }
+    ensures { λ r. ⌜ ((y : ℕ) → Meets (hostOf l (now (nodes .entry)) (now (edges .entry))) mark p leaving x y → y ≡ r) ⌝ }
+{
+    if !graph::edge_live(l, nodes, edges, x) {
+        return 65536;
+    }
+    if edge_end(l, nodes, edges, leaving, x) != p {
+        return 65536;
+    }
+    if !fitting::marks_agree(mark, graph::edge_mark(l, nodes, edges, x)) {
+        return 65536;
+    }
+    edge_end(l, nodes, edges, !leaving, x)
+}
+
+// The lower of e and `best`, if e is at c or above.
+fn nearer(c: usize, e: usize, best: usize) -> usize
+    requires { ⌜ c ≤ best ⌝ }
+    ensures { λ r. ⌜ (c ≤ r) × (r ≤ best) × ((y : ℕ) → c ≤ y → y < r → y ≡ e → ⊥) ⌝ }
+{
+    if c <= e {
+        if e < best {
+            return e;
+        }
+    }
+    best
+}
+
+// The lowest slot from c to n that such an edge joins to slot p; n if there is none.
+fn next_end(
+    l: Layout,
+    nodes: &[u8],
+    edges: &[u8],
+    mark: u8,
+    p: usize,
+    leaving: bool,
+    c: usize,
+    n: usize,
+) -> usize
+    requires { ⌜ Legal l (now nodes) (now edges) ⌝ }
+    requires { ⌜ c ≤ n ⌝ }
+    ensures { λ r. ⌜ (c ≤ r) × ((y x : ℕ) → c ≤ y → y < r → x < length (hostOf l (now (nodes .entry)) (now (edges .entry)) .edges) → Meets (hostOf l (now (nodes .entry)) (now (edges .entry))) mark p leaving x y → ⊥) ⌝ }
+{
+    let count = graph::edge_slots(l, edges);
+    let mut best = n;
+    let mut x: usize = 0;
+    while x < count {
+        best = nearer(c, other_end(l, nodes, edges, mark, p, leaving, x), best);
+        x += 1;
+    }
+    best
+}
+
+// The lowest slot from c to n that is worth a test for left node i: the end of an edge to an earlier node's slot, if there is a
+// left edge between the two, and else c itself.
+fn next_candidate(
+    l: Layout,
+    nodes: &[u8],
+    edges: &[u8],
+    rule: &[u8],
+    plan: &[usize; 42],
+    at: &[usize; 12],
+    i: usize,
+    c: usize,
+    n: usize,
+) -> usize
+    requires { ⌜ Ready l (now nodes) (now edges) (now rule) (now plan) (now at) i ⌝ }
+    requires { ⌜ (i < getD (now plan) 0 0) × (c ≤ n) ⌝ }
+    ensures { λ y. ⌜ (c ≤ y) × Of (now (rule .entry)) (now (plan .entry)) (λ r. (x : ℕ) → c ≤ x → x < y → nodeFits (hostOf l (now (nodes .entry)) (now (edges .entry))) r (take i (now (at .entry))) i x ≡ false) ⌝ }
+{
+    let m = plan[1];
+    let mut k: usize = 0;
+    while k < m {
+        let s = plan::source(rule, plan, k);
+        let t = plan::target(rule, plan, k);
+        if t == i {
+            if s < i {
+                let mark = plan::mark(rule, plan, plan[0] + k);
+                return next_end(l, nodes, edges, mark, at[s], true, c, n);
+            }
+        }
+        if s == i {
+            if t < i {
+                let mark = plan::mark(rule, plan, plan[0] + k);
+                return next_end(l, nodes, edges, mark, at[t], false, c, n);
+            }
+        }
+        k += 1;
+    }
+    c
+}
+
+// The next slot.
+
+// The first slot at c or above that fits left node i.
+fn next_node(
+    l: Layout,
+    nodes: &[u8],
+    edges: &[u8],
+    rule: &[u8],
+    plan: &[usize; 42],
+    at: &[usize; 12],
+    i: usize,
+    c: usize,
+) -> Next
+    requires { ⌜ Ready l (now nodes) (now edges) (now rule) (now plan) (now at) i ⌝ }
+    requires { ⌜ i < getD (now plan) 0 0 ⌝ }
+    ensures { λ x. ⌜ Of (now (rule .entry)) (now (plan .entry)) (λ r. NextSlot (hostOf l (now (nodes .entry)) (now (edges .entry))) r (take i (now (at .entry))) c x) ⌝ }
+{
+    let n = graph::node_slots(l, nodes);
+    let mut x = c;
+    while x < n {
+        let y = next_candidate(l, nodes, edges, rule, plan, at, i, x, n);
+        if y >= n {
+            return Next::Nothing;
+        }
+        if fitting::node_fits(l, nodes, edges, rule, plan, at, i, y) {
+            return Next::At(y);
+        }
+        x = y + 1;
+    }
+    Next::Nothing
+}
+
+// The first slot at c or above that fits the left edge that is item i.
+fn next_edge(
+    l: Layout,
+    nodes: &[u8],
+    edges: &[u8],
+    rule: &[u8],
+    plan: &[usize; 42],
+    at: &[usize; 12],
+    i: usize,
+    c: usize,
+) -> Next
+    requires { ⌜ Ready l (now nodes) (now edges) (now rule) (now plan) (now at) i ⌝ }
+    requires { ⌜ (getD (now plan) 0 0 ≤ i) × (i < getD (now plan) 0 0 + getD (now plan) 1 0) ⌝ }
+    ensures { λ x. ⌜ Of (now (rule .entry)) (now (plan .entry)) (λ r. NextSlot (hostOf l (now (nodes .entry)) (now (edges .entry))) r (take i (now (at .entry))) c x) ⌝ }
+{
+    let k = i - plan[0];
+    let a = plan::source(rule, plan, k);
+    let b = plan::target(rule, plan, k);
+    let s = at[a];
+    let t = at[b];
+    let n = graph::edge_slots(l, edges);
+    let mut x = c;
+    while x < n {
+        if fitting::edge_fits(l, nodes, edges, rule, plan, at, i, s, t, x) {
+            return Next::At(x);
+        }
+        x += 1;
+    }
+    Next::Nothing
+}
+
+// The first slot at c or above that fits item i, behind at[..i].
+fn next_slot(
+    l: Layout,
+    nodes: &[u8],
+    edges: &[u8],
+    rule: &[u8],
+    plan: &[usize; 42],
+    at: &[usize; 12],
+    i: usize,
+    c: usize,
+) -> Next
+    requires { ⌜ Ready l (now nodes) (now edges) (now rule) (now plan) (now at) i ⌝ }
+    requires { ⌜ i < getD (now plan) 0 0 + getD (now plan) 1 0 ⌝ }
+    ensures { λ x. ⌜ Of (now (rule .entry)) (now (plan .entry)) (λ r. NextSlot (hostOf l (now (nodes .entry)) (now (edges .entry))) r (take i (now (at .entry))) c x) ⌝ }
+{
+    if i < plan[0] {
+        return next_node(l, nodes, edges, rule, plan, at, i, c);
+    }
+    next_edge(l, nodes, edges, rule, plan, at, i, c)
+}
+
+// The search.
+
+// What to do at level i, where the slots from c on are left to try.
+fn advance(
+    l: Layout,
+    nodes: &[u8],
+    edges: &[u8],
+    rule: &[u8],
+    plan: &[usize; 42],
+    at: &[usize; 12],
+    i: usize,
+    c: usize,
+) -> Step
+    requires { ⌜ Ready l (now nodes) (now edges) (now rule) (now plan) (now at) i ⌝ }
+    requires { ⌜ i ≤ getD (now plan) 0 0 + getD (now plan) 1 0 ⌝ }
+    ensures { λ x. ⌜ Of (now (rule .entry)) (now (plan .entry)) (λ r. IsStep (hostOf l (now (nodes .entry)) (now (edges .entry))) r (take i (now (at .entry))) i c x) ⌝ }
+{
+    if i == plan[0] + plan[1] {
+        if fitting::complete(l, nodes, edges, rule, plan, at) {
+            return Step::Full;
+        }
+        return Step::Back;
+    }
+    let next = next_slot(l, nodes, edges, rule, plan, at, i, c);
+    match next {
+        Next::At(x) => Step::Take(x),
+        Next::Nothing => Step::Back,
+    }
+}
+
+// The first placement of the left items.
+fn search(l: Layout, nodes: &[u8], edges: &[u8], rule: &[u8], plan: &[usize; 42]) -> Placed
+    requires { ⌜ Handed l (now nodes) (now edges) (now rule) (now plan) ⌝ }
+    ensures { λ x. ⌜ Sought l (now (nodes .entry)) (now (edges .entry)) (now (rule .entry)) (now (plan .entry)) x ⌝ }
+{
+    let mut at = [0usize; 12];
+    let mut i: usize = 0;
+    let mut c: usize = 0;
+    'found: loop {
+        loop {
+            let s = advance(l, nodes, edges, rule, plan, &at, i, c);
+            match s {
+                Step::Full => break 'found,
+                Step::Take(x) => {
+                    at[i] = x;
+                    i += 1;
+                    c = 0;
+                }
+                Step::Back => break,
+            }
+        }
+        if i == 0 {
+            return Placed {
+                outcome: Outcome::NoMatch,
+                slots: at,
+            };
+        }
+        i -= 1;
+        c = at[i] + 1;
+    }
+    Placed {
+        outcome: Outcome::Match,
+        slots: at,
+    }
+}
+
+// The values of the variables.
+
+// Copies the atoms of label a to a place.
+fn put_atoms(atoms: &mut [u32; 48], start: usize, a: Label)
+    requires { ⌜ (start + 8 ≤ 48) × (length (now atoms) ≡ 48) ⌝ }
+    ensures { λ r. ⌜ Copied start (a .atoms) (now (atoms .entry)) (now (atoms .exit)) ⌝ }
+{
+    let from = a.atoms;
+    let mut j: usize = 0;
+    while j < 8 {
+        atoms[start + j] = from[j];
+        j += 1;
+    }
+}
+
+// The values that a full placement gives the variables.
+fn assign(
+    l: Layout,
+    nodes: &[u8],
+    edges: &[u8],
+    rule: &[u8],
+    plan: &[usize; 42],
+    at: &[usize; 12],
+) -> Values
+    requires { ⌜ Ready l (now nodes) (now edges) (now rule) (now plan) (now at) (getD (now plan) 0 0 + getD (now plan) 1 0) ⌝ }
+    ensures { λ x. ⌜ Arrays (x .lens) (x .atoms) × Of (now (rule .entry)) (now (plan .entry)) (λ r. HasValues (hostOf l (now (nodes .entry)) (now (edges .entry))) r (take (total r) (now (at .entry))) (length (r .variables)) (x .lens) (x .atoms)) ⌝ }
+{
+    let mut lens = [0usize; 6];
+    let mut atoms = [0u32; 48];
+    let types = plan::types(rule, plan);
+    let n = types.len();
+    let m = plan[0] + plan[1];
+    let mut v: usize = 0;
+    while v < n {
+        if plan[28 + v] < m {
+            let a = fitting::value(l, nodes, edges, rule, plan, at, 12, 0, v);
+            lens[v] = a.len;
+            put_atoms(&mut atoms, 8 * v, a);
+            v += 1;
+        } else {
+            v += 1;
+        }
+    }
+    Values { lens, atoms }
+}
+
+// The first match of a rule, from its part of the image, with the values of its variables.
+pub fn first_match(l: Layout, nodes: &[u8], edges: &[u8], rule: &[u8]) -> Matched
+    requires { ⌜ Legal l (now nodes) (now edges) ⌝ }
+    requires { ⌜ IsRule (now rule) ⌝ }
+    ensures { λ x. ⌜ IsFirst l (now (nodes .entry)) (now (edges .entry)) (now (rule .entry)) x ⌝ }
+{
+    let plan = plan::make(rule);
+    let p = search(l, nodes, edges, rule, &plan);
+    let slots = p.slots;
+    let outcome = p.outcome;
+    match outcome {
+        Outcome::Match => {
+            let x = assign(l, nodes, edges, rule, &plan, &slots);
+            let lens = x.lens;
+            let atoms = x.atoms;
+            Matched {
+                outcome: Outcome::Match,
+                slots,
+                lens,
+                atoms,
+            }
+        }
+        Outcome::NoMatch => {
+            let lens = [0usize; 6];
+            let atoms = [0u32; 48];
+            Matched {
+                outcome: Outcome::NoMatch,
+                slots,
+                lens,
+                atoms,
+            }
+        }
+    }
+}
