@@ -25,10 +25,12 @@ endif
 tools:
 	@cd second && $(CARGO) build --release --offline
 
-# The second interpreter's own tests, with its check of every stored expected output; last the proofs.
+# The second interpreter's own tests, with its check of every stored expected output; the C examples; last the proofs.
 test:
 	cd second && $(CARGO) test --release --offline
 	rt fmt --check
+	@mkdir -p target
+	sh examples/run
 	rt ci
 
 clean:

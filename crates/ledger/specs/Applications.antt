@@ -1,0 +1,74 @@
+-- An application in lent bytes: what is answered before any change, the four parts of the changes put together, and that the
+-- state runs on. Rests on Running, Whole and Rooms, and on the meaning's laws of legality.
+use mathlib.Core.Path.{_≡_, sym, _∙_, ap}
+use mathlib.Core.Option.{some, none}
+use mathlib.Core.List.{List, _++_}
+use Prim.Native.Nat.{ℕ, _/_}
+use borrow.Author.Tests.{leb-true}
+use lib.ListN.{length, take, drop}
+use Rattle.meaning.specs.Layout.{nodeLength, edgeLength, recordLength}
+use Rattle.meaning.specs.Image.{Rule}
+use Rattle.meaning.specs.Matching.{leftNodes, Match}
+use Rattle.meaning.specs.Applying.{Right, rightSide, Ledger, stores, edgesGo, nodesChange, Added, addNodes, addEdges, changed, hindrance, applied, hindered, unhindered, apply}
+use Rattle.meaning.specs.Laws.Applying.{stores-append, firstFailing-none}
+use Rattle.meaning.specs.Laws.Values.{LegalRule}
+use Rattle.meaning.specs.Laws.Legality.{LegalLedger, Ready, changed-legal, tested-legal}
+use Rattle.meaning.specs.declared.Layout.{Layout}
+use Rattle.meaning.specs.declared.Stop.{Stop}
+use Rattle.ledger.specs.Running.{ledgerOf, Running, Leads}
+use Rattle.ledger.specs.Whole.{running-legal, few-nodes, few-edges, leads-running}
+
+-- What hinders an application is its answer.
+pub stopped-is : (most room : ℕ) (r : Rule) (p : List ℕ) (g : Ledger) (w : Stop) → hindrance most room r p g ≡ some w
+    → apply most room r p g ≡ hindered w
+unfolding apply unhindered
+stopped-is most room r p g w e = rw e
+
+-- The four parts of the changes, each from the ledger that the part before it left.
+pub changed-parts : (L : Layout) (r : Rule) (p : List ℕ) (right : Right) (g gone left come : Ledger)
+    → gone ≡ stores (edgesGo r p) g
+    → left ≡ stores (nodesChange (take (r .interface) (right .nodes)) (take (leftNodes r) p)) gone
+    → come ≡ addNodes (drop (r .interface) (right .nodes)) left .ledger
+    → addEdges (take (r .interface) p ++ addNodes (drop (r .interface) (right .nodes)) left .slots) (right .edges) come
+    ≡ changed r p right g
+unfolding changed
+changed-parts L r p right g gone left come e f h =
+    rw h (ap after (f ∙ ap (stores (nodesChange (take (r .interface) (right .nodes)) (take (leftNodes r) p))) e ∙ sym (stores-append (edgesGo r p) _ g)))
+  where
+    after : Ledger → Ledger
+    after a =
+        let new : Added = addNodes (drop (r .interface) (right .nodes)) a in
+        addEdges (take (r .interface) p ++ new .slots) (right .edges) (new .ledger)
+
+module _ (L : Layout) (nodes edges journal : List ℕ) (used : ℕ) (run : Running L nodes edges journal used) (r : Rule) (rule : LegalRule r)
+    (p : List ℕ)
+    (match : Match (ledgerOf L nodes edges journal used .host) r p)
+    (right : Right)
+    (values : rightSide (L .atoms) (ledgerOf L nodes edges journal used .host) r p ≡ some right)
+    (fine : hindrance (L .atoms) (length journal / recordLength L) r p (ledgerOf L nodes edges journal used) ≡ none)
+  where
+    abbrev before : Ledger
+    before = ledgerOf L nodes edges journal used
+
+    pub ready : Ready (L .atoms) r p before right
+    unfolding hindrance
+    ready =
+        let s = firstFailing-none _ _ _ fine in
+        let t = firstFailing-none _ _ _ (s .1) in
+        let u = firstFailing-none _ _ _ (t .1) in
+        record { match = match; values = values; nodeRoom = leb-true _ _ (t .0); edgeRoom = leb-true _ _ (u .0) }
+
+    pub after-legal : LegalLedger L (length nodes / nodeLength L) (length edges / edgeLength L) (changed r p right before)
+    after-legal =
+        changed-legal L (length nodes / nodeLength L) (length edges / edgeLength L) (few-nodes L nodes edges journal used run)
+        (few-edges L nodes edges journal used run) r rule p before (running-legal L nodes edges journal used run) right ready
+
+    -- the test after the changes finds nothing, so the changes are the answer
+    pub applied-is : apply (L .atoms) (length journal / recordLength L) r p before ≡ applied (changed r p right before)
+    unfolding apply unhindered
+    applied-is = rw (fine, values) (tested-legal L (changed r p right before) (after-legal .host))
+
+    -- bytes that hold the changed ledger run on
+    pub runs-on : (nodes′ edges′ journal′ : List ℕ) (used′ : ℕ) → Leads L (changed r p right before) nodes′ edges′ journal′ used′
+        → Running L nodes′ edges′ journal′ used′
+    runs-on nodes′ edges′ journal′ used′ l = leads-running L nodes′ edges′ journal′ used′ (changed r p right before) l (after-legal .host)

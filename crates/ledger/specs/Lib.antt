@@ -1,0 +1,8 @@
+pub mod Running
+pub mod Steps
+pub mod Changes
+pub mod Free
+pub mod Whole
+pub mod Rooms
+pub mod Applications
+pub mod Rights
