@@ -1,13 +1,13 @@
--- The checks of a run's input behind the lengths, in their order. Rests on the meaning's Calls.
+-- The checks of a run's input, in their order: lengths and fuel, then contents. Rests on the meaning's Calls.
 use mathlib.Core.Bool.{Bool}
-use mathlib.Core.List.{List, [], _∷_}
+use mathlib.Core.List.{List, [], _∷_, _++_}
 use Prim.Native.Nat.{ℕ}
 use lib.ListN.{length}
 use lib.Dec.{leb}
 use Rattle.meaning.specs.Basics.{isSome}
 use Rattle.meaning.specs.Layout.{keepsLayout}
 use Rattle.meaning.specs.Image.{limits, program}
-use Rattle.meaning.specs.Calls.{referencesHold, placementHolds, mostFuel}
+use Rattle.meaning.specs.Calls.{lengthChecks, referencesHold, placementHolds, mostFuel}
 use Rattle.meaning.specs.declared.Layout.{Layout}
 use Rattle.meaning.specs.declared.Refusal.{Refusal}
 use Rattle.meaning.specs.declared.Refusal.the-variants.{TooMuchFuel, ImageTooLong, BadHost, BadForm, BadReferences, BadPlacement}
@@ -21,10 +21,14 @@ module _ (L : Layout) where
       ∷ (placementHolds L (program image), BadPlacement)
       ∷ []
 
-  -- fuel, the image's length, the host, the image: 13 to 18
-  abbrev pub contentChecks : List ℕ → List ℕ → List ℕ → ℕ → List (Bool × Refusal)
-  contentChecks nodes edges image fuel =
-      (leb fuel mostFuel, TooMuchFuel)
+  -- lengths and fuel: 9 to 14
+  abbrev pub sizeChecks : List ℕ → List ℕ → List ℕ → List ℕ → ℕ → List ℕ → List (Bool × Refusal)
+  sizeChecks nodes edges journal image fuel report =
+      lengthChecks L nodes edges journal report
+      ++ (leb fuel mostFuel, TooMuchFuel)
       ∷ (leb (length image) (limits .bytes), ImageTooLong)
-      ∷ (keepsLayout L nodes edges, BadHost)
-      ∷ imageChecks image
+      ∷ []
+
+  -- the host and the image: 15 to 18
+  abbrev pub contentChecks : List ℕ → List ℕ → List ℕ → List (Bool × Refusal)
+  contentChecks nodes edges image = (keepsLayout L nodes edges, BadHost) ∷ imageChecks image

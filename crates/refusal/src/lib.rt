@@ -5,7 +5,7 @@ ghost use Rattle.meaning.specs.Layout.{Sized, base};
 ghost use Rattle.meaning.specs.Calls.{runRefusal};
 ghost use Rattle.meaning.specs.declared.Layout.{Layout};
 ghost use Rattle.host.specs.Host.{refusalOf};
-ghost use Rattle.refusal.specs.Checks.{imageChecks, contentChecks};
+ghost use Rattle.refusal.specs.Checks.{sizeChecks, imageChecks, contentChecks};
 use host::Checked;
 use meaning::Layout;
 use meaning::Refusal;
@@ -26,17 +26,39 @@ pub fn image_check(image: &[u8]) -> Checked
     Checked::Refused(Refusal::BadForm)
 }
 
-// Fuel, the image's length, the host and the image: 13 to 18.
-pub fn content_check(l: Layout, nodes: &[u8], edges: &[u8], image: &[u8], fuel: u32) -> Checked
+// Lengths and fuel: the lowest applicable number from 9 to 14.
+pub fn length_check(
+    l: Layout,
+    nodes: &[u8],
+    edges: &[u8],
+    journal: &[u8],
+    image: &[u8],
+    fuel: u32,
+    report: &[u8],
+) -> Checked
     requires { ⌜ Sized l ⌝ }
-    ensures { λ r. ⌜ refusalOf r ≡ firstFailing (contentChecks l (now (nodes .entry)) (now (edges .entry)) (now (image .entry)) fuel) ⌝ }
+    ensures { λ r. ⌜ refusalOf r ≡ firstFailing (sizeChecks l (now (nodes .entry)) (now (edges .entry)) (now (journal .entry)) (now (image .entry)) fuel (now (report .entry))) ⌝ }
 {
-    if fuel > 1000000 {
-        return Checked::Refused(Refusal::TooMuchFuel);
+    let fit = host::lengths(l, nodes, edges, journal, report);
+    match fit {
+        Checked::Refused(w) => fit,
+        Checked::Fine => {
+            if fuel > 1000000 {
+                return Checked::Refused(Refusal::TooMuchFuel);
+            }
+            if image.len() > 8192 {
+                return Checked::Refused(Refusal::ImageTooLong);
+            }
+            Checked::Fine
+        }
     }
-    if image.len() > 8192 {
-        return Checked::Refused(Refusal::ImageTooLong);
-    }
+}
+
+// The host and the image: 15 to 18.
+pub fn content_check(l: Layout, nodes: &[u8], edges: &[u8], image: &[u8]) -> Checked
+    requires { ⌜ Sized l ⌝ }
+    ensures { λ r. ⌜ refusalOf r ≡ firstFailing (contentChecks l (now (nodes .entry)) (now (edges .entry)) (now (image .entry))) ⌝ }
+{
     if host::keeps_layout(l, nodes, edges) {
         return image_check(image);
     }
@@ -56,10 +78,10 @@ pub fn run_check(
     requires { ⌜ Sized l ⌝ }
     ensures { λ r. ⌜ refusalOf r ≡ runRefusal l (now (nodes .entry)) (now (edges .entry)) (now (journal .entry)) (now (image .entry)) fuel (now (report .entry)) ⌝ }
 {
-    let fit = host::lengths(l, nodes, edges, journal, report);
+    let fit = length_check(l, nodes, edges, journal, image, fuel, report);
     match fit {
         Checked::Refused(w) => fit,
-        Checked::Fine => content_check(l, nodes, edges, image, fuel),
+        Checked::Fine => content_check(l, nodes, edges, image),
     }
 }
 

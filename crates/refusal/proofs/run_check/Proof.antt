@@ -1,16 +1,17 @@
--- `refusal::run_check` meets its contract: the lengths decide first, then what is behind them.
+-- `refusal::run_check` meets its contract: lengths and fuel decide first, then what is behind them.
 use mathlib.Core.Path.{_≡_, refl, sym, ap, _∙_}
 use native.Mathlib.Omega.{arith}
 use borrow.Author.Needs.{needs}
 use borrow.Author.Tests.{le-leb, lt-leb}
+use lib.ListN.{length}
 use Rattle.host.specs.Host.{refusalOf}
 use Rattle.meaning.specs.Calls.{runRefusal}
-use Rattle.refusal.proofs.Order.{first-no, first-yes, behind-fine, behind-refused, references-of, placement-of}
+use Rattle.refusal.proofs.Order.{first-no, first-yes, first-none, behind-fine, behind-refused}
 use Rattle.refusal.proofs.run_check.Statement.{statement}
 use Rattle.refusal.proofs.run_check.Tie as tie
 
-lengths-requires : tie.Need-lengths-requires
-lengths-requires c κs = search needs
+length-check-requires : tie.Need-length-check-requires
+length-check-requires c κs = search needs
 
 enum-known-fit : tie.Need-enum-known-fit
 enum-known-fit c = search needs
@@ -23,13 +24,19 @@ content-check-requires c κs = search needs
 
 returns : tie.Need-returns
 unfolding refusalOf runRefusal
-returns c = sym (behind-refused _ _ _ (sym (c .before .before .before .lengths .ensures) ∙ ap refusalOf (c .before .fit .given .1)))
+returns c = sym (behind-refused _ _ _ (sym (c .before .before .before .length-check .ensures) ∙ ap refusalOf (c .before .fit .given .1)))
 
 returns-2 : tie.Need-returns-2
 unfolding refusalOf runRefusal
-returns-2 c = c .content-check .ensures ∙ sym (behind-fine _ _ (sym (c .before .before .before .lengths .ensures) ∙ ap refusalOf (c .before .enum-told .given .1)))
+returns-2 c = c .content-check .ensures ∙ sym (behind-fine _ _ (sym (c .before .before .before .length-check .ensures) ∙ ap refusalOf (c .before .enum-told .given .1)))
 
 pub run-check-spec : {M : Type 1} → statement M
 run-check-spec =
     tie.close
-    (tie.spec lengths-requires enum-known-fit enum-told content-check-requires returns returns-2)
+    (tie.spec
+    length-check-requires
+    enum-known-fit
+    enum-told
+    content-check-requires
+    returns
+    returns-2)
