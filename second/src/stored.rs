@@ -77,14 +77,14 @@ fn records_of(left: &Outcome) -> u32 {
 }
 
 fn undo_case(call: &UndoCall) -> Vec<u8> {
-    let parts = [
-        field(0x01, &call.nodes),
-        field(0x02, &call.edges),
-        field(0x03, &call.journal),
-        field(0x04, &call.count.to_be_bytes()),
-        field(0x05, &call.report),
-    ];
-    field(0x07, &parts.concat())
+    let count = call.count.to_be_bytes();
+    case(&[&call.nodes, &call.edges, &call.journal, &count, &call.report])
+}
+
+/// A case: its parts in fields numbered from 0x01, in a field 0x07.
+fn case(parts: &[&[u8]]) -> Vec<u8> {
+    let fields: Vec<u8> = parts.iter().zip(0x01..).flat_map(|(part, tag)| field(tag, part)).collect();
+    field(0x07, &fields)
 }
 
 fn hexadecimal(bytes: &[u8]) -> String {
@@ -126,15 +126,8 @@ fn refused_by(call: &RunCall) -> u32 {
 }
 
 fn run_case(call: &RunCall) -> Vec<u8> {
-    let parts = [
-        field(0x01, &call.nodes),
-        field(0x02, &call.edges),
-        field(0x03, &call.journal),
-        field(0x04, &call.fuel.to_be_bytes()),
-        field(0x05, &call.program),
-        field(0x06, &call.report),
-    ];
-    field(0x07, &parts.concat())
+    let fuel = call.fuel.to_be_bytes();
+    case(&[&call.nodes, &call.edges, &call.journal, &fuel, &call.program, &call.report])
 }
 
 /// Short drawn runner inputs as calls.
