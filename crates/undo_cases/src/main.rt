@@ -1,24 +1,5 @@
 // Undoes each of the stored cases on standard input and writes what the call leaves, a line a case: the number, then report,
-// nodes, edges and journal in hexadecimal digits. A case is a field 0x07 that holds nodes (0x01), edges (0x02), journal (0x03),
-// count (0x04) and report (0x05).
-ghost use Prim.Native.Nat.{_≤_};
-ghost use lib.ListN.{length};
-use fields::Found;
-
-// Copies as many bytes as fit, and says how many.
-fn copy(to: &mut [u8], from: &[u8]) -> usize
-    ensures { λ r. ⌜ r ≤ length (now (to .exit)) ⌝ }
-{
-    let mut i: usize = 0;
-    while i < from.len() {
-        if i >= to.len() {
-            return i;
-        }
-        to[i] = from[i];
-        i += 1;
-    }
-    i
-}
+// nodes, edges and journal in hexadecimal digits. A case holds nodes, edges, journal, count and report.
 
 fn write_hex(bytes: &[u8]) {
     io::write_all(1, b" ");
@@ -31,33 +12,6 @@ fn write_hex(bytes: &[u8]) {
 
 fn wide(x: u8) -> u64 {
     x as u64
-}
-
-// The bytes between two places, where there are such.
-fn between(bytes: &[u8], start: usize, end: usize) -> &[u8] {
-    if start <= end {
-        if end <= bytes.len() {
-            return &bytes[start..end];
-        }
-    }
-    &bytes[..0]
-}
-
-// The payload of the field of number n, or nothing.
-fn part(case: &[u8], n: usize) -> &[u8] {
-    let found = fields::nth_field(case, n);
-    match found {
-        Found::Field(tag, start, end) => between(case, start, end),
-        Found::Short => between(case, 0, 0),
-        Found::End => between(case, 0, 0),
-    }
-}
-
-fn count_of(bytes: &[u8]) -> u32 {
-    if bytes.len() == 4 {
-        return fields::number4(bytes, 0) as u32;
-    }
-    0
 }
 
 // Undoes and writes what is left.
@@ -83,11 +37,11 @@ fn undo_case(case: &[u8]) {
     let mut edges = [0u8; 24700];
     let mut journal = [0u8; 28800];
     let mut report = [0u8; 16];
-    let n = copy(&mut nodes, part(case, 0));
-    let e = copy(&mut edges, part(case, 1));
-    let j = copy(&mut journal, part(case, 2));
-    let r = copy(&mut report, part(case, 4));
-    let count = count_of(part(case, 3));
+    let n = cases::copy(&mut nodes, cases::part(case, 0));
+    let e = cases::copy(&mut edges, cases::part(case, 1));
+    let j = cases::copy(&mut journal, cases::part(case, 2));
+    let r = cases::copy(&mut report, cases::part(case, 4));
+    let count = cases::word(case, 3);
     undo_lent(
         &mut nodes[..n],
         &mut edges[..e],
@@ -97,28 +51,21 @@ fn undo_case(case: &[u8]) {
     );
 }
 
-// Undoes the case at a place, and says where the next one begins; 0 where there is none.
-fn case_at(cases: &[u8], at: usize) -> usize {
-    let found = fields::read_field(cases, at);
-    match found {
-        Found::Field(tag, start, end) => {
-            undo_case(between(cases, start, end));
-            end
-        }
-        Found::Short => 0,
-        Found::End => 0,
+// Undoes the next case, and says whether there was one.
+fn undo_next() -> bool {
+    let mut buffer = io::large_buffer();
+    let n = cases::read_case(&mut buffer);
+    if n == 0 {
+        return false;
     }
+    undo_case(&buffer[..n]);
+    true
 }
 
+// A proved loop has to end, and nothing says that the input does: the turns are counted down, from a number that no run uses up.
 fn main() {
-    let mut buffer = [0u8; 262144];
-    let n = io::read_full(0, &mut buffer);
-    let mut at: usize = 0;
-    while at < n {
-        let next = case_at(&buffer[..n], at);
-        if next <= at {
-            return;
-        }
-        at = next;
+    let mut turns = u64::MAX;
+    while turns > 0 && undo_next() {
+        turns -= 1;
     }
 }

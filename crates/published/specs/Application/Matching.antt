@@ -1,0 +1,211 @@
+-- Matches in a host's graph: a match of meaning's is a published match, and a published match gives a match of meaning's.
+-- It holds of a rule that has the form and whose references hold. Rests on Application/Conditions and SameMatch.
+use Prim.Native.Nat.{ℕ, zero, suc, _+_, _<_}
+use mathlib.Core.Path.{_≡_, refl, sym, _∙_, ap}
+use mathlib.Core.Logic.{_⊎_, inl, inr, _↔_}
+use mathlib.Core.Bool.{true}
+use mathlib.Core.List.{List, [], _∷_, _++_}
+use native.Mathlib.Omega.{arith}
+use native.Mathlib.Decide.{ℕ-discrete, decLt}
+use borrow.Author.Tests.{ltb-true}
+use lib.ListN.{length, getD, length-append, List·getD-append}
+use lib.Seq.{getD-append-add}
+use Rattle.meaning.specs.Basics.{every}
+use Rattle.meaning.specs.Layout.{Host}
+use Rattle.meaning.specs.Image.{Rule, anyMark, isType}
+use Rattle.meaning.specs.References.{conditionNodes, isPlain, testNodesExist, ruleHolds}
+use Rattle.meaning.specs.Matching.{edgeAt, leftNode, leftEdge, leftNodes, leftEdges, nodeSlot, edgeSlot, testHolds, MarksAgree, Match}
+use Rattle.meaning.specs.FirstMatch.{assigned}
+use Rattle.meaning.specs.Laws.Every.{Every, Every-true, Every-of, Every-all, Every-then, Every-with}
+use Rattle.meaning.specs.Laws.References.{clauses-true, label-plain, ends}
+use Rattle.meaning.specs.Laws.Assignment.{label-node, label-edge, Labelled, labelled, agreed}
+use Rattle.meaning.specs.Laws.Decided.{tests-same}
+use Rattle.meaning.specs.Laws.Hosts.{LegalHost}
+use Rattle.meaning.specs.Laws.Values.{assigned-words}
+use Rattle.meaning.specs.declared.Layout.{Layout}
+use Rattle.published.specs.Graphs.{Graph, graphOf}
+use Rattle.published.specs.RuleApplication.{Premorphism, Constructed, Matches, Applies}
+use Rattle.published.specs.SameMatch.{constructed-same}
+use Rattle.published.specs.Application.Conditions.{plain-instance, instance-plain, test-holds}
+
+-- What the references say.
+
+module _ (r : Rule) (holds : ruleHolds r ≡ true) where
+  node-plain : (i : ℕ) → i < leftNodes r → Every (λ x. isPlain x ≡ true) (leftNode r i .label)
+  node-plain i k = rw (label-node r i k) at (label-plain r holds i)
+
+  edge-plain : (k : ℕ) → k < leftEdges r → Every (λ x. isPlain x ≡ true) (leftEdge r k .label)
+  edge-plain k j = rw (label-edge r k j) at (label-plain r holds (leftNodes r + k))
+
+  -- tests name left nodes
+  test-nodes : Every (λ t. Every (λ a. a < leftNodes r) (conditionNodes (t .condition))) (r .tests)
+  unfolding ruleHolds testNodesExist
+  test-nodes =
+      Every-true _ _ (λ t e. Every-true _ _ (λ a q. ltb-true _ _ q) (conditionNodes (t .condition)) e) (r .tests) (clauses-true _ holds 3)
+
+-- The placement of a premorphism: the slots of the left nodes, then those of the left edges.
+
+-- the values of a function at the numbers below n
+listed : (ℕ → ℕ) → ℕ → List ℕ
+listed f zero = []
+listed f (suc n) = f 0 ∷ listed (λ i. f (suc i)) n
+
+listed-length : (f : ℕ → ℕ) (n : ℕ) → length (listed f n) ≡ n
+unfolding listed
+listed-length f zero = refl
+listed-length f (suc n) = ap suc (listed-length (λ i. f (suc i)) n)
+
+listed-at : (f : ℕ → ℕ) (n i : ℕ) → i < n → getD (listed f n) i 0 ≡ f i
+unfolding listed
+listed-at f zero i h = absurd (omega arith)
+listed-at f (suc n) zero h = refl
+listed-at f (suc n) (suc i) h = listed-at (λ i. f (suc i)) n i (omega arith)
+
+pub placement : (r : Rule) (G : Graph) → Premorphism (r .left) G → List ℕ
+placement r G g = listed (g .node) (leftNodes r) ++ listed (g .edge) (leftEdges r)
+
+module _ (r : Rule) (G : Graph) (g : Premorphism (r .left) G) where
+  placement-size : length (placement r G g) ≡ leftNodes r + leftEdges r
+  unfolding placement
+  placement-size = rw (length-append, listed-length (g .node) (leftNodes r), listed-length (g .edge) (leftEdges r))
+
+  slot-node : (i : ℕ) → i < leftNodes r → nodeSlot (placement r G g) i ≡ g .node i
+  unfolding placement
+  slot-node i h =
+      let l = listed-length (g .node) (leftNodes r) in
+      List·getD-append (listed (g .node) (leftNodes r)) (listed (g .edge) (leftEdges r)) 0 i (omega arith)
+      ∙ listed-at (g .node) (leftNodes r) i h
+
+  slot-edge : (k : ℕ) → k < leftEdges r → edgeSlot r (placement r G g) k ≡ g .edge k
+  unfolding placement
+  slot-edge k h =
+      rw (listed-length (g .node) (leftNodes r)) at (getD-append-add (listed (g .node) (leftNodes r)) (listed (g .edge) (leftEdges r)) k 0)
+      ∙ listed-at (g .edge) (leftEdges r) k h
+
+-- The premorphism of a match: each left item goes to its slot.
+abbrev pub premorphism : (h : Host) (r : Rule) (p : List ℕ) → Match h r p → Premorphism (r .left) (graphOf h)
+premorphism h r p m =
+    record {
+      node = nodeSlot p;
+      edge = edgeSlot r p;
+      nodes = m .nodesLive;
+      edges = m .edgesLive;
+      sources = m .sources;
+      targets = m .targets;
+    }
+
+module _ (h : Host) (r : Rule) (holds : ruleHolds r ≡ true) where
+  -- a published match gives a match
+  module _ (m : Matches r (graphOf h)) where
+    abbrev p : List ℕ
+    p = placement r (graphOf h) (m .g)
+
+    node : (i : ℕ) → i < leftNodes r → nodeSlot p i ≡ m .g .node i
+    node = slot-node r (graphOf h) (m .g)
+
+    edge : (k : ℕ) → k < leftEdges r → edgeSlot r p k ≡ m .g .edge k
+    edge = slot-edge r (graphOf h) (m .g)
+
+    marks : (left mark : ℕ) → ((left ≡ anyMark → ⊥) → left ≡ mark) → MarksAgree left mark
+    marks left mark f = at (ℕ-discrete left anyMark)
+      where
+        at : Dec (left ≡ anyMark) → MarksAgree left mark
+        at (yes e) = inl e
+        at (no e) = inr (f e)
+
+    touching : (x j : ℕ) → j < leftNodes r → (edgeAt h x .source ≡ nodeSlot p j) ⊎ (edgeAt h x .target ≡ nodeSlot p j)
+        → (edgeAt h x .source ≡ m .g .node j) ⊎ (edgeAt h x .target ≡ m .g .node j)
+    touching x j k (inl e) = inl (e ∙ node j k)
+    touching x j k (inr e) = inr (e ∙ node j k)
+
+    pub match-of : Match h r p
+    match-of =
+        record {
+          size = placement-size r (graphOf h) (m .g);
+          nodesLive = λ i k. rw (node i k) (m .g .nodes i k);
+          edgesLive = λ k j. rw (edge k j) (m .g .edges k j);
+          nodesApart = λ i j k l e.
+              omega (arith, m .injective .nodes i j (omega arith) l (sym (node i (omega arith)) ∙ e ∙ node j l));
+          edgesApart = λ i j k l e.
+              omega (arith, m .injective .edges i j (omega arith) l (sym (edge i (omega arith)) ∙ e ∙ edge j l));
+          nodeMarks = λ i k. rw (node i k) (marks _ _ (m .compatible .nodeMarks i k));
+          edgeMarks = λ k j. rw (edge k j) (marks _ _ (m .compatible .edgeMarks k j));
+          roots = λ i k. rw (node i k) (m .compatible .roots i k);
+          sources = λ k j. let t = ends r holds k j in rw (edge k j, node (leftEdge r k .source) (t .0)) (m .g .sources k j);
+          targets = λ k j. let t = ends r holds k j in rw (edge k j, node (leftEdge r k .target) (t .1)) (m .g .targets k j);
+          assignment = m .α .of;
+          ints = m .α .ints;
+          nodeLabels = λ i k. rw (node i k) (instance-plain (m .α .of) (leftNode r i .label) _ (node-plain r holds i k) (m .compatible .nodes i k));
+          edgeLabels = λ k j. rw (edge k j) (instance-plain (m .α .of) (leftEdge r k .label) _ (edge-plain r holds k j) (m .compatible .edges k j));
+          dangling = λ x j l i k e.
+              let t = m .dangling x j l i k (touching x j k e) in
+              (t .0, t .1, edge (t .0) (t .1) ∙ t .2);
+          tests =
+              Every-of _ (r .tests)
+              (Every-with _ _ _ (λ t n s.
+              test-holds h p (m .g .node) (m .α .of) t
+              (Every-then _ _ (λ a l. sym (node a l)) (conditionNodes (t .condition)) n) .1 s) (r .tests) (test-nodes r holds) (m .condition));
+        }
+
+  -- a match is a published match, with the assignment that its placement gives
+  module _ (L : Layout) (legal : LegalHost L h) (types : every isType (r .variables) ≡ true) (p : List ℕ) (m : Match h r p) where
+    labels : Labelled h r p (assigned h r p)
+    labels =
+        labelled h r p (m .size) holds
+        (agreed h r p (m .size) holds types (m .assignment) (record { ints = m .ints; nodes = m .nodeLabels; edges = m .edgeLabels }))
+
+    tests : every (testHolds h p (assigned h r p)) (r .tests) ≡ true
+    tests =
+        tests-same h r p (m .size) holds types (m .assignment) (record { ints = m .ints; nodes = m .nodeLabels; edges = m .edgeLabels }) (m .tests)
+
+    unmarked : (left mark : ℕ) → MarksAgree left mark → (left ≡ anyMark → ⊥) → left ≡ mark
+    unmarked left mark (inl e) n = absurd (n e)
+    unmarked left mark (inr e) n = e
+
+    apart : (f : ℕ → ℕ) (n i j : ℕ) → ((i j : ℕ) → i < j → j < n → f i ≡ f j → ⊥) → i < n → j < n → f i ≡ f j → i ≡ j
+    apart f n i j a k l e = at (decLt i j) (decLt j i)
+      where
+        at : Dec (i < j) → Dec (j < i) → i ≡ j
+        at (yes u) d = absurd (a i j u l e)
+        at (no u) (yes v) = absurd (a j i v k (sym e))
+        at (no u) (no v) = omega arith
+
+    match-published : Matches r (graphOf h)
+    match-published =
+        record {
+          g = premorphism h r p m;
+          injective = record {
+            nodes = λ i j. apart (nodeSlot p) (leftNodes r) i j (m .nodesApart);
+            edges = λ i j. apart (edgeSlot r p) (leftEdges r) i j (m .edgesApart);
+          };
+          α = record { of = assigned h r p; ints = labels .ints; words = assigned-words L h legal r p };
+          compatible = record {
+            nodes = λ i k. rw (labels .nodes i k) (plain-instance (assigned h r p) (leftNode r i .label) (node-plain r holds i k));
+            edges = λ k j. rw (labels .edges k j) (plain-instance (assigned h r p) (leftEdge r k .label) (edge-plain r holds k j));
+            nodeMarks = λ i k. unmarked _ _ (m .nodeMarks i k);
+            edgeMarks = λ k j. unmarked _ _ (m .edgeMarks k j);
+            roots = m .roots;
+          };
+          dangling = m .dangling;
+          condition =
+              Every-true _ _ (λ t e.
+              test-holds h p (nodeSlot p) (assigned h r p) t (Every-all _ (λ a. refl) (conditionNodes (t .condition))) .0 e) (r .tests) tests;
+        }
+
+    -- and what is constructed with it is what the rule gives
+    pub match-applies : (H : Graph) → Constructed r (graphOf h) (premorphism h r p m) (assigned h r p) H → Applies r (graphOf h) H
+    unfolding match-published
+    match-applies H c = record { match = match-published; constructed = c }
+
+  -- so a rule has a match in a host exactly where it has a published one in the host's graph
+  module _ (L : Layout) (legal : LegalHost L h) (types : every isType (r .variables) ≡ true) where
+    pub no-match : ((p : List ℕ) → Match h r p → ⊥) ↔ (Matches r (graphOf h) → ⊥)
+    no-match = (λ n m. n (p m) (match-of m), λ n p m. n (match-published L legal types p m))
+
+    -- the placement of a published match m has m's premorphism, so what is constructed with the one is constructed with the other
+    pub constructed-back : (m : Matches r (graphOf h)) (H : Graph)
+        → Constructed r (graphOf h) (premorphism h r (p m) (match-of m)) (assigned h r (p m)) H → Constructed r (graphOf h) (m .g) (m .α .of) H
+    unfolding match-published
+    constructed-back m H c =
+        constructed-same r (record { holds = holds; types = types }) (graphOf h) (match-published L legal types (p m) (match-of m)) m
+        (record { nodes = node m; edges = edge m }) H c

@@ -1,0 +1,156 @@
+-- The right side's values are instances of its labels. Rests on RuleApplication and meaning's Applying.
+use Prim.Native.Nat.{ℕ, zero, suc, _+_, _<_, _≤_}
+use mathlib.Core.Path.{_≡_, refl, sym}
+use mathlib.Core.Logic.{_⊎_, inl, inr}
+use mathlib.Core.Bool.{true, false, not}
+use mathlib.Core.Option.{Option, some}
+use mathlib.Core.List.{List, [], _∷_, map}
+use native.Mathlib.Omega.{arith}
+use borrow.Author.Tests.{ltb-true, not-true}
+use lib.Dec.{eqb, leb, ltb}
+use lib.ListN.{length, getD}
+use Rattle.meaning.specs.Basics.{both, concat, each, _>>=_}
+use Rattle.meaning.specs.Numbers.{sum, difference}
+use Rattle.meaning.specs.Layout.{Node, Edge, Host}
+use Rattle.meaning.specs.Image.{RuleNode, RuleEdge, Rule, anyMark}
+use Rattle.meaning.specs.References.{anyKept, anyPlaced, ruleHolds}
+use Rattle.meaning.specs.Matching.{nodeAt, nodeSlot, Assignment, atomOf}
+use Rattle.meaning.specs.FirstMatch.{assigned}
+use Rattle.meaning.specs.Applying.{elementValue, labelValue, rightNode, rightNodes, rightEdge, Right, rightSide}
+use Rattle.meaning.specs.Laws.Tests.{both-true, either-true, all-true, some-inj, bind-some, ensure-some}
+use Rattle.meaning.specs.Laws.Pieces.{getD-map}
+use Rattle.meaning.specs.Laws.References.{clauses-true}
+use Rattle.meaning.specs.declared.Element.{Element}
+use Rattle.meaning.specs.declared.Element.the-variants.{Constant, Variable, Sum, Difference}
+use Rattle.published.specs.Graphs.{NodeLabel, EdgeLabel}
+use Rattle.published.specs.Application.Conditions.{integer-is}
+use Rattle.published.specs.RuleApplication.{nodeOf, edgeOf, Evaluates, Instance, NodeInstance, EdgeInstance, markFrom}
+
+-- Labels.
+
+module _ (α : Assignment) where
+  one-is : (o : Option ℕ) (a : List ℕ) → (o >>= λ n. some (n ∷ [])) ≡ some a → (n : ℕ) × (o ≡ some n) × (a ≡ n ∷ [])
+  one-is o a e = let t = bind-some o _ a e in (t .0, t .1, some-inj a (t .0 ∷ []) (sym (t .2)))
+
+  element-evaluates : (x : Element) (a : List ℕ) → elementValue α x ≡ some a → Evaluates α x a
+  unfolding elementValue
+  element-evaluates (Constant c) a e = some-inj a (c ∷ []) (sym e)
+  element-evaluates (Variable v) a e = some-inj a (α v) (sym e)
+  element-evaluates (Sum b c) a e = rw (integer-is α b, integer-is α c) (one-is (sum (atomOf α b) (atomOf α c)) a e)
+  element-evaluates (Difference b c) a e = rw (integer-is α b, integer-is α c) (one-is (difference (atomOf α b) (atomOf α c)) a e)
+
+  parts-instance : (l : List Element) (m : List (List ℕ)) → each (elementValue α) l ≡ some m → Instance α l (concat m)
+  unfolding each concat
+  parts-instance [] m e = rw (some-inj m [] (sym e))
+  parts-instance (x ∷ l) m e =
+      let t = bind-some (elementValue α x) _ m e in
+      let u = bind-some (each (elementValue α) l) _ m (t .2) in
+      rw (some-inj m (t .0 ∷ u .0) (sym (u .2)))
+      (t .0, concat (u .0), element-evaluates x (t .0) (t .1), parts-instance l (u .0) (u .1), refl)
+
+  pub label-instance : (most : ℕ) (l : List Element) (a : List ℕ) → labelValue most α l ≡ some a → Instance α l a
+  unfolding labelValue
+  label-instance most l a e =
+      let t = bind-some (each (elementValue α) l) _ a e in
+      let u = ensure-some (leb (length (concat (t .0))) most) _ a (t .2) in
+      rw (some-inj a (concat (t .0)) (sym (u .1))) (parts-instance l (t .0) (t .1))
+
+-- Nodes and edges.
+
+abbrev pub nodeLabelOf : Node → NodeLabel
+nodeLabelOf n = record { mark = n .mark; root = n .root; list = n .label }
+
+abbrev pub edgeLabelOf : Edge → EdgeLabel
+edgeLabelOf e = record { mark = e .mark; list = e .label }
+
+abbrev pub noNode : Node
+noNode = record { mark = 0; root = 0; label = [] }
+
+abbrev pub noEdge : Edge
+noEdge = record { mark = 0; source = 0; target = 0; label = [] }
+
+module _ (most : ℕ) (α : Assignment) (h : Host) (p : List ℕ) where
+  node-instance : (j : ℕ) (n : RuleNode) (a : Node) → rightNode most α h p j n ≡ some a
+      → NodeInstance α n (markFrom (nodeAt h (nodeSlot p j) .mark) (n .mark)) (nodeLabelOf a)
+  unfolding rightNode
+  node-instance j n a e =
+      let t = bind-some (labelValue most α (n .label)) _ a e in
+      rw (some-inj a _ (sym (t .2))) (record { list = label-instance α most (n .label) (t .0) (t .1); root = refl; mark = refl })
+
+  nodes-at : (j : ℕ) (l : List RuleNode) (m : List Node) → rightNodes most α h p j l ≡ some m → (i : ℕ) → i < length l
+      → rightNode most α h p (j + i) (getD l i (record { mark = 0; root = 0; label = [] })) ≡ some (getD m i noNode)
+  unfolding rightNodes
+  nodes-at j [] m e i k = absurd (omega arith)
+  nodes-at j (n ∷ l) m e i k =
+      let t = bind-some (rightNode most α h p j n) _ m e in
+      let u = bind-some (rightNodes most α h p (suc j) l) _ m (t .2) in
+      rw (some-inj m (t .0 ∷ u .0) (sym (u .2))) (at i k (t .0) (u .0) (t .1) (nodes-at (suc j) l (u .0) (u .1)))
+    where
+      at : (i : ℕ) → i < suc (length l) → (a : Node) (b : List Node) → rightNode most α h p j n ≡ some a
+          → ((i : ℕ) → i < length l
+          → rightNode most α h p (suc j + i) (getD l i (record { mark = 0; root = 0; label = [] })) ≡ some (getD b i noNode))
+          → rightNode most α h p (j + i) (getD (n ∷ l) i (record { mark = 0; root = 0; label = [] })) ≡ some (getD (a ∷ b) i noNode)
+      at zero k a b e ih = let z : j + 0 ≡ j = omega arith in rw z e
+      at (suc i) k a b e ih = let z : j + suc i ≡ suc j + i = omega arith in rw z (ih i (omega arith))
+
+  -- the values of a right edge; its ends are still right nodes
+  pub record EdgeValue (e : RuleEdge) (a : Edge) : Type 0 where
+    pub label : EdgeInstance α e (edgeLabelOf a)
+    pub source : a .source ≡ e .source
+    pub target : a .target ≡ e .target
+
+  edge-value : (e : RuleEdge) (a : Edge) → rightEdge most α e ≡ some a → EdgeValue e a
+  unfolding rightEdge
+  edge-value e a q =
+      let t = bind-some (labelValue most α (e .label)) _ a q in
+      rw (some-inj a _ (sym (t .2)))
+      (record { label = record { list = label-instance α most (e .label) (t .0) (t .1); mark = refl }; source = refl; target = refl })
+
+each-at : {A B : Type 0} (f : A → Option B) (d : A) (c : B) (l : List A) (m : List B) → each f l ≡ some m → (i : ℕ) → i < length l
+    → f (getD l i d) ≡ some (getD m i c)
+unfolding each
+each-at f d c [] m e i k = absurd (omega arith)
+each-at f d c (a ∷ l) m e i k =
+    let t = bind-some (f a) _ m e in
+    let u = bind-some (each f l) _ m (t .2) in
+    rw (some-inj m (t .0 ∷ u .0) (sym (u .2))) (at i k (t .0) (u .0) (t .1) (each-at f d c l (u .0) (u .1)))
+  where
+    at : (i : ℕ) → i < suc (length l) → (b : _) (bs : List _) → f a ≡ some b
+        → ((i : ℕ) → i < length l → f (getD l i d) ≡ some (getD bs i c)) → f (getD (a ∷ l) i d) ≡ some (getD (b ∷ bs) i c)
+    at zero k b bs e ih = e
+    at (suc i) k b bs e ih = ih i (omega arith)
+
+-- The right side.
+
+module _ (most : ℕ) (h : Host) (r : Rule) (p : List ℕ) (right : Right) (values : rightSide most h r p ≡ some right) where
+  pub node-value : (j : ℕ) → j < length (r .right .nodes)
+      → NodeInstance (assigned h r p) (nodeOf (r .right) j) (markFrom (nodeAt h (nodeSlot p j) .mark) (nodeOf (r .right) j .mark))
+      (nodeLabelOf (getD (right .nodes) j noNode))
+  unfolding rightSide
+  node-value j k =
+      let t = bind-some (rightNodes most (assigned h r p) h p 0 (r .right .nodes)) _ right values in
+      let u = bind-some (each (rightEdge most (assigned h r p)) (r .right .edges)) _ right (t .2) in
+      let z : 0 + j ≡ j = omega arith in
+      rw (some-inj right (record { nodes = t .0; edges = u .0 }) (sym (u .2)))
+      (node-instance most (assigned h r p) h p j _ _ (rw z at (nodes-at most (assigned h r p) h p 0 (r .right .nodes) (t .0) (t .1) j k)))
+
+  pub edge-value-at : (k : ℕ) → k < length (r .right .edges)
+      → EdgeValue most (assigned h r p) h p (edgeOf (r .right) k) (getD (right .edges) k noEdge)
+  unfolding rightSide
+  edge-value-at k j =
+      let t = bind-some (rightNodes most (assigned h r p) h p 0 (r .right .nodes)) _ right values in
+      let u = bind-some (each (rightEdge most (assigned h r p)) (r .right .edges)) _ right (t .2) in
+      rw (some-inj right (record { nodes = t .0; edges = u .0 }) (sym (u .2)))
+      (edge-value most (assigned h r p) h p _ _ (each-at (rightEdge most (assigned h r p)) _ noEdge (r .right .edges) (u .0) (u .1) k j))
+
+-- the mark any stands on nodes of the interface alone
+pub new-marked : (r : Rule) → ruleHolds r ≡ true → (j : ℕ) → r .interface ≤ j → j < length (r .right .nodes)
+    → eqb (nodeOf (r .right) j .mark) anyMark ≡ false
+unfolding ruleHolds anyPlaced anyKept
+new-marked r holds j h k = at (either-true _ _ (all-true (anyKept r) (length (r .right .nodes)) (both-true _ _ (clauses-true _ holds 9) .0) j k))
+  where
+    at : (not (eqb (getD (map (λ n. n .mark) (r .right .nodes)) j 0) anyMark) ≡ true)
+        ⊎ (both (ltb j (r .interface)) (eqb (getD (map (λ n. n .mark) (r .left .nodes)) j 0) anyMark) ≡ true)
+        → eqb (nodeOf (r .right) j .mark) anyMark ≡ false
+    at (inl e) = rw (getD-map (λ (n : RuleNode). n .mark) (r .right .nodes) j (record { mark = 0; root = 0; label = [] }) 0 k) at (not-true (eqb (getD (map (λ n. n .mark) (r .right .nodes)) j 0) anyMark) e)
+    at (inr e) = let l = ltb-true j (r .interface) (both-true _ _ e .0) in absurd (omega arith)

@@ -1,0 +1,16 @@
+pub mod Graphs
+pub mod RuleApplication
+pub mod Isomorphism
+pub mod OneResult
+pub mod SameMatch
+pub mod Application
+pub mod HostResult
+pub mod Semantics
+pub mod Steps
+pub mod Following
+pub mod Results
+pub mod Alike
+pub mod Unique
+pub mod Answers
+pub mod Conformance
+pub mod OnlyOutcome

@@ -1,0 +1,2 @@
+mod Records
+mod Restored
