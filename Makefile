@@ -1,8 +1,10 @@
-# `make run` runs the main job, `make test` runs everything that is checked.
+# `make run` runs the main job, `make test` runs everything that is checked. The others: `make driver`, `make bench`,
+# `make fuzz`, `make install PREFIX=..`.
 
 CARGO = cargo --quiet
 SECOND = second/target/release/second
 GP2 = second/target/release/gp2
+X86 = tools/x86-64
 
 # What `make run` runs: a runner image, or a program and a host graph in text.
 PROGRAM ?= programs/case-p/case-p.gp2
@@ -10,28 +12,71 @@ HOST ?= programs/case-p/case-p.host
 FUEL ?= 10
 RECORDS ?= 8
 
-.PHONY: run test tools clean
+PREFIX ?= /usr/local
+COUNT ?= 1000
+ROUNDS ?= 10
 
-run: tools
+.PHONY: run test tools runner library driver bench fuzz install clean
+
+# Runs an image by the proved runner.
+run: tools runner
 ifdef IMAGE
-	@$(SECOND) run $(IMAGE)
+	@$(X86) run target/bin/runner <$(IMAGE)
 else
 	@mkdir -p target
 	@$(GP2) asm $(PROGRAM) --host $(HOST) --fuel $(FUEL) --records $(RECORDS) -o target/run.image
-	@$(SECOND) run target/run.image
+	@$(X86) run target/bin/runner <target/run.image
 endif
 
 # The second interpreter and its tools, built from the standard library alone.
 tools:
+	@test -x $(GP2) || echo "builds the text tools .." >&2
 	@cd second && $(CARGO) build --release --offline
 
-# The second interpreter's own tests, with its check of every stored expected output; the C examples; last the proofs.
+# The runner program and what it rests on: rt builds what it has proved. What is proved already is not proved again.
+runner:
+	@test -x target/bin/runner || echo "proves and builds the runner, some minutes the first time .." >&2
+	@mkdir -p target
+	@rt check runner >target/runner.log 2>&1 || { cat target/runner.log; exit 1; }
+
+# The static library for C.
+library:
+	@test -f target/staticlib/libinterpreter.a || echo "proves and builds the static library, some minutes the first time .." >&2
+	@mkdir -p target
+	@rt staticlib interpreter >target/staticlib.log 2>&1 || { cat target/staticlib.log; exit 1; }
+
+# The worked driver, on the pass that colours a graph with two colours.
+driver: tools library
+	@mkdir -p target/examples
+	@$(X86) cc -std=c11 -O2 -Wall -Wextra -Wpedantic -Werror -Iinclude examples/driver.c target/staticlib/libinterpreter.a -static -o target/examples/driver
+	@$(GP2) asm programs/2-colouring/2-colouring.gp2 -o target/examples/driver.image
+	@$(X86) run target/examples/driver target/examples/driver.image
+
+# The proved code beside plain C: whole programs, then the matcher alone.
+bench:
+	bench/programs
+	bench/matching
+
+# The compiled calls beside the second interpreter, on fresh random inputs.
+fuzz:
+	sh fuzz/run $(COUNT) $$(date +%s) $(ROUNDS)
+
+install: library
+	mkdir -p $(DESTDIR)$(PREFIX)/include $(DESTDIR)$(PREFIX)/lib/pkgconfig
+	cp include/nhiemavut.h $(DESTDIR)$(PREFIX)/include/
+	cp target/staticlib/libinterpreter.a $(DESTDIR)$(PREFIX)/lib/libnhiemavut.a
+	sed 's|@PREFIX@|$(PREFIX)|' include/nhiemavut.pc.in >$(DESTDIR)$(PREFIX)/lib/pkgconfig/nhiemavut.pc
+
+# The second interpreter's own tests, with its check of every stored expected output; the proofs and the programs over stored
+# files; the C examples and a short comparison of the compiled calls. The last line is rt's own, said again.
 test:
 	cd second && $(CARGO) test --release --offline
 	rt fmt --check
-	@mkdir -p target
+	@mkdir -p .gate
+	@{ rt ci 2>&1; echo $$? >.gate/status; } | tee .gate/log; test "$$(cat .gate/status)" = 0
 	sh examples/run
-	rt ci
+	sh fuzz/run 1000 2
+	@tail -n 1 .gate/log
 
 clean:
-	rm -rf target second/target
+	rm -rf target second/target .gate

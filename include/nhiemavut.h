@@ -30,19 +30,55 @@ enum {
     NHIEMAVUT_REPORT_BYTES = 8,
     NHIEMAVUT_MOST_NODES = 512,
     NHIEMAVUT_MOST_EDGES = 1024,
-    NHIEMAVUT_MOST_RECORDS = 1024
+    NHIEMAVUT_MOST_RECORDS = 1024,
+    NHIEMAVUT_MOST_IMAGE_BYTES = 8192,
+    NHIEMAVUT_MOST_FUEL = 1000000
 };
 
 /* The answers of a call. */
 enum {
     NHIEMAVUT_RESULT = 0,
-    NHIEMAVUT_BAD_REPORT = 9,   /* the report isn't 8 bytes; it is left as it was */
-    NHIEMAVUT_BAD_NODES = 10,   /* the node table's length is no multiple of its slot's, or has too many slots */
-    NHIEMAVUT_BAD_EDGES = 11,   /* the same of the edge table */
-    NHIEMAVUT_BAD_JOURNAL = 12, /* the same of the journal */
-    NHIEMAVUT_BAD_RECORDS = 20  /* undo: the count is over the journal's records, or a counted record has a kind
-                                   other than 1 or 2, a second byte other than 0, or a slot outside its table */
+
+    /* a run that came to no result: the graph is as it came */
+    NHIEMAVUT_FAIL = 1,              /* the program failed */
+    NHIEMAVUT_OUT_OF_FUEL = 2,       /* no fuel was left to enter a command */
+    NHIEMAVUT_NO_NODE_ROOM = 3,      /* too few node slots for the nodes that a rule adds */
+    NHIEMAVUT_NO_EDGE_ROOM = 4,      /* too few edge slots for the edges that a rule adds */
+    NHIEMAVUT_NO_RECORD_ROOM = 5,    /* too few journal slots for the records of a rule */
+    NHIEMAVUT_LABEL_TOO_LARGE = 6,   /* a sum or difference leaves 32 bits, or a label has over four atoms */
+    NHIEMAVUT_EDGE_ON_FREE_NODE = 7, /* an application left a live edge on a free node; it is proved that no run does */
+
+    /* a refused call: nothing is run or undone */
+    NHIEMAVUT_BAD_REPORT = 9,      /* the report isn't 8 bytes; it is left as it was */
+    NHIEMAVUT_BAD_NODES = 10,      /* the node table's length is no multiple of its slot's, or has too many slots */
+    NHIEMAVUT_BAD_EDGES = 11,      /* the same of the edge table */
+    NHIEMAVUT_BAD_JOURNAL = 12,    /* the same of the journal */
+    NHIEMAVUT_TOO_MUCH_FUEL = 13,  /* run: the fuel is over 1,000,000 */
+    NHIEMAVUT_IMAGE_TOO_LONG = 14, /* run: the image has over 8,192 bytes */
+    NHIEMAVUT_BAD_HOST = 15,       /* run: a slot of either table breaks the layout */
+    NHIEMAVUT_BAD_FORM = 16,       /* run: the image isn't a program */
+    NHIEMAVUT_BAD_REFERENCES = 17, /* run: a rule, a variable or a node that it names isn't there or is misused */
+    NHIEMAVUT_BAD_PLACEMENT = 18,  /* run: a break isn't in a loop body, or a guard is between them */
+    NHIEMAVUT_BAD_RECORDS = 20     /* undo: the count is over the journal's records, or a counted record has a kind
+                                      other than 1 or 2, a second byte other than 0, or a slot outside its table */
 };
+
+/*
+ * Runs the program of an image on the graph in both tables. Each command that is entered takes one fuel and is one step.
+ * What the journal holds before doesn't matter: a started run clears it first.
+ *
+ * Answers 0, with the result in both tables, a record of each change from the journal's front and zeros behind, and
+ * steps and records in the report: nhiemavut_undo with that count of records gives the graph back. Answers 1 to 7 where
+ * the run comes to no result: both tables are as they came, the journal is all zero, and the report has the steps and 0
+ * records. Or the lowest of 9 to 18 that applies, before anything is run. A refused call leaves both tables and the
+ * journal as they were, and writes zeros in the report, except on 9.
+ */
+uint32_t nhiemavut_run(uint8_t *nodes, size_t nodes_length,
+                       uint8_t *edges, size_t edges_length,
+                       uint8_t *journal, size_t journal_length,
+                       const uint8_t *image, size_t image_length,
+                       uint32_t fuel,
+                       uint8_t *report, size_t report_length);
 
 /*
  * Undoes the first `count` records of the journal: stores each record's bytes back in the slot that it names,

@@ -1,6 +1,8 @@
 //! Stored inputs of the test programs that run proved code, with what each must write: a folder of a program holds both as
 //! `stdin` and `stdout`. What must be written is this interpreter's answer.
 
+mod matches;
+
 use std::fmt::Write;
 
 use crate::calls::{self, Outcome};
@@ -8,6 +10,8 @@ use crate::corpus;
 use crate::encode::{self, field};
 use crate::listing;
 use crate::refusals::{self, RunCall, UndoCall};
+
+pub use matches::{match_bench, match_cases, seen as seen_by_matches};
 
 /// What a test program reads and what it must write.
 pub struct Stored {
@@ -20,11 +24,13 @@ pub fn named(name: &str) -> Option<Stored> {
     match name {
         "undo_cases" => Some(undo_cases()),
         "refusal_cases" => Some(refusal_cases()),
+        "match_cases" => Some(match_cases()),
+        "match_bench" => Some(match_bench()),
         _ => None,
     }
 }
 
-pub const NAMES: [&str; 2] = ["refusal_cases", "undo_cases"];
+pub const NAMES: [&str; 4] = ["match_bench", "match_cases", "refusal_cases", "undo_cases"];
 
 /// What a test program reads at most.
 const MOST_BYTES: usize = 262_144;

@@ -39,3 +39,23 @@ fn refusal_cases_have_every_refusal_of_run() {
         assert!(text.lines().any(|line| line == answer.to_string()), "no case answers {answer}");
     }
 }
+
+#[test]
+fn match_cases_exercise_every_rule_of_matching() {
+    let seen = stored::seen_by_matches();
+    assert!(seen.matched > 1_000 && seen.unmatched > 300 && seen.refused > 30);
+    let exercised = &seen.exercised;
+    for counts in [&exercised.tests_true, &exercised.tests_false] {
+        for count in [counts.edge, counts.in_degree, counts.out_degree, counts.equal, counts.less] {
+            assert!(count > 20, "a kind of test is seldom looked at");
+        }
+    }
+    for count in [exercised.negated_tests, exercised.dangling_refusals, exercised.any_marks_matched, exercised.roots_matched] {
+        assert!(count > 100);
+    }
+}
+
+#[test]
+fn match_cases_stay_short() {
+    assert!(stored::match_cases().stdin.len() < 1_500_000);
+}

@@ -37,8 +37,8 @@ pub fn number4(bytes: &[u8], at: usize) -> usize
     65536 * number2(bytes, at) + number2(bytes, at + 2)
 }
 
-// The field at a place.
-pub fn read_field(bytes: &[u8], at: usize) -> Found
+// The field at a place: the reader's work, on a plain slice and number.
+fn field_at(bytes: &[u8], at: usize) -> Found
     ensures { λ r. ⌜ r ≡ fieldAt (now (bytes .entry)) at ⌝ }
 {
     let len = bytes.len();
@@ -54,6 +54,35 @@ pub fn read_field(bytes: &[u8], at: usize) -> Found
         return Found::Short;
     }
     Found::Field(bytes[at], start, start + n)
+}
+
+// The reader of tagged fields: bytes, and a place in them.
+pub struct Reader<'a> {
+    pub bytes: &'a [u8],
+    pub place: usize,
+}
+
+impl<'a> Reader<'a> {
+    // The reader at a place in the bytes.
+    pub fn new(bytes: &'a [u8], place: usize) -> Reader<'a>
+        ensures { λ r. ⌜ (r .bytes ≡ bytes .entry) × (r .place ≡ place) ⌝ }
+    {
+        Reader { bytes, place }
+    }
+
+    // What the reader finds at its place.
+    pub fn field(self) -> Found
+        ensures { λ r. ⌜ r ≡ fieldAt (now (self .entry .bytes)) (self .entry .place) ⌝ }
+    {
+        field_at(self.bytes, self.place)
+    }
+}
+
+// What a reader at a place finds. Its parameters are plain, so callers need no walk.
+pub fn read_field(bytes: &[u8], at: usize) -> Found
+    ensures { λ r. ⌜ r ≡ fieldAt (now (bytes .entry)) at ⌝ }
+{
+    Reader::new(bytes, at).field()
 }
 
 // The payload of a field: the part of the bytes between its ends.

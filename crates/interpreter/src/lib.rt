@@ -1,8 +1,32 @@
 // The calls, for a driver in C: byte buffers and numbers in, a number out. What each leaves is fixed on all inputs.
 ghost use Rattle.meaning.specs.Layout.{base};
-ghost use Rattle.meaning.specs.Calls.{undo};
+ghost use Rattle.meaning.specs.Calls.{run, undo};
 ghost use Rattle.host.specs.Host.{Leaves};
 use meaning::Layout;
+
+// Runs the image's program on the tables, from an empty journal. A result leaves its records in the journal, and reports steps and
+// records; any other end gives the tables back as they came, with an empty journal, and reports the steps.
+#[no_mangle]
+pub extern "C" fn nhiemavut_run(
+    nodes: &mut [u8],
+    edges: &mut [u8],
+    journal: &mut [u8],
+    image: &[u8],
+    fuel: u32,
+    report: &mut [u8],
+) -> u32
+    ensures { λ r. ⌜ Leaves (run base (now (nodes .entry)) (now (edges .entry)) (now (journal .entry)) (now (image .entry)) fuel (now (report .entry))) r (now (nodes .exit)) (now (edges .exit)) (now (journal .exit)) (now (report .exit)) ⌝ }
+{
+    host::answer_number(running::run_call(
+        Layout::base(),
+        nodes,
+        edges,
+        journal,
+        image,
+        fuel,
+        report,
+    ))
+}
 
 // Stores the counted records of the journal back from last to first, zeros them, and reports 0 steps and the count.
 #[no_mangle]

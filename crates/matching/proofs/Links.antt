@@ -91,16 +91,15 @@ module _ (h : Host) (r : Rule) (at : List ℕ) (i k y : ℕ) (room : i < length 
           there = eqb-true _ _ (v .0) ∙ slot-new at i y (leftEdge r k .source) room a;
         }))
 
--- no edge below x joins slot p to a slot of c .. best, and edge x joins it at most to e: no edge up to x joins it to a slot of
--- c .. b, which is nearer and leaves e out
-pub ends-more : (h : Host) (mark p : ℕ) (leaving : Bool) (c best b e x : ℕ) → b ≤ best
-    → ((y : ℕ) → c ≤ y → y < b → y ≡ e → ⊥) → ((y : ℕ) → Meets h mark p leaving x y → y ≡ e)
+-- no edge below x joins slot p to a slot of c .. best, and edge x joins it to none of c .. b, which is nearer: no edge up to x does
+pub ends-more : (h : Host) (mark p : ℕ) (leaving : Bool) (c best b x : ℕ) → b ≤ best
+    → ((y : ℕ) → c ≤ y → y < b → Meets h mark p leaving x y → ⊥)
     → ((y z : ℕ) → c ≤ y → y < best → z < x → Meets h mark p leaving z y → ⊥)
     → (y z : ℕ) → c ≤ y → y < b → z < x + 1 → Meets h mark p leaving z y → ⊥
-ends-more h mark p leaving c best b e x near out only none y z k l j m = at (ℕ-discrete z x)
+ends-more h mark p leaving c best b x near out none y z k l j m = at (ℕ-discrete z x)
   where
     at : Dec (z ≡ x) → ⊥
-    at (yes q) = out y k l (only y (rw q at m))
+    at (yes q) = out y k l (rw q at m)
     at (no q) = none y z k (omega arith) (omega arith) m
 
 -- nothing in c .. x passes, and x does not: nothing in c .. x + 1 does

@@ -64,8 +64,9 @@ fn edge_end(l: Layout, nodes: &[u8], edges: &[u8], leaving: bool, x: usize) -> u
     graph::edge_target(l, nodes, edges, x)
 }
 
-// The other end of edge x, if it is live, has one end at slot p and its mark agrees; else a number that is no slot's.
-fn other_end(
+// The other end of edge x, if that is lower than `best` and at c or above, and the edge is live, has one end at slot p and its
+// mark agrees; else `best`.
+fn nearer(
     l: Layout,
     nodes: &[u8],
     edges: &[u8],
@@ -73,28 +74,24 @@ fn other_end(
     p: usize,
     leaving: bool,
     x: usize,
+    c: usize,
+    best: usize,
 ) -> usize
     requires { ⌜ Legal l (now nodes) (now edges) ⌝ }
     requires { ⌜ x < length (hostOf l (now nodes) (now edges) .edges) ⌝ }
-    ensures { λ r. ⌜ ((y : ℕ) → Meets (hostOf l (now (nodes .entry)) (now (edges .entry))) mark p leaving x y → y ≡ r) ⌝ }
+    requires { ⌜ c ≤ best ⌝ }
+    ensures { λ r. ⌜ (c ≤ r) × (r ≤ best) × ((y : ℕ) → c ≤ y → y < r → Meets (hostOf l (now (nodes .entry)) (now (edges .entry))) mark p leaving x y → ⊥) ⌝ }
 {
     if !graph::edge_live(l, nodes, edges, x) {
-        return 65536;
+        return best;
     }
     if edge_end(l, nodes, edges, leaving, x) != p {
-        return 65536;
+        return best;
     }
     if !fitting::marks_agree(mark, graph::edge_mark(l, nodes, edges, x)) {
-        return 65536;
+        return best;
     }
-    edge_end(l, nodes, edges, !leaving, x)
-}
-
-// The lower of e and `best`, if e is at c or above.
-fn nearer(c: usize, e: usize, best: usize) -> usize
-    requires { ⌜ c ≤ best ⌝ }
-    ensures { λ r. ⌜ (c ≤ r) × (r ≤ best) × ((y : ℕ) → c ≤ y → y < r → y ≡ e → ⊥) ⌝ }
-{
+    let e = edge_end(l, nodes, edges, !leaving, x);
     if c <= e {
         if e < best {
             return e;
@@ -103,7 +100,7 @@ fn nearer(c: usize, e: usize, best: usize) -> usize
     best
 }
 
-// The lowest slot from c to n that such an edge joins to slot p; n if there is none.
+// The lowest slot from c to n that an edge whose mark agrees joins to slot p; n if there is none.
 fn next_end(
     l: Layout,
     nodes: &[u8],
@@ -122,7 +119,7 @@ fn next_end(
     let mut best = n;
     let mut x: usize = 0;
     while x < count {
-        best = nearer(c, other_end(l, nodes, edges, mark, p, leaving, x), best);
+        best = nearer(l, nodes, edges, mark, p, leaving, x, c, best);
         x += 1;
     }
     best

@@ -26,13 +26,21 @@ fn node_attributes(slot: usize, node: &Node) -> String {
     if node.root {
         attributes.push("shape=doublecircle".to_string());
     }
-    if node.mark != mark::NONE {
-        attributes.push(format!("fillcolor={}", mark::NAMES[usize::from(node.mark)]));
-    }
-    if [mark::RED, mark::BLUE].contains(&node.mark) {
-        attributes.push("fontcolor=white".to_string());
+    if let Some(colour) = pale(node.mark) {
+        attributes.push(format!("fillcolor={colour}"));
     }
     attributes.join(", ")
+}
+
+/// A node's colour by its mark, light enough for black text.
+fn pale(node_mark: u8) -> Option<&'static str> {
+    match node_mark {
+        mark::RED => Some("tomato"),
+        mark::GREEN => Some("palegreen"),
+        mark::BLUE => Some("lightskyblue"),
+        mark::GREY => Some("lightgrey"),
+        _ => None,
+    }
 }
 
 fn edge_attributes(edge: &Edge) -> String {

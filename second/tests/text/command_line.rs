@@ -403,12 +403,12 @@ fn dot_draws_before_and_after_the_run() {
     assert_done(&place.gp2(&arguments));
     let before = place.gp2(&["dot", "p.run"]);
     assert_done(&before);
-    assert!(out(&before).contains("  n0 [xlabel=\"0\", label=\"5\", fillcolor=grey];\n"));
+    assert!(out(&before).contains("  n0 [xlabel=\"0\", label=\"5\", fillcolor=lightgrey];\n"));
     assert!(out(&before).contains("  n0 -> n1 [label=\"\"];\n"));
     let after = place.gp2(&["dot", "--after", "p.run"]);
     assert_done(&after);
     assert!(out(&after)
-        .contains("  n1 [xlabel=\"1\", label=\"12\", fillcolor=blue, fontcolor=white];\n"));
+        .contains("  n1 [xlabel=\"1\", label=\"12\", fillcolor=lightskyblue];\n"));
     assert!(out(&after).contains("  n1 -> n0 [label=\"\"];\n"));
     assert_done(&place.gp2(&[
         "asm", "p.gp2", "--host", "p.host", "--fuel", "1", "-o", "p.run",

@@ -367,10 +367,10 @@ fn drawn() -> RunnerInput {
 const DRAWING: &str = r#"digraph host {
   node [shape=circle, style=filled, fillcolor=white];
   n0 [xlabel="0", label="5:-7", shape=doublecircle];
-  n2 [xlabel="2", label="", fillcolor=red, fontcolor=white];
-  n3 [xlabel="3", label="1", fillcolor=green];
-  n4 [xlabel="4", label="2", fillcolor=blue, fontcolor=white];
-  n5 [xlabel="5", label="3", shape=doublecircle, fillcolor=grey];
+  n2 [xlabel="2", label="", fillcolor=tomato];
+  n3 [xlabel="3", label="1", fillcolor=palegreen];
+  n4 [xlabel="4", label="2", fillcolor=lightskyblue];
+  n5 [xlabel="5", label="3", shape=doublecircle, fillcolor=lightgrey];
   n0 -> n2 [label=""];
   n2 -> n0 [label="8:9", style=dashed];
   n3 -> n3 [label="", color=red];

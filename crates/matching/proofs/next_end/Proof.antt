@@ -24,11 +24,8 @@ edge-slots-requires c κs = search needs
 loop-holds : tie.Need-loop-holds Inv-loop μ-loop
 loop-holds c = (omega arith, c .edge-slots .ensures, λ y e h k l m. absurd (omega arith))
 
-other-end-requires : tie.Need-other-end-requires Inv-loop μ-loop
-other-end-requires c κs = search needs
-
 nearer-requires : tie.Need-nearer-requires Inv-loop μ-loop
-nearer-requires c κs = c .before .before .loop .inv .0
+nearer-requires c κs = (c .before .before .before .before .before .pre .0, (omega (arith, c .before .loop .inv .1), c .before .loop .inv .0))
 
 add-x : tie.Need-add-x Inv-loop μ-loop
 add-x c = search needs
@@ -38,15 +35,13 @@ loop-less c = omega arith
 
 loop-again : tie.Need-loop-again Inv-loop μ-loop
 loop-again c =
-    let l = c .before .before .before in
-    let a = c .before .before .before .before .before .before .before .args in
-    let near = c .nearer in
-    let other = c .before .other-end in (
+    let l = c .before .before in
+    let a = c .before .before .before .before .before .before .args in
+    let near = c .nearer in (
       near .ensures .0,
       l .loop .inv .1,
       ends-more (hostOf (a .l) (a .nodes .now) (a .edges .now)) (a .mark) (a .p) (a .leaving) (a .c) (l .loop .best)
-          (near .result) (other .result) (l .loop .x) (near .ensures .1) (near .ensures .2) (other .ensures)
-          (l .loop .inv .2),
+          (near .result) (l .loop .x) (near .ensures .1) (near .ensures .2) (l .loop .inv .2),
     )
 
 returns : tie.Need-returns Inv-loop μ-loop
@@ -60,7 +55,6 @@ next-end-spec =
     μ-loop
     edge-slots-requires
     loop-holds
-    other-end-requires
     nearer-requires
     add-x
     loop-less

@@ -1,16 +1,17 @@
--- `matching::other_end` meets its contract: an edge that joins slot p to some slot joins it to the answer.
+-- `matching::nearer` meets its contract: edge x joins slot p to no slot from c to the answer.
 use mathlib.Core.Path.{_∙_, ap}
-use borrow.Author.Needs.{needs}
+use native.Mathlib.Omega.{arith}
 use Rattle.meaning.specs.FirstMatch.{marksAgree}
 use Rattle.matching.proofs.Links.{clash}
-use Rattle.matching.proofs.other_end.Statement.{statement}
-use Rattle.matching.proofs.other_end.Tie as tie
+use borrow.Author.Needs.{needs}
+use Rattle.matching.proofs.nearer.Statement.{statement}
+use Rattle.matching.proofs.nearer.Tie as tie
 
 edge-live-requires : tie.Need-edge-live-requires
 edge-live-requires c κs = search needs
 
 returns : tie.Need-returns
-returns c = λ y m. absurd (clash (c .before .edge-live .result) _ (c .if1 .taken) (c .before .edge-live .ensures) (m .live))
+returns c = (omega arith, omega arith, λ y h k m. clash (c .before .edge-live .result) _ (c .if1 .taken) (c .before .edge-live .ensures) (m .live))
 
 edge-end-requires : tie.Need-edge-end-requires
 edge-end-requires c κs = search needs
@@ -27,9 +28,11 @@ marks-agree-requires c κs = search needs
 returns-3 : tie.Need-returns-3
 returns-3 c =
     let agree = c .before .marks-agree in
-    λ y m. absurd (clash (agree .result) _ (c .if3 .taken)
-    (agree .ensures ∙ ap (marksAgree (c .before .before .before .before .before .before .before .before .before .args .mark))
-    (c .before .before .edge-mark .ensures)) (m .marks))
+    let args = c .before .before .before .before .before .before .before .before .before .args in (
+      omega arith,
+      omega arith,
+      λ y h k m. clash (agree .result) _ (c .if3 .taken) (agree .ensures ∙ ap (marksAgree (args .mark)) (c .before .before .edge-mark .ensures)) (m .marks),
+    )
 
 edge-end-requires-2 : tie.Need-edge-end-requires-2
 edge-end-requires-2 c κs = search needs
@@ -37,8 +40,14 @@ edge-end-requires-2 c κs = search needs
 returns-4 : tie.Need-returns-4
 returns-4 c = search needs
 
-pub other-end-spec : {M : Type 1} → statement M
-other-end-spec =
+returns-5 : tie.Need-returns-5
+returns-5 c = search needs
+
+returns-6 : tie.Need-returns-6
+returns-6 c = search needs
+
+pub nearer-spec : {M : Type 1} → statement M
+nearer-spec =
     tie.close
     (tie.spec
     edge-live-requires
@@ -49,4 +58,6 @@ other-end-spec =
     marks-agree-requires
     returns-3
     edge-end-requires-2
-    returns-4)
+    returns-4
+    returns-5
+    returns-6)

@@ -1,0 +1,99 @@
+-- Laws of what an application comes to: it stops before any change, or it is done. The test after the changes finds nothing.
+-- Rests on Application and Parts, and on ledger's Applications.
+use mathlib.Core.Path.{_≡_, refl, sym, _∙_, ap, subst}
+use mathlib.Core.Bool.{true}
+use mathlib.Core.Option.{some, none}
+use mathlib.Core.List.{List}
+use Prim.Native.Nat.{ℕ, _/_}
+use native.Mathlib.Omega.{arith}
+use lib.ListN.{length, take}
+use Rattle.meaning.specs.Basics.{any}
+use Rattle.meaning.specs.Layout.{recordLength, readNodes, readEdges}
+use Rattle.meaning.specs.Image.{Rule}
+use Rattle.meaning.specs.Applying.{Right, Ledger, rightSide, changed, hindrance, onFreeNode, Applied, applied, hindered, tested, apply}
+use Rattle.meaning.specs.Laws.Tests.{some-inj, choose-true}
+use Rattle.meaning.specs.Laws.Legality.{tested-legal}
+use Rattle.meaning.specs.declared.Layout.{Layout}
+use Rattle.meaning.specs.declared.Stop.{Stop}
+use Rattle.meaning.specs.declared.Stop.the-variants.{EdgeOnFreeNode}
+use Rattle.matching.specs.Next.{total}
+use Rattle.ledger.specs.Running.{ledgerOf, Running, Leads}
+use Rattle.ledger.specs.Whole.{running-legal}
+use Rattle.ledger.specs.Rooms.{stopOf}
+use Rattle.ledger.specs.Applications.{stopped-is, applied-is, runs-on}
+use Rattle.ledger.specs.declared.Applied.{Applied as Came}
+use Rattle.ledger.specs.declared.Applied.the-variants.{Done, Stopped}
+use Rattle.applying.specs.Application.{appliedOf, AtMatch, Applies}
+use Rattle.applying.specs.Making.{Unhindered, Changed}
+use Rattle.applying.specs.Parts.{match, right-there}
+
+pub none-done : stopOf Done ≡ none
+unfolding stopOf
+none-done = refl
+
+module _ {L : Layout} {nodes edges journal : List ℕ} {used : ℕ} {bs slots lens atoms : List ℕ} (run : Running L nodes edges journal used)
+    (w : AtMatch L nodes edges bs slots lens atoms)
+  where
+    abbrev before : Ledger
+    before = ledgerOf L nodes edges journal used
+
+    abbrev checked : Came → Type 0
+    checked a = stopOf a ≡ hindrance (L .atoms) (length journal / recordLength L) (w .tree) (take (total (w .tree)) slots) before
+
+    -- what is said of the rule that the bytes are known to be holds of any that they are
+    the-rule : (a : Applied) → a ≡ apply (L .atoms) (length journal / recordLength L) (w .tree) (take (total (w .tree)) slots) before
+        → (r : Rule) → some (w .tree) ≡ some r → a ≡ apply (L .atoms) (length journal / recordLength L) r (take (total r) slots) before
+    the-rule a e r q =
+        subst (λ (t : Rule). a ≡ apply (L .atoms) (length journal / recordLength L) t (take (total t) slots) before) (some-inj (w .tree) r q) e
+
+    -- it stops before any change
+    pub stops : (s : Stop) → checked (Stopped s)
+        → Applies L nodes edges journal used bs slots (record { applied = Stopped s; records = used }) nodes edges journal
+    unfolding stopOf appliedOf
+    stops s e =
+        record {
+          right = λ r q. the-rule (hindered s) (sym (stopped-is (L .atoms) (length journal / recordLength L) (w .tree) (take (total (w .tree)) slots) before s (sym e))) r (sym (w .is) ∙ q);
+          kept = λ s′ q. refl;
+          running = run;
+        }
+
+    module _ (e : checked Done) where
+      abbrev pub unhindered-here : Unhindered L nodes edges journal used bs slots lens atoms
+      unhindered-here = record { running = run; match = w; fine = sym e ∙ none-done }
+
+      module _ {all : ℕ} {nodes′ edges′ journal′ : List ℕ} (c : Changed L nodes edges journal used bs slots lens atoms all nodes′ edges′ journal′) where
+        right-side : (right : Right) × (rightSide (L .atoms) (before .host) (w .tree) (take (total (w .tree)) slots) ≡ some right)
+        right-side = right-there unhindered-here
+
+        led : Leads L (changed (w .tree) (take (total (w .tree)) slots) (right-side .0) before) nodes′ edges′ journal′ all
+        led = c unhindered-here (right-side .0) (right-side .1)
+
+        pub still-runs : Running L nodes′ edges′ journal′ all
+        still-runs =
+            runs-on L nodes edges journal used run (w .tree) (w .legal) (take (total (w .tree)) slots)
+            (match unhindered-here) (right-side .0) (right-side .1) (unhindered-here .fine) nodes′ edges′ journal′ all led
+
+        -- it is done
+        pub does : Applies L nodes edges journal used bs slots (record { applied = Done; records = all }) nodes′ edges′ journal′
+        unfolding appliedOf
+        does =
+            record {
+              right = λ r q.
+                  the-rule _
+                  (ap applied (led .ledger)
+                  ∙ sym (applied-is L nodes edges journal used run (w .tree) (w .legal) (take (total (w .tree)) slots)
+                  (match unhindered-here) (right-side .0) (right-side .1) (unhindered-here .fine)))
+                  r (sym (w .is) ∙ q);
+              kept = λ s q. let z : _≡_ {A = ℕ} 0 1 = cc in absurd (omega arith);
+              running = still-runs;
+            }
+
+        -- no live edge is on a free node
+        pub none-free : any (onFreeNode (record { nodes = readNodes L nodes′; edges = readEdges L edges′ })) (length (readEdges L edges′)) ≡ true → ⊥
+        unfolding tested
+        none-free q =
+            let t : tested (ledgerOf L nodes′ edges′ journal′ all) ≡ applied (ledgerOf L nodes′ edges′ journal′ all) =
+            tested-legal L (ledgerOf L nodes′ edges′ journal′ all) (running-legal L nodes′ edges′ journal′ all still-runs .host) in
+            let h : hindered EdgeOnFreeNode ≡ applied (ledgerOf L nodes′ edges′ journal′ all) = sym (choose-true _ _ _ q) ∙ t in
+            let z : _≡_ {A = ℕ} 0 1 = cc in
+            omega arith

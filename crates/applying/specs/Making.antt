@@ -1,0 +1,157 @@
+-- What a right node or a right edge is made of in lent bytes, and what each part of an application is handed.
+-- Rests on ledger's Running and Changes, on values' Values and on the meaning's Applying.
+use mathlib.Core.Path.{_≡_}
+use mathlib.Core.Bool.{true, false}
+use mathlib.Core.Option.{some, none}
+use mathlib.Core.List.{List, [], _++_}
+use Prim.Native.Nat.{ℕ, _+_, _/_, _<_, _≤_}
+use lib.ListN.{length, getD, take}
+use lib.Dec.{eqb}
+use Rattle.meaning.specs.Basics.{choose}
+use Rattle.meaning.specs.Layout.{Node, Edge, Host, free, liveAt, nodeLength, recordLength, readNodes, readEdges}
+use Rattle.meaning.specs.Image.{RuleNode, RuleEdge, Rule, anyMark, ruleNode, ruleEdge, ruleGraph}
+use Rattle.meaning.specs.References.{names}
+use Rattle.meaning.specs.Matching.{nodeIn, nodeAt, nodeSlot}
+use Rattle.meaning.specs.FirstMatch.{assigned}
+use Rattle.meaning.specs.Applying.{labelValue, Right, rightSide, freeSlots, addNodes, between, changed, hindrance}
+use Rattle.meaning.specs.Laws.Hosts.{LegalNode, LegalEdge}
+use Rattle.meaning.specs.Laws.Values.{LegalRight}
+use Rattle.meaning.specs.declared.Layout.{Layout}
+use Rattle.matching.specs.Next.{total}
+use Rattle.values.specs.Values.{valuesOf, Stored, Agree}
+use Rattle.ledger.specs.Running.{ledgerOf, Running, Leads}
+use Rattle.ledger.specs.Changes.{Went, Below}
+use Rattle.applying.specs.Application.{AtMatch}
+
+-- what stands for an item that is not there
+
+abbrev pub blankRule : RuleNode
+blankRule = record { mark = 0; root = 0; label = [] }
+
+abbrev pub blankRuleEdge : RuleEdge
+blankRuleEdge = record { mark = 0; source = 0; target = 0; label = [] }
+
+abbrev pub blankNode : Node
+blankNode = record { mark = 0; root = 0; label = [] }
+
+abbrev pub blankEdge : Edge
+blankEdge = record { mark = 0; source = 0; target = 0; label = [] }
+
+module _ (L : Layout) where
+  -- One right node, one right edge.
+
+  -- the bytes are a right node, and the node is what it comes to under the values in the arrays, but for its mark
+  pub record NodeMade (p lens atoms : List ℕ) : Type 0 where
+    pub stored : Stored lens atoms
+    pub few : L .atoms ≤ 8
+    pub rule : RuleNode
+    pub is : ruleNode p ≡ some rule
+    pub node : Node
+    pub label : labelValue (L .atoms) (valuesOf lens atoms) (rule .label) ≡ some (node .label)
+    pub root : node .root ≡ rule .root
+    pub legal : LegalNode L node
+
+  -- the node in slot x takes its values: any keeps the mark
+  pub record Takes (nodes p lens atoms : List ℕ) (x : ℕ) : Type 0 where
+    pub made : NodeMade p lens atoms
+    pub alive : liveAt (readNodes L nodes) x ≡ true
+    pub mark : made .node .mark ≡ choose (eqb (made .rule .mark) anyMark) (nodeIn (getD (readNodes L nodes) x free) .mark) (made .rule .mark)
+
+  -- a new node has them
+  pub record Comes (p lens atoms : List ℕ) : Type 0 where
+    pub made : NodeMade p lens atoms
+    pub mark : made .node .mark ≡ made .rule .mark
+
+  -- the bytes are a right edge, and the edge is what it comes to; its ends are still numbers of right nodes, whose slots
+  -- are the places
+  pub record Joins (p lens atoms places : List ℕ) : Type 0 where
+    pub stored : Stored lens atoms
+    pub few : L .atoms ≤ 8
+    pub room : length places ≡ 12
+    pub rule : RuleEdge
+    pub is : ruleEdge p ≡ some rule
+    pub edge : Edge
+    pub label : labelValue (L .atoms) (valuesOf lens atoms) (rule .label) ≡ some (edge .label)
+    pub mark : edge .mark ≡ rule .mark
+    pub source : edge .source ≡ rule .source
+    pub target : edge .target ≡ rule .target
+    pub inside : (edge .source < 12) × (edge .target < 12)
+    pub legal : LegalEdge L (between places edge)
+
+  -- The whole right side.
+
+  -- the bytes are a right graph whose first k nodes are the interface, and `right` is what it comes to
+  pub record Made (bs lens atoms : List ℕ) (k : ℕ) : Type 0 where
+    pub stored : Stored lens atoms
+    pub few : L .atoms ≤ 8
+    pub host : Host
+    pub tree : Rule
+    pub slots : List ℕ
+    pub right : Right
+    pub is : ruleGraph bs ≡ some (tree .right)
+    pub values : rightSide (L .atoms) host tree slots ≡ some right
+    pub agree : Agree (valuesOf lens atoms) (assigned host tree slots) (names (tree .right))
+    pub legal : LegalRight L right
+    pub nodesLong : length (right .nodes) ≡ length (tree .right .nodes)
+    pub edgesLong : length (right .edges) ≡ length (tree .right .edges)
+    pub fewNodes : length (tree .right .nodes) ≤ 6
+    pub inside : k ≤ length (tree .right .nodes)
+    pub marked : (j : ℕ) → k ≤ j → j < length (tree .right .nodes) → eqb (getD (tree .right .nodes) j blankRule .mark) anyMark ≡ false
+
+  -- left node i, in slot x, is to change
+  pub record Changes (nodes bs lens atoms : List ℕ) (k i x : ℕ) : Type 0 where
+    pub made : Made bs lens atoms k
+    pub alive : i < k → liveAt (readNodes L nodes) x ≡ true
+    pub mark : i < k → nodeAt (made .host) (nodeSlot (made .slots) i) .mark ≡ nodeIn (getD (readNodes L nodes) x free) .mark
+
+  -- the n left nodes, in the slots, are to change
+  pub record Alters (nodes journal bs lens atoms at : List ℕ) (used k n : ℕ) : Type 0 where
+    pub made : Made bs lens atoms k
+    pub room : length at ≡ 12
+    pub few : n ≤ 12
+    pub records : used + n ≤ length journal / recordLength L
+    pub inside : k ≤ n
+    pub host : made .host .nodes ≡ readNodes L nodes
+    pub slots : (i : ℕ) → i < n → nodeSlot (made .slots) i ≡ getD at i 0
+    pub below : Below (length nodes / nodeLength L) at 0 n
+    pub alive : (i : ℕ) → i < n → liveAt (readNodes L nodes) (getD at i 0) ≡ true
+    pub apart : (i j : ℕ) → i < j → j < n → getD at i 0 ≡ getD at j 0 → ⊥
+
+  -- `new` right nodes are to come; the slots of those of the interface are known
+  pub record Grows (nodes journal bs lens atoms at : List ℕ) (used k new : ℕ) : Type 0 where
+    pub made : Made bs lens atoms k
+    pub room : length at ≡ 12
+    pub counted : k + new ≡ length (made .tree .right .nodes)
+    pub free : new ≤ freeSlots (readNodes L nodes)
+    pub records : used + new ≤ length journal / recordLength L
+
+  -- they have come, and the places are the slots of all right nodes
+  pub record Grew (ns : List Node) (nodes edges journal at : List ℕ) (used k new : ℕ) (places nodes′ journal′ : List ℕ) : Type 0 where
+    pub went : Went L (addNodes ns (ledgerOf L nodes edges journal used) .ledger) nodes edges journal nodes′ edges journal′ (used + new)
+    pub lie : take (k + new) places ≡ take k at ++ addNodes ns (ledgerOf L nodes edges journal used) .slots
+    pub room : length places ≡ 12
+
+  -- `count` right edges are to come, between the places
+  pub record Edges (edges journal bs lens atoms places : List ℕ) (used count : ℕ) : Type 0 where
+    pub interface : ℕ
+    pub made : Made bs lens atoms interface
+    pub room : length places ≡ 12
+    pub counted : count ≡ length (made .tree .right .edges)
+    pub ends : (i : ℕ) → i < count → LegalEdge L (between (take (length (made .tree .right .nodes)) places) (getD (made .right .edges) i blankEdge))
+    pub free : count ≤ freeSlots (readEdges L edges)
+    pub records : used + count ≤ length journal / recordLength L
+
+  -- The whole application.
+
+  -- the rule can be applied at its match: nothing hinders
+  pub record Unhindered (nodes edges journal : List ℕ) (used : ℕ) (bs slots lens atoms : List ℕ) : Type 0 where
+    pub running : Running L nodes edges journal used
+    pub match : AtMatch L nodes edges bs slots lens atoms
+    pub fine : hindrance (L .atoms) (length journal / recordLength L) (match .tree) (take (total (match .tree)) slots) (ledgerOf L nodes edges journal used) ≡ none
+
+  -- the bytes hold the changed ledger
+  abbrev pub Changed : (nodes edges journal : List ℕ) (used : ℕ) (bs slots lens atoms : List ℕ) (after : ℕ) (nodes′ edges′ journal′ : List ℕ) → Type 0
+  Changed nodes edges journal used bs slots lens atoms after nodes′ edges′ journal′ =
+      (w : Unhindered nodes edges journal used bs slots lens atoms) (right : Right)
+      → rightSide (L .atoms) (ledgerOf L nodes edges journal used .host) (w .match .tree) (take (total (w .match .tree)) slots) ≡ some right
+      → Leads L (changed (w .match .tree) (take (total (w .match .tree)) slots) right (ledgerOf L nodes edges journal used)) nodes′ edges′ journal′ after

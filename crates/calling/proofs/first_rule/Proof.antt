@@ -1,0 +1,93 @@
+-- `calling::first_rule` meets its contract. The loop's invariant: the rules before the place have no match. Its measure: what is left of
+-- the list.
+use Prim.Native.Nat.{_-_, _≤_}
+use mathlib.Core.Path.{refl}
+use native.Mathlib.Omega.{arith}
+use borrow.Author.Needs.{needs}
+use lib.ListN.{length}
+use Rattle.calling.proofs.Choosing.{Passed, none-chosen, Tried, is-rule, chosen, passes}
+use Rattle.calling.proofs.first_rule.Statement.{statement}
+use Rattle.calling.proofs.first_rule.Tie as tie
+
+abbrev Inv-loop : tie.InvT-loop
+Inv-loop l image numbers nodes edges i₀ i = (i ≤ length numbers) × Passed l image numbers nodes edges i
+
+abbrev μ-loop : tie.MeasureT-loop
+μ-loop l image numbers nodes edges i₀ i = length numbers - i
+
+-- the part that was read is the listed rule's
+tried : (c : tie.After-rule-part Inv-loop μ-loop)
+    → let s = c .before .before .before .before .before .before .before .before .before in
+    Tried (s .args .image .now) (s .args .numbers .now) (c .rule-part .result .now) (c .before .before .before .before .loop .i) (c .before .wide .result)
+tried c =
+    let s = c .before .before .before .before .before .before .before .before .before in
+    record {
+      listed = s .pre .1;
+      inside = c .before .before .before .loop-test .taken;
+      number = c .before .wide .ensures .0;
+      part = c .rule-part .ensures;
+    }
+
+loop-holds : tie.Need-loop-holds Inv-loop μ-loop
+loop-holds c = (omega arith, λ p e. refl)
+
+shared-slice-read-wide : tie.Need-shared-slice-read-wide Inv-loop μ-loop
+shared-slice-read-wide c = search needs
+
+wide-requires : tie.Need-wide-requires Inv-loop μ-loop
+wide-requires c κs = search needs
+
+rule-part-requires : tie.Need-rule-part-requires Inv-loop μ-loop
+rule-part-requires c κs = search needs
+
+first-match-requires : tie.Need-first-match-requires Inv-loop μ-loop
+first-match-requires c κs = (c .before .before .before .before .before .before .before .before .before .pre .0, is-rule (tried c))
+
+enum-told : tie.Need-enum-told Inv-loop μ-loop
+enum-told c = search needs
+
+returns : tie.Need-returns Inv-loop μ-loop
+returns c =
+    let loop = c .before .before .before .before .before .before .before .loop in
+    chosen (tried (c .before .before .before)) (loop .inv .1) (c .before .before .first-match .ensures) (c .enum-told .given .1)
+
+enum-told-2 : tie.Need-enum-told-2 Inv-loop μ-loop
+enum-told-2 c = search needs
+
+add-i : tie.Need-add-i Inv-loop μ-loop
+add-i c = search needs
+
+loop-less : tie.Need-loop-less Inv-loop μ-loop
+loop-less c = omega arith
+
+loop-again : tie.Need-loop-again Inv-loop μ-loop
+loop-again c =
+    let t = tried (c .before .before .before) in
+    let loop = c .before .before .before .before .before .before .before .loop in
+    (omega (arith, t .inside), passes t (loop .inv .1) (c .before .before .first-match .ensures) (c .enum-told2 .given .1))
+
+returns-2 : tie.Need-returns-2 Inv-loop μ-loop
+returns-2 c =
+    let a = c .before .before .before .before .before .before .args in
+    let loop = c .before .loop in
+    none-chosen (a .l) (a .image .now) (a .numbers .now) (a .nodes .now) (a .edges .now) (loop .i) (loop .inv .0)
+    (omega (arith, c .loop-test .left)) (loop .inv .1) _ refl
+
+pub first-rule-spec : {M : Type 1} → statement M
+first-rule-spec =
+    tie.close
+    (tie.spec
+    Inv-loop
+    μ-loop
+    loop-holds
+    shared-slice-read-wide
+    wide-requires
+    rule-part-requires
+    first-match-requires
+    enum-told
+    returns
+    enum-told-2
+    add-i
+    loop-less
+    loop-again
+    returns-2)

@@ -1,0 +1,42 @@
+-- A call of a rule set in lent bytes: what is known of the program before, and what is left after.
+-- Rests on ledger's Running and on the meaning's Commands.
+use mathlib.Core.Path.{_≡_}
+use mathlib.Core.Bool.{true}
+use mathlib.Core.Option.{some}
+use mathlib.Core.List.{List}
+use Prim.Native.Nat.{ℕ}
+use lib.ListN.{length}
+use lib.Dec.{ltb}
+use Rattle.meaning.specs.Basics.{every}
+use Rattle.meaning.specs.Image.{Program, program}
+use Rattle.meaning.specs.Commands.{Out, firstRule, call}
+use Rattle.meaning.specs.Calls.{journalRoom}
+use Rattle.meaning.specs.Laws.LegalCommands.{LegalRules}
+use Rattle.meaning.specs.declared.Layout.{Layout}
+use Rattle.meaning.specs.declared.Tally.{Tally}
+use Rattle.graph.specs.Graph.{hostOf}
+use Rattle.ledger.specs.Running.{stateOf, Running}
+use Rattle.calling.specs.declared.Ran.{Ran}
+
+-- the image is a program whose rules are legal
+pub record Programmed (image : List ℕ) : Type 0 where
+  pub tree : Program
+  pub is : program image ≡ some tree
+  pub legal : LegalRules (tree .rules)
+
+-- and the numbers are those of its rules
+pub record Listed (image numbers : List ℕ) : Type 0 where
+  pub programmed : Programmed image
+  pub exist : every (λ i. ltb i (length (programmed .tree .rules))) numbers ≡ true
+
+module _ (L : Layout) where
+  -- how a command ended, with the state that the bytes hold after it
+  abbrev pub outOf : Ran → List ℕ → List ℕ → List ℕ → Out
+  outOf r nodes edges journal = record { end = r .end; state = stateOf L nodes edges journal (r .tally) }
+
+  -- what a call of the rules of these numbers leaves: the definition's end and state, and bytes that run on
+  pub record Called (image numbers nodes edges journal : List ℕ) (t : Tally) (r : Ran) (nodes′ edges′ journal′ : List ℕ) : Type 0 where
+    pub right : (p : Program) → program image ≡ some p
+        → outOf r nodes′ edges′ journal′
+        ≡ call (L .atoms) (journalRoom L journal) (p .rules) (firstRule (p .rules) (hostOf L nodes edges) numbers) (stateOf L nodes edges journal t)
+    pub running : Running L nodes′ edges′ journal′ (r .tally .records)

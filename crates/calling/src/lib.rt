@@ -1,0 +1,118 @@
+// A call of a rule set: the first listed rule that has a match is applied; it fails if none has.
+ghost use mathlib.Core.Path.{_≡_};
+ghost use Rattle.graph.specs.Graph.{Legal};
+ghost use Rattle.ledger.specs.Running.{Running};
+ghost use Rattle.calling.specs.Called.{Listed, Called};
+ghost use Rattle.calling.specs.Choosing.{IsChoice, ranAfter};
+use applying::After;
+use ledger::Applied;
+use matching::Matched;
+use matching::Outcome;
+use meaning::End;
+use meaning::Layout;
+use meaning::Tally;
+
+// How a command ended, and the tally after it.
+pub struct Ran {
+    pub end: End,
+    pub tally: Tally,
+}
+
+// A rule's number and its first match. The number means something where there is one.
+pub struct Choice {
+    pub number: usize,
+    pub matched: Matched,
+}
+
+// The first of the rules of these numbers that has a match, with that match.
+pub fn first_rule(l: Layout, image: &[u8], numbers: &[u8], nodes: &[u8], edges: &[u8]) -> Choice
+    requires { ⌜ Legal l (now nodes) (now edges) ⌝ }
+    requires { ⌜ Listed (now image) (now numbers) ⌝ }
+    ensures { λ c. ⌜ IsChoice l (now (image .entry)) (now (numbers .entry)) (now (nodes .entry)) (now (edges .entry)) c ⌝ }
+{
+    let mut i: usize = 0;
+    while i < numbers.len() {
+        let number = fields::wide(numbers[i]);
+        let rule = references::parts::rule_part(image, number);
+        let matched = matching::first_match(l, nodes, edges, rule);
+        let outcome = matched.outcome;
+        match outcome {
+            Outcome::Match => {
+                return Choice { number, matched };
+            }
+            Outcome::NoMatch => {}
+        }
+        i += 1;
+    }
+    let slots = [0usize; 12];
+    let lens = [0usize; 6];
+    let atoms = [0u32; 48];
+    let matched = Matched {
+        outcome: Outcome::NoMatch,
+        slots,
+        lens,
+        atoms,
+    };
+    Choice { number: 0, matched }
+}
+
+// How an application ends the call, with the records that are used after it.
+fn after(t: Tally, a: After) -> Ran
+    ensures { λ r. ⌜ r ≡ ranAfter t a ⌝ }
+{
+    let next = tally::counted(t, a.records);
+    let applied = a.applied;
+    match applied {
+        Applied::Done => Ran {
+            end: End::Done,
+            tally: next,
+        },
+        Applied::Stopped(why) => Ran {
+            end: End::Stopped(why),
+            tally: next,
+        },
+    }
+}
+
+// What a rule set of these numbers does once it is entered.
+pub fn call(
+    l: Layout,
+    image: &[u8],
+    numbers: &[u8],
+    nodes: &mut [u8],
+    edges: &mut [u8],
+    journal: &mut [u8],
+    t: Tally,
+) -> Ran
+    requires { ⌜ Running l (now nodes) (now edges) (now journal) (t .records) ⌝ }
+    requires { ⌜ Listed (now image) (now numbers) ⌝ }
+    ensures { λ r. ⌜ Called l (now (image .entry)) (now (numbers .entry)) (now (nodes .entry)) (now (edges .entry)) (now (journal .entry)) t r (now (nodes .exit)) (now (edges .exit)) (now (journal .exit)) ⌝ }
+{
+    let c = first_rule(l, image, numbers, &nodes[..], &edges[..]);
+    let m = c.matched;
+    let outcome = m.outcome;
+    match outcome {
+        Outcome::Match => {
+            let rule = references::parts::rule_part(image, c.number);
+            let slots = m.slots;
+            let lens = m.lens;
+            let atoms = m.atoms;
+            let a = applying::apply(
+                l,
+                nodes,
+                edges,
+                journal,
+                t.records,
+                rule,
+                &slots,
+                &lens,
+                &atoms,
+            );
+            after(t, a)
+        }
+        Outcome::NoMatch => Ran {
+            end: End::Failed,
+            tally: t,
+        },
+    }
+}

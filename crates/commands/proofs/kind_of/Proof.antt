@@ -1,0 +1,47 @@
+-- `kind_of` meets its contract.
+use mathlib.Core.Path.{_≡_}
+use Prim.Native.Nat.{ℕ, _+_, _≤_}
+use native.Mathlib.Omega.{arith}
+use borrow.Author.Needs.{needs}
+use Rattle.meaning.specs.Basics.{choose}
+use Rattle.commands.proofs.kind_of.Statement.{statement}
+use Rattle.commands.proofs.kind_of.Tie as tie
+
+-- a number that is none of four in a row lies behind them
+past : (low tag : ℕ) → (tag ≡ low → ⊥) → (tag ≡ low + 1 → ⊥) → (tag ≡ low + 2 → ⊥) → (tag ≡ low + 3 → ⊥) → low ≤ tag → low + 4 ≤ tag
+past low tag h0 h1 h2 h3 h = omega arith
+
+-- the tag that is none of the others
+last : (tag : ℕ) → (tag ≡ 84 → ⊥) → (tag ≡ 85 → ⊥) → (tag ≡ 86 → ⊥) → 84 ≤ tag → tag ≤ 87 → tag ≡ 87
+last tag h4 h5 h6 low high = omega arith
+
+returns : tie.Need-returns
+returns c = search needs
+
+returns-2 : tie.Need-returns-2
+returns-2 c = search needs
+
+returns-3 : tie.Need-returns-3
+unfolding choose
+returns-3 c = search needs
+
+returns-4 : tie.Need-returns-4
+unfolding choose
+returns-4 c = search needs
+
+returns-5 : tie.Need-returns-5
+returns-5 c = search needs
+
+returns-6 : tie.Need-returns-6
+returns-6 c = search needs
+
+returns-7 : tie.Need-returns-7
+returns-7 c = search needs
+
+returns-8 : tie.Need-returns-8
+returns-8 c low high = last _ (c .match .rest .0 .0 .1) (c .match .rest .0 .1) (c .match .rest .1) (past 80 _ (c .match .rest .0 .0 .0 .0 .0 .0 .1) (c .match .rest .0 .0 .0 .0 .0 .1) (c .match .rest .0 .0 .0 .0 .1) (c .match .rest .0 .0 .0 .1) low) high
+
+pub kind-of-spec : {M : Type 1} → statement M
+kind-of-spec =
+    tie.close
+    (tie.spec returns returns-2 returns-3 returns-4 returns-5 returns-6 returns-7 returns-8)

@@ -1,0 +1,308 @@
+// Running the program of an image, from bytes that hold a state. Running a command, a row of commands, a guarded command and
+// a loop call each other, over parts of the lent image; what needs no call of these is outside the cycle.
+ghost use mathlib.Core.Path.{_≡_};
+ghost use Prim.Native.Nat.{_+_, _≤_};
+ghost use Rattle.ledger.specs.Running.{Running};
+ghost use Rattle.commands.specs.Program.{Runnable, RunsProgram};
+ghost use Rattle.commands.specs.Cycle.{Tagged, isDone, partAfter, Begun, Known, Row, Comes, runsCommand, runsRow, runsGuarded, runsLoop, Restored, Settled, Closed};
+use calling::Ran;
+use fields::Found;
+use meaning::End;
+use meaning::Layout;
+use meaning::Stop;
+use meaning::Tally;
+use references::parts;
+
+// How a command is run.
+pub enum Kind {
+    RuleSet,
+    Sequence,
+    // A try where the flag is set, which keeps the changes of a guard that succeeds, and else an if.
+    Guarded(bool),
+    Loop,
+    // Skip, fail and break: how they end.
+    Leaf(End),
+}
+
+// The kind that a command's tag says.
+fn kind_of(tag: u8) -> Kind
+    ensures { λ r. ⌜ (80 ≤ tag → tag ≤ 87 → Tagged tag r) ⌝ }
+{
+    match tag {
+        0x50 => Kind::RuleSet,
+        0x51 => Kind::Sequence,
+        0x52 => Kind::Guarded(false),
+        0x53 => Kind::Guarded(true),
+        0x54 => Kind::Loop,
+        0x55 => Kind::Leaf(End::Done),
+        0x56 => Kind::Leaf(End::Failed),
+        _ => Kind::Leaf(End::Broke),
+    }
+}
+
+// Whether a row goes on with its next command, and a loop with its next round.
+fn goes_on(end: End) -> bool
+    ensures { λ r. ⌜ r ≡ isDone end ⌝ }
+{
+    match end {
+        End::Done => true,
+        End::Failed => false,
+        End::Broke => false,
+        End::Stopped(_) => false,
+    }
+}
+
+// The part of an if or a try that follows its guard, by the guard's end: the second, the third, or 0 if none does.
+fn part_after(end: End) -> usize
+    ensures { λ r. ⌜ r ≡ partAfter end ⌝ }
+{
+    match end {
+        End::Done => 1,
+        End::Failed => 2,
+        End::Broke => 0,
+        End::Stopped(_) => 0,
+    }
+}
+
+// Undoes what was recorded beyond `mark` records.
+fn back(
+    l: Layout,
+    nodes: &mut [u8],
+    edges: &mut [u8],
+    journal: &mut [u8],
+    t: Tally,
+    mark: usize,
+) -> Tally
+    requires { ⌜ Running l (now nodes) (now edges) (now journal) (t .records) ⌝ }
+    requires { ⌜ mark ≤ t .records ⌝ }
+    ensures { λ r. ⌜ Restored l (now (nodes .entry)) (now (edges .entry)) (now (journal .entry)) t mark r (now (nodes .exit)) (now (edges .exit)) (now (journal .exit)) ⌝ }
+{
+    undoing::back_to(l, nodes, edges, journal, t.records, mark);
+    tally::counted(t, mark)
+}
+
+// After a guard that succeeded or failed: its changes are undone, unless it succeeded and they are kept.
+fn settle(
+    l: Layout,
+    keep: bool,
+    nodes: &mut [u8],
+    edges: &mut [u8],
+    journal: &mut [u8],
+    ran: Ran,
+    mark: usize,
+) -> Tally
+    requires { ⌜ Running l (now nodes) (now edges) (now journal) (ran .tally .records) ⌝ }
+    requires { ⌜ mark ≤ ran .tally .records ⌝ }
+    ensures { λ r. ⌜ Settled l keep (now (nodes .entry)) (now (edges .entry)) (now (journal .entry)) ran mark r (now (nodes .exit)) (now (edges .exit)) (now (journal .exit)) ⌝ }
+{
+    let end = ran.end;
+    let t = ran.tally;
+    match end {
+        End::Done => {
+            if keep {
+                return t;
+            }
+            back(l, nodes, edges, journal, t, mark)
+        }
+        End::Failed => back(l, nodes, edges, journal, t, mark),
+        End::Broke => t,
+        End::Stopped(_) => t,
+    }
+}
+
+// After the last round of a loop: a body that failed is undone, and it and a break end the loop.
+fn close(
+    l: Layout,
+    nodes: &mut [u8],
+    edges: &mut [u8],
+    journal: &mut [u8],
+    ran: Ran,
+    mark: usize,
+) -> Ran
+    requires { ⌜ Running l (now nodes) (now edges) (now journal) (ran .tally .records) ⌝ }
+    requires { ⌜ mark ≤ ran .tally .records ⌝ }
+    ensures { λ r. ⌜ Closed l (now (nodes .entry)) (now (edges .entry)) (now (journal .entry)) ran mark r (now (nodes .exit)) (now (edges .exit)) (now (journal .exit)) ⌝ }
+{
+    let end = ran.end;
+    let t = ran.tally;
+    match end {
+        End::Done => ran,
+        End::Failed => {
+            let undone = back(l, nodes, edges, journal, t, mark);
+            Ran {
+                end: End::Done,
+                tally: undone,
+            }
+        }
+        End::Broke => Ran {
+            end: End::Done,
+            tally: t,
+        },
+        End::Stopped(_) => ran,
+    }
+}
+
+// Enters and runs a command, from its tag and payload.
+fn run_command(
+    l: Layout,
+    image: &[u8],
+    tag: u8,
+    p: &[u8],
+    nodes: &mut [u8],
+    edges: &mut [u8],
+    journal: &mut [u8],
+    t: Tally,
+) -> Ran
+    requires { ⌜ Begun l (now nodes) (now edges) (now journal) t ⌝ }
+    requires { ⌜ Known (now image) tag (now p) ⌝ }
+    ensures { λ r. ⌜ Comes l (Known (now (image .entry)) tag (now (p .entry))) (runsCommand l) (now (nodes .entry)) (now (edges .entry)) (now (journal .entry)) t r (now (nodes .exit)) (now (edges .exit)) (now (journal .exit)) ⌝ }
+{
+    let fuel = t.fuel;
+    if fuel == 0 {
+        return Ran {
+            end: End::Stopped(Stop::OutOfFuel),
+            tally: t,
+        };
+    }
+    let spent = tally::entered(t);
+    let kind = kind_of(tag);
+    match kind {
+        Kind::RuleSet => calling::call(l, image, p, nodes, edges, journal, spent),
+        Kind::Sequence => run_row(l, image, p, nodes, edges, journal, spent),
+        Kind::Guarded(keep) => run_guarded(l, image, keep, p, nodes, edges, journal, spent),
+        Kind::Loop => run_loop(l, image, p, nodes, edges, journal, spent),
+        Kind::Leaf(end) => Ran {
+            end: end,
+            tally: spent,
+        },
+    }
+}
+
+// Commands one after the other, until one does not succeed.
+fn run_row(
+    l: Layout,
+    image: &[u8],
+    p: &[u8],
+    nodes: &mut [u8],
+    edges: &mut [u8],
+    journal: &mut [u8],
+    t: Tally,
+) -> Ran
+    requires { ⌜ Begun l (now nodes) (now edges) (now journal) t ⌝ }
+    requires { ⌜ Row 1 (now image) (now p) ⌝ }
+    ensures { λ r. ⌜ Comes l (Row 1 (now (image .entry)) (now (p .entry))) (runsRow l) (now (nodes .entry)) (now (edges .entry)) (now (journal .entry)) t r (now (nodes .exit)) (now (edges .exit)) (now (journal .exit)) ⌝ }
+{
+    let mut at: usize = 0;
+    let mut now_t = t;
+    while at < p.len() {
+        let found = fields::read_field(p, at);
+        let Found::Field(tag, start, end) = found else {
+            return Ran {
+                end: End::Done,
+                tally: now_t,
+            };
+        };
+        let part = fields::part(p, start, end);
+        let ran = run_command(l, image, tag, part, nodes, edges, journal, now_t);
+        let how = ran.end;
+        if goes_on(how) {
+            at = end;
+            now_t = ran.tally;
+        } else {
+            return ran;
+        }
+    }
+    Ran {
+        end: End::Done,
+        tally: now_t,
+    }
+}
+
+// An if or a try: the guard, and then the second or the third part.
+fn run_guarded(
+    l: Layout,
+    image: &[u8],
+    keep: bool,
+    p: &[u8],
+    nodes: &mut [u8],
+    edges: &mut [u8],
+    journal: &mut [u8],
+    t: Tally,
+) -> Ran
+    requires { ⌜ Begun l (now nodes) (now edges) (now journal) t ⌝ }
+    requires { ⌜ Row 3 (now image) (now p) ⌝ }
+    ensures { λ r. ⌜ Comes l (Row 3 (now (image .entry)) (now (p .entry))) (runsGuarded l keep) (now (nodes .entry)) (now (edges .entry)) (now (journal .entry)) t r (now (nodes .exit)) (now (edges .exit)) (now (journal .exit)) ⌝ }
+{
+    let mark = t.records;
+    let guard = parts::nth_part(p, 0);
+    let ran = run_command(
+        l,
+        image,
+        parts::nth_tag(p, 0),
+        guard,
+        nodes,
+        edges,
+        journal,
+        t,
+    );
+    let how = ran.end;
+    let which = part_after(how);
+    if which == 0 {
+        return ran;
+    }
+    let part = parts::nth_part(p, which);
+    let tag = parts::nth_tag(p, which);
+    let after = settle(l, keep, nodes, edges, journal, ran, mark);
+    run_command(l, image, tag, part, nodes, edges, journal, after)
+}
+
+// A loop: its body again and again, until it does not succeed.
+fn run_loop(
+    l: Layout,
+    image: &[u8],
+    p: &[u8],
+    nodes: &mut [u8],
+    edges: &mut [u8],
+    journal: &mut [u8],
+    t: Tally,
+) -> Ran
+    requires { ⌜ Begun l (now nodes) (now edges) (now journal) t ⌝ }
+    requires { ⌜ Row 1 (now image) (now p) ⌝ }
+    ensures { λ r. ⌜ Comes l (Row 1 (now (image .entry)) (now (p .entry))) (runsLoop l) (now (nodes .entry)) (now (edges .entry)) (now (journal .entry)) t r (now (nodes .exit)) (now (edges .exit)) (now (journal .exit)) ⌝ }
+{
+    let tag = parts::nth_tag(p, 0);
+    let body = parts::nth_part(p, 0);
+    let mut now_t = t;
+    while now_t.fuel > 0 {
+        let mark = now_t.records;
+        let ran = run_command(l, image, tag, body, nodes, edges, journal, now_t);
+        let how = ran.end;
+        if goes_on(how) {
+            now_t = ran.tally;
+        } else {
+            return close(l, nodes, edges, journal, ran, mark);
+        }
+    }
+    Ran {
+        end: End::Stopped(Stop::OutOfFuel),
+        tally: now_t,
+    }
+}
+
+// Runs the main command of an image.
+pub fn run_program(
+    l: Layout,
+    image: &[u8],
+    nodes: &mut [u8],
+    edges: &mut [u8],
+    journal: &mut [u8],
+    t: Tally,
+) -> Ran
+    requires { ⌜ Running l (now nodes) (now edges) (now journal) (t .records) ⌝ }
+    requires { ⌜ Runnable (now image) × (t .fuel + t .steps ≤ 1000000) ⌝ }
+    ensures { λ r. ⌜ RunsProgram l (now (image .entry)) (now (nodes .entry)) (now (edges .entry)) (now (journal .entry)) t r (now (nodes .exit)) (now (edges .exit)) (now (journal .exit)) ⌝ }
+{
+    let tag = parts::main_tag(image);
+    let part = parts::main_part(image);
+    run_command(l, image, tag, part, nodes, edges, journal, t)
+}

@@ -1,0 +1,46 @@
+-- `repeated` ends: the rounds that are left fall. Its answer is that of the last round.
+use native.Mathlib.Omega.{arith}
+use borrow.Author.Needs.{needs}
+use Rattle.match_bench.proofs.repeated.Statement.{statement}
+use Rattle.match_bench.proofs.repeated.Tie as tie
+
+abbrev Inv-loop : tie.InvT-loop
+Inv-loop nodes edges image n left₀ left = Unit {0}
+
+abbrev μ-loop : tie.MeasureT-loop
+μ-loop nodes edges image n left₀ left = left
+
+loop-holds : tie.Need-loop-holds Inv-loop μ-loop
+loop-holds c = tt
+
+rule-match-requires : tie.Need-rule-match-requires Inv-loop μ-loop
+rule-match-requires c κs = search needs
+
+sub-left : tie.Need-sub-left Inv-loop μ-loop
+sub-left c = search needs
+
+loop-less : tie.Need-loop-less Inv-loop μ-loop
+loop-less c = omega arith
+
+loop-again : tie.Need-loop-again Inv-loop μ-loop
+loop-again c = tt
+
+rule-match-requires-2 : tie.Need-rule-match-requires-2 Inv-loop μ-loop
+rule-match-requires-2 c κs = search needs
+
+returns : tie.Need-returns Inv-loop μ-loop
+returns c = search needs
+
+pub repeated-spec : {M : Type 1} → statement M
+repeated-spec =
+    tie.close
+    (tie.spec
+    Inv-loop
+    μ-loop
+    loop-holds
+    rule-match-requires
+    sub-left
+    loop-less
+    loop-again
+    rule-match-requires-2
+    returns)

@@ -1,0 +1,40 @@
+-- Whether a run would start, and what the first match of a rule of its image is. Rests on the meaning's Calls and FirstMatch.
+use mathlib.Core.Path.{_≡_}
+use mathlib.Core.Bool.{Bool, true, false}
+use mathlib.Core.Option.{Option, some, none}
+use mathlib.Core.List.{List, []}
+use Prim.Native.Nat.{ℕ}
+use lib.ListN.{getD, take}
+use Rattle.meaning.specs.Basics.{absent}
+use Rattle.meaning.specs.Layout.{base}
+use Rattle.meaning.specs.Image.{Rule, program}
+use Rattle.meaning.specs.References.{names}
+use Rattle.meaning.specs.FirstMatch.{assigned, firstMatch}
+use Rattle.meaning.specs.Calls.{runRefusal, reportOf}
+use Rattle.meaning.specs.declared.Refusal.{Refusal}
+use Rattle.references.specs.Runs.{For}
+use Rattle.graph.specs.Graph.{hostOf}
+use Rattle.matching.specs.Next.{total, slotsAt}
+use Rattle.matching.specs.Values.{Arrays, valuesOf}
+use Rattle.matching.specs.declared.Outcome.the-variants.{Match}
+use Rattle.matching.specs.declared.Matched.{Matched}
+
+unfoldable pub isFine : Option Refusal → Bool
+isFine none = true
+isFine (some w) = false
+
+-- no number from 9 to 18 applies to the host and the image, at no fuel and no journal
+unfoldable pub starts : List ℕ → List ℕ → List ℕ → Bool
+starts nodes edges image = isFine (runRefusal base nodes edges [] image 0 (reportOf 0 0))
+
+-- the first match of the rule of number i, with the values of the variables that occur on the left
+pub record Answers (nodes edges image : List ℕ) (i : ℕ) (x : Matched) : Type 0 where
+  pub arrays : Arrays (x .lens) (x .atoms)
+  pub right : For (program image) (λ p. (d : Rule) → slotsAt (take (total (getD (p .rules) i d)) (x .slots)) (x .outcome)
+      ≡ firstMatch (hostOf base nodes edges) (getD (p .rules) i d))
+  pub values : For (program image) (λ p. (d : Rule) → x .outcome ≡ Match → (v : ℕ)
+      → absent v (names (getD (p .rules) i d .left)) ≡ false → valuesOf (x .lens) (x .atoms) v ≡ assigned
+      (hostOf base nodes edges)
+      (getD (p .rules) i d)
+      (take (total (getD (p .rules) i d)) (x .slots))
+      v)

@@ -1,0 +1,105 @@
+// A host and a rule of an image: whether a run of the image on the host would start, and then the rule's first match.
+ghost use mathlib.Core.Path.{_≡_};
+ghost use mathlib.Core.Bool.{true};
+ghost use lib.ListN.{length};
+ghost use Prim.Native.Nat.{_+_, _<_, _≤_};
+ghost use Rattle.meaning.specs.Image.{program};
+ghost use Rattle.references.specs.Runs.{For};
+ghost use Rattle.pairs.specs.Pairs.{starts as doesStart, Answers};
+use host::Checked;
+use matching::Matched;
+use matching::Outcome;
+use meaning::Layout;
+
+// Whether a run of the image on the host would start, with no fuel and no journal.
+pub fn starts(nodes: &[u8], edges: &[u8], image: &[u8]) -> bool
+    ensures { λ r. ⌜ r ≡ doesStart (now (nodes .entry)) (now (edges .entry)) (now (image .entry)) ⌝ }
+{
+    let report = [0u8; 8];
+    let check = refusal::run_refusal(nodes, edges, &nodes[..0], image, 0, &report);
+    match check {
+        Checked::Fine => true,
+        Checked::Refused(why) => false,
+    }
+}
+
+// The first match of the rule of number i.
+pub fn rule_match(nodes: &[u8], edges: &[u8], image: &[u8], i: usize) -> Matched
+    requires { ⌜ doesStart (now nodes) (now edges) (now image) ≡ true ⌝ }
+    requires { ⌜ For (program (now image)) (λ p. i < length (p .rules)) ⌝ }
+    ensures { λ x. ⌜ Answers (now (nodes .entry)) (now (edges .entry)) (now (image .entry)) i x ⌝ }
+{
+    let rule = references::parts::rule_part(image, i);
+    matching::first_match(Layout::base(), nodes, edges, rule)
+}
+
+// Writing.
+
+fn wide(x: u32) -> u64 {
+    x as u64
+}
+
+// Writes a number behind a blank.
+fn write_number(x: u64) {
+    io::write_all(1, b" ");
+    io::print_decimal(1, x);
+}
+
+fn write_slots(slots: [usize; 12], n: usize) {
+    let mut i: usize = 0;
+    while i < 12 {
+        if i >= n {
+            return;
+        }
+        write_number(slots[i] as u64);
+        i += 1;
+    }
+}
+
+// Writes the value of a variable: as many atoms from a place on.
+fn write_value(atoms: [u32; 48], start: usize, n: usize)
+    requires { ⌜ start + 8 ≤ 48 ⌝ }
+{
+    io::write_all(1, b" =");
+    let mut j: usize = 0;
+    while j < 8 {
+        if j >= n {
+            return;
+        }
+        write_number(wide(atoms[start + j]));
+        j += 1;
+    }
+}
+
+fn write_values(lens: [usize; 6], atoms: [u32; 48], n: usize) {
+    let mut v: usize = 0;
+    while v < 6 {
+        if v >= n {
+            return;
+        }
+        write_value(atoms, 8 * v, lens[v]);
+        v += 1;
+    }
+}
+
+// Writes a rule's match on a line: the slots, node slots first, then behind a sign the atoms of each variable; or that there is
+// none.
+pub fn write_match(rule: &[u8], found: Matched) {
+    let items = references::parts::count_fields(references::parts::left_part(rule));
+    let variables = references::parts::variables_part(rule);
+    let outcome = found.outcome;
+    match outcome {
+        Outcome::Match => {
+            let slots = found.slots;
+            let lens = found.lens;
+            let atoms = found.atoms;
+            io::write_all(1, b"match");
+            write_slots(slots, items);
+            write_values(lens, atoms, variables.len());
+            io::write_all(1, b"\n");
+        }
+        Outcome::NoMatch => {
+            io::write_all(1, b"none\n");
+        }
+    }
+}
