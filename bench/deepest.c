@@ -78,7 +78,8 @@ static void measure(const char *name)
     program = part[4];
     program_bytes = size[4];
     size_t refused = touched(0), whole = touched(sizeof report);
-    printf("%-40s answer %2u: %6zu bytes of stack (%zu of them for a call that is refused at once)\n", name,
+    const char *last = strrchr(name, (char)47);
+    printf("%-26s answer %2u: %6zu bytes of stack (%zu of them for a call that is refused at once)\n", last ? last + 1 : name,
            (unsigned)answer, whole, refused);
 }
 

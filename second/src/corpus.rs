@@ -25,6 +25,7 @@ mod statistics;
 mod values;
 
 use crate::encode::{field, runner_input};
+use crate::families::program_images;
 use crate::listing::listing;
 use crate::random::Random;
 use crate::tree::Program;
@@ -36,6 +37,10 @@ pub use statistics::{Counter, Statistics};
 
 /// The tag before each image of a corpus.
 pub const IMAGE_TAG: u8 = 0x06;
+
+/// The seed of the stored corpus, and how many of its images come from there.
+pub const STORED_SEED: u64 = 1;
+pub const STORED_COUNT: u64 = 2231;
 
 /// One image among so many is a large one.
 const LARGE_EVERY: u64 = 200;
@@ -52,6 +57,13 @@ pub fn image(seed: u64, index: u64) -> Vec<u8> {
 /// The first `count` images of a seed.
 pub fn images(seed: u64, count: u64) -> Vec<Vec<u8>> {
     (0..count).map(|index| image(seed, index)).collect()
+}
+
+/// The images of the stored corpus: those of a seed, then every published program on every one of its hosts.
+pub fn stored_images() -> Vec<Vec<u8>> {
+    let mut stored = images(STORED_SEED, STORED_COUNT);
+    stored.extend(program_images());
+    stored
 }
 
 /// How many images are the same for each seed. They come first.

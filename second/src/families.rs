@@ -9,7 +9,10 @@ mod hosts;
 pub use graph::{Edge, Graph, Node};
 
 use crate::calls::MOST_FUEL;
+use crate::encode::{self, RunnerInput};
 use crate::host::limit;
+use crate::text;
+use crate::tree::Program;
 
 /// A published program and what it expects of a host.
 #[derive(Clone, Copy, Debug)]
@@ -114,4 +117,31 @@ pub fn program_runs() -> Vec<ProgramRun> {
     .into_iter()
     .flat_map(|runs| runs.listed)
     .collect()
+}
+
+/// Every published program on every one of its hosts, as runner images in the same order.
+pub fn program_images() -> Vec<Vec<u8>> {
+    let images = PROGRAMS.map(|program| (program.name, encode::program(&assembled(&program))));
+    let image_of = |name: &str| images.iter().find(|(program, _)| *program == name).expect("the program is published");
+    let image = |run: ProgramRun| run.runner_image(&image_of(run.program).1);
+    program_runs().into_iter().map(image).collect()
+}
+
+/// The tree of a published program.
+pub fn assembled(program: &Published) -> Program {
+    let file_name = format!("{0}/{0}.gp2", program.name);
+    text::assemble_program(&file_name, program.source).unwrap_or_else(|complaint| panic!("{complaint}"))
+}
+
+impl ProgramRun {
+    /// The runner image of this run of a program with that image.
+    pub fn runner_image(&self, program: &[u8]) -> Vec<u8> {
+        encode::runner_input(&RunnerInput {
+            nodes: self.nodes.clone(),
+            edges: self.edges.clone(),
+            records: self.records,
+            fuel: self.fuel,
+            program: program.to_vec(),
+        })
+    }
 }

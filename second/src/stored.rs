@@ -22,6 +22,8 @@ pub struct Stored {
 /// The stored inputs by the name of their program.
 pub fn named(name: &str) -> Option<Stored> {
     match name {
+        "corpus" => Some(stored_corpus()),
+        "runner" => Some(case_p()),
         "undo_cases" => Some(undo_cases()),
         "refusal_cases" => Some(refusal_cases()),
         "match_cases" => Some(match_cases()),
@@ -30,7 +32,21 @@ pub fn named(name: &str) -> Option<Stored> {
     }
 }
 
-pub const NAMES: [&str; 4] = ["match_bench", "match_cases", "refusal_cases", "undo_cases"];
+pub const NAMES: [&str; 6] = ["corpus", "match_bench", "match_cases", "refusal_cases", "runner", "undo_cases"];
+
+/// All images of the stored corpus, and their listings one behind the other.
+pub fn stored_corpus() -> Stored {
+    let images = corpus::stored_images();
+    let parts: Vec<&[u8]> = images.iter().map(Vec::as_slice).collect();
+    Stored { stdin: corpus::joined(&images), stdout: corpus::listings(&parts) }
+}
+
+/// Case P of document 01, whose number among the images of every seed is 16.
+pub fn case_p() -> Stored {
+    let image = corpus::image(corpus::STORED_SEED, 16);
+    let stdout = listing::listing(&image);
+    Stored { stdin: image, stdout }
+}
 
 /// What a test program reads at most.
 const MOST_BYTES: usize = 262_144;

@@ -1,27 +1,25 @@
-//! The stored corpus is what its seed gives, its listings are what the second interpreter gives, and running it
-//! exercises everything.
+//! The stored corpus is what its seed and the published programs give, its listings are what the second interpreter gives, and
+//! running it exercises everything.
 
 use second::corpus::{
-    fixed_count, image, images, joined, legal_program, listings, split, Statistics,
+    fixed_count, image, images, joined, legal_program, listings, split, stored_images, Statistics,
+    STORED_COUNT, STORED_SEED as SEED,
 };
 use second::encode;
 use second::listing::{listing, read_input};
 use second::random::Random;
 use second::{decode, placement, references};
 
-/// The seed and the number of images of the stored corpus.
-const SEED: u64 = 1;
-const COUNT: u64 = 2400;
-
+/// A file of the stored corpus: the test program reads the images and must write the listings.
 fn stored(name: &str) -> Vec<u8> {
-    let path = format!("{}/../corpus/{name}", env!("CARGO_MANIFEST_DIR"));
+    let path = format!("{}/../crates/corpus/{name}", env!("CARGO_MANIFEST_DIR"));
     std::fs::read(&path).unwrap_or_else(|error| panic!("{path}: {error}"))
 }
 
 #[test]
-fn the_stored_corpus_is_what_the_seed_gives() {
-    let made = images(SEED, COUNT);
-    let corpus = stored("corpus.bin");
+fn the_stored_corpus_is_what_the_seed_and_the_programs_give() {
+    let made = stored_images();
+    let corpus = stored("stdin");
     let parts = split(&corpus).unwrap();
     let same = made
         .iter()
@@ -33,8 +31,8 @@ fn the_stored_corpus_is_what_the_seed_gives() {
 
 #[test]
 fn the_stored_listings_are_what_the_interpreter_gives() {
-    let corpus = stored("corpus.bin");
-    let text = String::from_utf8(stored("corpus.listings")).unwrap();
+    let corpus = stored("stdin");
+    let text = String::from_utf8(stored("stdout")).unwrap();
     let mut rest = text.as_str();
     for (index, image) in split(&corpus).unwrap().into_iter().enumerate() {
         let given = listing(image);
@@ -56,10 +54,10 @@ fn head(text: &str) -> String {
 
 #[test]
 fn the_stored_corpus_exercises_everything() {
-    let corpus = stored("corpus.bin");
+    let corpus = stored("stdin");
     let parts = split(&corpus).unwrap();
     let figures = Statistics::of(&parts);
-    assert!(corpus.len() <= 2_100_000, "{} bytes", corpus.len());
+    assert!(corpus.len() <= 2_400_000, "{} bytes", corpus.len());
     for answer in [0, 1, 2, 3, 4, 5, 6, 10, 11, 13, 14, 15, 16, 17, 18] {
         assert!(
             figures.answers.contains_key(&answer),
@@ -88,7 +86,7 @@ fn the_stored_corpus_exercises_everything() {
 
 #[test]
 fn the_stored_corpus_reaches_the_limits() {
-    let corpus = stored("corpus.bin");
+    let corpus = stored("stdin");
     let parts = split(&corpus).unwrap();
     let inputs: Vec<_> = parts.iter().filter_map(|image| read_input(image)).collect();
     let starts = |answer: &str| {
@@ -107,12 +105,15 @@ fn the_stored_corpus_reaches_the_limits() {
 
 #[test]
 fn the_page_beside_the_corpus_has_its_figures() {
-    let corpus = stored("corpus.bin");
+    let corpus = stored("stdin");
     let page = String::from_utf8(stored("README.md")).unwrap();
     let figures = Statistics::of(&split(&corpus).unwrap()).to_string();
     assert!(page.contains(&figures), "the figures are\n{figures}");
     let fixed = format!("The first {} images", fixed_count());
     assert!(page.contains(&fixed), "the page should say: {fixed}");
+    let published = split(&corpus).unwrap().len() as u64 - STORED_COUNT;
+    let last = format!("The last {published} images");
+    assert!(page.contains(&last), "the page should say: {last}");
 }
 
 /// Answer, steps and records of cases 1 to 15 and P of document 01; case 4 has two.

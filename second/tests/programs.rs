@@ -7,8 +7,8 @@ use std::collections::{BTreeMap, BTreeSet, VecDeque};
 use std::path::{Path, PathBuf};
 
 use second::calls::{self, Outcome};
-use second::families::{self, Edge, Input, Node, ProgramRun, Published, PROGRAMS};
-use second::tree::{mark, Operand, Program, Relation, Test, TestKind};
+use second::families::{self, assembled, Edge, Input, Node, ProgramRun, Published, PROGRAMS};
+use second::tree::{mark, Operand, Relation, Test, TestKind};
 use second::{encode, text};
 
 // Graphs as tables hold them.
@@ -308,11 +308,6 @@ fn spans(before: &Graph, left: &Left) -> Result<(), String> {
 
 // Running.
 
-fn assembled(program: &Published) -> Program {
-    let file_name = format!("{0}/{0}.gp2", program.name);
-    text::assemble_program(&file_name, program.source).unwrap_or_else(|complaint| panic!("{complaint}"))
-}
-
 fn image_of(program: &Published) -> Vec<u8> {
     encode::program(&assembled(program))
 }
@@ -459,11 +454,10 @@ fn every_rule_is_needed_by_some_host() {
 fn listed_runs_can_be_told_apart_and_stored() {
     let mut names = BTreeSet::new();
     for program_run in families::program_runs() {
-        let ProgramRun { program, host_name, nodes, edges, fuel, records, .. } = program_run;
+        let ProgramRun { program, host_name, .. } = &program_run;
         let image = image_of(families::published(program).expect("the program is published"));
-        let input = encode::RunnerInput { nodes, edges, records, fuel, program: image };
-        assert!(encode::runner_input(&input).len() <= usize::from(u16::MAX), "{program} on {host_name} is too long");
-        assert!(names.insert((program, host_name.clone())), "{program} twice on {host_name}");
+        assert!(program_run.runner_image(&image).len() <= usize::from(u16::MAX), "{program} on {host_name} is too long");
+        assert!(names.insert((*program, host_name.clone())), "{program} twice on {host_name}");
     }
 }
 

@@ -1,5 +1,5 @@
-//! The second interpreter's program: it runs an image and prints the listing, makes a corpus, or writes the stored inputs of
-//! the test programs.
+//! The second interpreter's program: it runs an image and prints the listing, makes a corpus, prints the figures of one, or
+//! writes the stored inputs of the test programs.
 
 use std::io::{Read, Write};
 use std::process::ExitCode;
@@ -8,6 +8,7 @@ use second::{corpus, listing, stored};
 
 const USAGE: &str = "usage: second run IMAGE|-
        second corpus --seed S --count N [-o FILE] [--listings FILE]
+       second figures CORPUS
        second stored PROGRAM FOLDER";
 
 fn main() -> ExitCode {
@@ -26,6 +27,8 @@ fn chosen(arguments: &[String]) -> Result<(), String> {
         [word, image] if word == "run" => run(image),
         [word, ..] if word == "run" => Err(format!("run takes one image\n{USAGE}")),
         [word, rest @ ..] if word == "corpus" => corpus::main(rest),
+        [word, file] if word == "figures" => figures(file),
+        [word, ..] if word == "figures" => Err(format!("figures takes one corpus\n{USAGE}")),
         [word, name, folder] if word == "stored" => store(name, folder),
         [word, ..] if word == "stored" => Err(format!("stored takes a program and a folder\n{USAGE}")),
         [word, ..] => Err(format!("{word} is no subcommand\n{USAGE}")),
@@ -35,11 +38,21 @@ fn chosen(arguments: &[String]) -> Result<(), String> {
 
 fn run(image: &str) -> Result<(), String> {
     let bytes = read(image).map_err(|error| format!("{image} can't be read: {error}"))?;
-    let text = listing::listing(&bytes);
+    print("the listing", &listing::listing(&bytes))
+}
+
+/// Prints what running the images of a corpus exercises.
+fn figures(file: &str) -> Result<(), String> {
+    let corpus = read(file).map_err(|error| format!("{file} can't be read: {error}"))?;
+    let images = corpus::split(&corpus).map_err(|place| format!("{file}, {place}"))?;
+    print("the figures", &corpus::Statistics::of(&images).to_string())
+}
+
+fn print(what: &str, text: &str) -> Result<(), String> {
     let mut out = std::io::stdout();
     out.write_all(text.as_bytes())
         .and_then(|()| out.flush())
-        .map_err(|error| format!("the listing can't be written: {error}"))
+        .map_err(|error| format!("{what} can't be written: {error}"))
 }
 
 /// Writes `stdin` and `stdout` of a test program into a folder.

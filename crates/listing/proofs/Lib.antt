@@ -1,0 +1,6 @@
+mod Writing
+mod Walks
+mod Lines
+mod Decimals
+mod Inputs
+mod Finished

@@ -1,0 +1,50 @@
+-- `put_outcome` meets its contract: the first line alone, or the graph behind it.
+use native.Mathlib.Omega.{arith}
+use borrow.Author.Needs.{needs}
+use Rattle.listing.proofs.Lines.{outcome-other, outcome-result}
+use Rattle.listing.proofs.put_outcome.Statement.{statement}
+use Rattle.listing.proofs.put_outcome.Tie as tie
+
+put-answer-requires : tie.Need-put-answer-requires
+put-answer-requires c κs = search needs
+
+put-nodes-requires : tie.Need-put-nodes-requires
+put-nodes-requires c κs =
+    let s = c .before .before .before .before .before .before .before .before .before .before in
+    let if1 = c .before .if1 in
+    ((s .pre .1 .1 (if1 .taken)) .legal, omega (arith, (s .pre .1 .1 (if1 .taken)) .room, s .pre .0, c .before .before .before .before .put-answer .ensures .short))
+
+put-edges-requires : tie.Need-put-edges-requires
+put-edges-requires c κs =
+    let s = c .before .before .before .before .before .before .before .before .before .before .before .before .before .before in
+    let if1 = c .before .before .before .before .before .if1 in
+    ((s .pre .1 .1 (if1 .taken)) .legal, omega (arith, (s .pre .1 .1 (if1 .taken)) .room, s .pre .0, c .before .before .before .before .before .before .before .before .put-answer .ensures .short, c .before .before .before .put-nodes .ensures .short))
+
+same-length : tie.Need-same-length
+same-length c = search needs
+
+returns : tie.Need-returns
+returns c =
+    let s = c .before .before .before .before .before .before .before .before .before .before .before .before .before .before .before .before .before in
+    let if1 = c .before .before .before .before .before .before .before .before .if1 in
+    outcome-result (s .args .l) (s .args .answer) (s .args .report .now) (s .args .nodes .now) (s .args .edges .now) (c .before .before .before .before .before .before .before .before .before .before .before .put-answer .ensures) (if1 .taken) (c .before .before .before .before .before .before .put-nodes .ensures) (c .before .before .put-edges .ensures) (omega (arith, (s .pre .1 .1 (if1 .taken)) .room))
+
+same-length-2 : tie.Need-same-length-2
+same-length-2 c = search needs
+
+returns-2 : tie.Need-returns-2
+returns-2 c =
+    let s = c .before .before .before .before .before .before .before .before .before in
+    outcome-other (s .args .l) (s .args .answer) (s .args .report .now) (s .args .nodes .now) (s .args .edges .now) (c .before .before .before .put-answer .ensures) (c .if1 .left)
+
+pub put-outcome-spec : {M : Type 1} → statement M
+put-outcome-spec =
+    tie.close
+    (tie.spec
+    put-answer-requires
+    put-nodes-requires
+    put-edges-requires
+    same-length
+    returns
+    same-length-2
+    returns-2)

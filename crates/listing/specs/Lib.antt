@@ -1,0 +1,4 @@
+pub mod Listing
+pub mod CaseP
+pub mod Text
+pub mod Reading

@@ -1,0 +1,9 @@
+// Reads a runner image on standard input, and prints the listing of its run. One byte more than an image may have is read, so
+// that a longer one is refused.
+fn main() {
+    let mut image = [0u8; 65537];
+    let mut out = listing::buffer();
+    let n = io::read_full(0, &mut image);
+    let end = listing::list_image(&image[..n], &mut out);
+    io::write_all(1, &out[..end]);
+}
