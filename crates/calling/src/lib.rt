@@ -44,15 +44,7 @@ pub fn first_rule(l: Layout, image: &[u8], numbers: &[u8], nodes: &[u8], edges: 
         }
         i += 1;
     }
-    let slots = [0usize; 12];
-    let lens = [0usize; 6];
-    let atoms = [0u32; 48];
-    let matched = Matched {
-        outcome: Outcome::NoMatch,
-        slots,
-        lens,
-        atoms,
-    };
+    let matched = Matched::none();
     Choice { number: 0, matched }
 }
 

@@ -2,12 +2,13 @@
 ghost use mathlib.Core.Path.{_≡_};
 ghost use mathlib.Core.Bool.{false};
 ghost use Prim.Native.Nat.{ℕ, _+_, _<_, _≤_};
-ghost use lib.ListN.{length, getD, take};
+ghost use lib.ListN.{length, getD, take, replicate};
 ghost use Rattle.meaning.specs.FirstMatch.{nodeFits};
 ghost use Rattle.graph.specs.Graph.{Legal, hostOf};
 ghost use Rattle.plan.specs.Plan.{IsRule};
 ghost use Rattle.matching.specs.Next.{Handed, Ready, Of, endOf, Meets, NextSlot, total, IsStep, Sought};
 ghost use Rattle.matching.specs.Values.{Copied, Arrays, HasValues, IsFirst};
+ghost use Rattle.matching.specs.declared.Outcome.the-variants.{Match, NoMatch};
 use labels::Label;
 use meaning::Layout;
 
@@ -42,6 +43,32 @@ pub struct Matched {
     pub slots: [usize; 12],
     pub lens: [usize; 6],
     pub atoms: [u32; 48],
+}
+
+impl Matched {
+    // No match.
+    pub fn none() -> Self
+        ensures { λ r. ⌜ r ≡ record { outcome = NoMatch; slots = replicate 12 0; lens = replicate 6 0; atoms = replicate 48 0 } ⌝ }
+    {
+        Matched {
+            outcome: Outcome::NoMatch,
+            slots: [0; 12],
+            lens: [0; 6],
+            atoms: [0; 48],
+        }
+    }
+
+    // The match at these slots, with these values.
+    pub fn at(slots: [usize; 12], lens: [usize; 6], atoms: [u32; 48]) -> Self
+        ensures { λ r. ⌜ r ≡ record { outcome = Match; slots = slots; lens = lens; atoms = atoms } ⌝ }
+    {
+        Matched {
+            outcome: Outcome::Match,
+            slots,
+            lens,
+            atoms,
+        }
+    }
 }
 
 // Those values by themselves.
@@ -375,22 +402,8 @@ pub fn first_match(l: Layout, nodes: &[u8], edges: &[u8], rule: &[u8]) -> Matche
             let x = assign(l, nodes, edges, rule, &plan, &slots);
             let lens = x.lens;
             let atoms = x.atoms;
-            Matched {
-                outcome: Outcome::Match,
-                slots,
-                lens,
-                atoms,
-            }
+            Matched::at(slots, lens, atoms)
         }
-        Outcome::NoMatch => {
-            let lens = [0usize; 6];
-            let atoms = [0u32; 48];
-            Matched {
-                outcome: Outcome::NoMatch,
-                slots,
-                lens,
-                atoms,
-            }
-        }
+        Outcome::NoMatch => Matched::none(),
     }
 }

@@ -66,12 +66,16 @@ loop-again c =
     let loop = c .before .before .before .before .before .before .before .loop in
     (omega (arith, t .inside), passes t (loop .inv .1) (c .before .before .first-match .ensures) (c .enum-told2 .given .1))
 
+none-requires : tie.Need-none-requires Inv-loop μ-loop
+none-requires c κs = search needs
+
 returns-2 : tie.Need-returns-2 Inv-loop μ-loop
 returns-2 c =
-    let a = c .before .before .before .before .before .before .args in
-    let loop = c .before .loop in
+    let b = c .before in
+    let a = b .before .before .before .before .before .before .args in
+    let loop = b .before .loop in
     none-chosen (a .l) (a .image .now) (a .numbers .now) (a .nodes .now) (a .edges .now) (loop .i) (loop .inv .0)
-    (omega (arith, c .loop-test .left)) (loop .inv .1) _ refl
+    (omega (arith, b .loop-test .left)) (loop .inv .1) _ (rw (c .none .ensures) refl)
 
 pub first-rule-spec : {M : Type 1} → statement M
 first-rule-spec =
@@ -90,4 +94,5 @@ first-rule-spec =
     add-i
     loop-less
     loop-again
+    none-requires
     returns-2)

@@ -1,6 +1,6 @@
 -- `matching::first_match` meets its contract.
 use Prim.Native.Nat.{ℕ}
-use mathlib.Core.Path.{_≡_}
+use mathlib.Core.Path.{_≡_, refl}
 use native.Mathlib.Omega.{arith}
 use borrow.Author.Needs.{needs}
 use Rattle.matching.proofs.Storing.{arrays-none, on-left}
@@ -37,34 +37,44 @@ assign-requires c κs =
       inside = sought .ensures .inside (c .before .before .enum-told .given .1);
     }
 
-enum-told-2 : tie.Need-enum-told-2
-enum-told-2 c = search needs
+at-requires : tie.Need-at-requires
+at-requires c κs = search needs
 
 returns : tie.Need-returns
 returns c =
-    let assigned-all = c .before .before .assign in
-    let told = c .before .before .before .before .before .enum-told in
-    let sought = c .before .before .before .before .before .before .before .before .search in
-    let made = c .before .before .before .before .before .before .before .before .before .before .make in
-    record {
+    let b = c .before in
+    let assigned-all = b .before .before .assign in
+    let told = b .before .before .before .before .before .enum-told in
+    let sought = b .before .before .before .before .before .before .before .before .search in
+    let made = b .before .before .before .before .before .before .before .before .before .before .make in
+    rw (c .at .ensures)
+    (record {
       room = sought .ensures .room;
       arrays = assigned-all .ensures .0;
       right = λ r e. rw (told .given .1) at (sought .ensures .right (record { rule = r; planned = made .ensures r e }));
       values = λ r e q v k.
           let t = on-left r (made .ensures r e .laid .holds) v k in
           assigned-all .ensures .1 (record { rule = r; planned = made .ensures r e }) v (t .0) (t .1);
-    }
+    })
+
+enum-told-2 : tie.Need-enum-told-2
+enum-told-2 c = search needs
+
+none-requires : tie.Need-none-requires
+none-requires c κs = search needs
 
 returns-2 : tie.Need-returns-2
 returns-2 c =
-    let sought = c .before .before .before .search in
-    let made = c .before .before .before .before .before .make in
-    record {
-      room = sought .ensures .room;
+    let b = c .before in
+    let sought = b .before .before .before .search in
+    let made = b .before .before .before .before .before .make in
+    rw (c .none .ensures)
+    (record {
+      room = refl;
       arrays = arrays-none;
-      right = λ r e. rw (c .enum-told2 .given .1) at (sought .ensures .right (record { rule = r; planned = made .ensures r e }));
+      right = λ r e. rw (b .enum-told2 .given .1) at (sought .ensures .right (record { rule = r; planned = made .ensures r e }));
       values = λ r e q. let z : _≡_ {A = ℕ} 0 1 = cc in absurd (omega arith);
-    }
+    })
 
 pub first-match-spec : {M : Type 1} → statement M
 first-match-spec =
@@ -74,6 +84,8 @@ first-match-spec =
     search-requires
     enum-told
     assign-requires
+    at-requires
     enum-told-2
+    none-requires
     returns
     returns-2)
