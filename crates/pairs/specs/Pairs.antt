@@ -16,12 +16,17 @@ use Rattle.references.specs.Runs.{For}
 use Rattle.graph.specs.Graph.{hostOf}
 use Rattle.matching.specs.Next.{total, slotsAt}
 use Rattle.matching.specs.Values.{Arrays, valuesOf}
-use Rattle.matching.specs.declared.Outcome.the-variants.{Match}
+use Rattle.matching.specs.declared.Outcome.{Outcome}
+use Rattle.matching.specs.declared.Outcome.the-variants.{Match, NoMatch}
 use Rattle.matching.specs.declared.Matched.{Matched}
 
 unfoldable pub isFine : Option Refusal → Bool
 isFine none = true
 isFine (some w) = false
+
+unfoldable pub isMatch : Outcome → Bool
+isMatch Match = true
+isMatch NoMatch = false
 
 -- no number from 9 to 18 applies to the host and the image, at no fuel and no journal
 unfoldable pub starts : List ℕ → List ℕ → List ℕ → Bool

@@ -5,7 +5,7 @@ ghost use lib.ListN.{length};
 ghost use Prim.Native.Nat.{_+_, _<_, _≤_};
 ghost use Rattle.meaning.specs.Image.{program};
 ghost use Rattle.references.specs.Runs.{For};
-ghost use Rattle.pairs.specs.Pairs.{starts as doesStart, Answers};
+ghost use Rattle.pairs.specs.Pairs.{isMatch, starts as doesStart, Answers};
 use host::Checked;
 use matching::Matched;
 use matching::Outcome;
@@ -83,8 +83,10 @@ fn write_values(lens: [usize; 6], atoms: [u32; 48], n: usize) {
 }
 
 // Writes a rule's match on a line: the slots, node slots first, then behind a sign the atoms of each variable; or that there is
-// none.
-pub fn write_match(rule: &[u8], found: Matched) {
+// none. Says whether there is one.
+pub fn write_match(rule: &[u8], found: Matched) -> bool
+    ensures { λ r. ⌜ r ≡ isMatch (found .outcome) ⌝ }
+{
     let items = references::parts::count_fields(references::parts::left_part(rule));
     let variables = references::parts::variables_part(rule);
     let outcome = found.outcome;
@@ -97,9 +99,11 @@ pub fn write_match(rule: &[u8], found: Matched) {
             write_slots(slots, items);
             write_values(lens, atoms, variables.len());
             io::write_all(1, b"\n");
+            return true;
         }
         Outcome::NoMatch => {
             io::write_all(1, b"none\n");
+            return false;
         }
     }
 }
