@@ -936,22 +936,3 @@ uint32_t peer_run(uint8_t *nodes, size_t nodes_length, uint8_t *edges, size_t ed
     put_report(report, run.steps, run.host.records);
     return number;
 }
-
-int peer_match(const uint8_t *nodes, size_t nodes_length, const uint8_t *edges, size_t edges_length,
-               const uint8_t *image, size_t image_length, unsigned rule, unsigned repeats, unsigned slots[12])
-{
-    struct program program;
-    struct faults f = {0, 0, 0};
-    struct host h = {(uint8_t *)nodes, (uint8_t *)edges, 0, (unsigned)(nodes_length / NODE),
-                     (unsigned)(edges_length / EDGE), 0, 0};
-    struct search s = {.host = &h};
-    int found = 0;
-    read_program((struct reader){image, image + image_length}, &program, &f);
-    if (f.form || f.references || rule >= program.rules)
-        return -1;
-    s.rule = &program.rule[rule];
-    for (unsigned i = 0; i < repeats; i++)
-        found = first_match(&s);
-    memcpy(slots, s.slot, sizeof s.slot);
-    return found ? (int)(s.rule->left.nodes + s.rule->left.edges) : -1;
-}

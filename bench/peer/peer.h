@@ -12,8 +12,4 @@ uint32_t peer_run(uint8_t *nodes, size_t nodes_length, uint8_t *edges, size_t ed
                   size_t journal_length, const uint8_t *image, size_t image_length, uint32_t fuel, uint8_t *report,
                   size_t report_length);
 
-/* The first match of the image's rule of a number: how many slots it has, written to slots; -1 if there is none. */
-int peer_match(const uint8_t *nodes, size_t nodes_length, const uint8_t *edges, size_t edges_length,
-               const uint8_t *image, size_t image_length, unsigned rule, unsigned repeats, unsigned slots[12]);
-
 #endif
