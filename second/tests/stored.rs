@@ -10,18 +10,12 @@ fn folder(name: &str) -> std::path::PathBuf {
 
 #[test]
 fn stored_inputs_and_outputs_are_what_this_interpreter_gives() {
-    let mut compared = 0;
     for name in stored::NAMES {
-        if !folder(name).exists() {
-            continue;
-        }
         let stored = stored::named(name).expect("a listed name is known");
         let file = |part: &str| std::fs::read(folder(name).join(part)).expect("a test program has stored inputs");
         assert!(file("stdin") == stored.stdin, "{name}: stdin differs; write it anew by `second stored {name} FOLDER`");
         assert!(file("stdout") == stored.stdout.as_bytes(), "{name}: stdout differs");
-        compared += 1;
     }
-    assert!(compared > 0);
 }
 
 #[test]

@@ -5,4 +5,3 @@ pub mod Free
 pub mod Whole
 pub mod Rooms
 pub mod Applications
-pub mod Rights
