@@ -25,7 +25,7 @@ use Rattle.ledger.specs.declared.Applied.{Applied as Came}
 use Rattle.ledger.specs.declared.Applied.the-variants.{Done, Stopped}
 use Rattle.applying.specs.Application.{appliedOf, AtMatch, Applies}
 use Rattle.applying.specs.Making.{Unhindered, Changed}
-use Rattle.applying.specs.Parts.{match, right-there}
+use Rattle.applying.specs.Parts.{r, p, g, match, right-there}
 
 pub none-done : stopOf Done ≡ none
 unfolding stopOf
@@ -57,43 +57,44 @@ module _ {L : Layout} {nodes edges journal : List ℕ} {used : ℕ} {bs slots le
           running = run;
         }
 
-    module _ (e : checked Done) where
-      abbrev pub unhindered-here : Unhindered L nodes edges journal used bs slots lens atoms
-      unhindered-here = record { running = run; match = w; fine = sym e ∙ none-done }
+    abbrev pub unhindered-here : checked Done → Unhindered L nodes edges journal used bs slots lens atoms
+    unhindered-here e = record { running = run; match = w; fine = sym e ∙ none-done }
 
-      module _ {all : ℕ} {nodes′ edges′ journal′ : List ℕ} (c : Changed L nodes edges journal used bs slots lens atoms all nodes′ edges′ journal′) where
-        right-side : (right : Right) × (rightSide (L .atoms) (before .host) (w .tree) (take (total (w .tree)) slots) ≡ some right)
-        right-side = right-there unhindered-here
+module _ {L : Layout} {nodes edges journal : List ℕ} {used : ℕ} {bs slots lens atoms : List ℕ} (u : Unhindered L nodes edges journal used bs slots lens atoms)
+    {all : ℕ} {nodes′ edges′ journal′ : List ℕ} (c : Changed L nodes edges journal used bs slots lens atoms all nodes′ edges′ journal′)
+  where
+    right-side : (right : Right) × (rightSide (L .atoms) (g u .host) (r u) (p u) ≡ some right)
+    right-side = right-there u
 
-        led : Leads L (changed (w .tree) (take (total (w .tree)) slots) (right-side .0) before) nodes′ edges′ journal′ all
-        led = c unhindered-here (right-side .0) (right-side .1)
+    led : Leads L (changed (r u) (p u) (right-side .0) (g u)) nodes′ edges′ journal′ all
+    led = c u (right-side .0) (right-side .1)
 
-        pub still-runs : Running L nodes′ edges′ journal′ all
-        still-runs =
-            runs-on L nodes edges journal used run (w .tree) (w .legal) (take (total (w .tree)) slots)
-            (match unhindered-here) (right-side .0) (right-side .1) (unhindered-here .fine) nodes′ edges′ journal′ all led
+    pub still-runs : Running L nodes′ edges′ journal′ all
+    still-runs =
+        runs-on L nodes edges journal used (u .running) (r u) (u .match .legal) (p u)
+        (match u) (right-side .0) (right-side .1) (u .fine) nodes′ edges′ journal′ all led
 
-        -- it is done
-        pub does : Applies L nodes edges journal used bs slots (record { applied = Done; records = all }) nodes′ edges′ journal′
-        unfolding appliedOf
-        does =
-            record {
-              right = λ r q.
-                  the-rule _
-                  (ap applied (led .ledger)
-                  ∙ sym (applied-is L nodes edges journal used run (w .tree) (w .legal) (take (total (w .tree)) slots)
-                  (match unhindered-here) (right-side .0) (right-side .1) (unhindered-here .fine)))
-                  r (sym (w .is) ∙ q);
-              kept = λ s q. let z : _≡_ {A = ℕ} 0 1 = cc in absurd (omega arith);
-              running = still-runs;
-            }
+    -- it is done
+    pub does : Applies L nodes edges journal used bs slots (record { applied = Done; records = all }) nodes′ edges′ journal′
+    unfolding appliedOf
+    does =
+        record {
+          right = λ t q.
+              the-rule (u .running) (u .match) _
+              (ap applied (led .ledger)
+              ∙ sym (applied-is L nodes edges journal used (u .running) (r u) (u .match .legal) (p u)
+              (match u) (right-side .0) (right-side .1) (u .fine)))
+              t (sym (u .match .is) ∙ q);
+          kept = λ s q. let z : _≡_ {A = ℕ} 0 1 = cc in absurd (omega arith);
+          running = still-runs;
+        }
 
-        -- no live edge is on a free node
-        pub none-free : any (onFreeNode (record { nodes = readNodes L nodes′; edges = readEdges L edges′ })) (length (readEdges L edges′)) ≡ true → ⊥
-        unfolding tested
-        none-free q =
-            let t : tested (ledgerOf L nodes′ edges′ journal′ all) ≡ applied (ledgerOf L nodes′ edges′ journal′ all) =
-            tested-legal L (ledgerOf L nodes′ edges′ journal′ all) (running-legal L nodes′ edges′ journal′ all still-runs .host) in
-            let h : hindered EdgeOnFreeNode ≡ applied (ledgerOf L nodes′ edges′ journal′ all) = sym (choose-true _ _ _ q) ∙ t in
-            let z : _≡_ {A = ℕ} 0 1 = cc in
-            omega arith
+    -- no live edge is on a free node
+    pub none-free : any (onFreeNode (record { nodes = readNodes L nodes′; edges = readEdges L edges′ })) (length (readEdges L edges′)) ≡ true → ⊥
+    unfolding tested
+    none-free q =
+        let t : tested (ledgerOf L nodes′ edges′ journal′ all) ≡ applied (ledgerOf L nodes′ edges′ journal′ all) =
+        tested-legal L (ledgerOf L nodes′ edges′ journal′ all) (running-legal L nodes′ edges′ journal′ all still-runs .host) in
+        let h : hindered EdgeOnFreeNode ≡ applied (ledgerOf L nodes′ edges′ journal′ all) = sym (choose-true _ _ _ q) ∙ t in
+        let z : _≡_ {A = ℕ} 0 1 = cc in
+        omega arith

@@ -17,7 +17,7 @@ use Rattle.meaning.specs.declared.Layout.{Layout}
 use Rattle.meaning.specs.declared.Stop.{Stop}
 use Rattle.graph.specs.Graph.{hostOf}
 use Rattle.matching.specs.Next.{total}
-use Rattle.matching.specs.Values.{Arrays, valuesOf}
+use Rattle.values.specs.Values.{valuesOf, Stored}
 use Rattle.ledger.specs.Running.{ledgerOf, Running}
 use Rattle.ledger.specs.declared.Applied.{Applied as Came}
 use Rattle.ledger.specs.declared.Applied.the-variants.{Done, Stopped}
@@ -32,7 +32,7 @@ module _ (L : Layout) where
   -- the bytes are a legal rule, the slots are its first match, and the arrays hold the values of its variables
   pub record AtMatch (nodes edges bs slots lens atoms : List ℕ) : Type 0 where
     pub room : length slots ≡ 12
-    pub arrays : Arrays lens atoms
+    pub arrays : Stored lens atoms
     pub tree : Rule
     pub is : rule bs ≡ some tree
     pub legal : LegalRule tree

@@ -13,7 +13,7 @@ use Rattle.meaning.specs.Matching.{nodeIn}
 use Rattle.meaning.specs.FirstMatch.{assigned}
 use Rattle.meaning.specs.Applying.{labelValue, Ledger, store, between}
 use Rattle.meaning.specs.Laws.Tests.{choose-eq, choose-ne, choose-false}
-use Rattle.meaning.specs.Laws.Every.{Every}
+use Rattle.meaning.specs.Laws.Every.{Every-in}
 use Rattle.meaning.specs.Laws.Hosts.{LegalNode, LegalEdge}
 use Rattle.meaning.specs.Laws.Values.{LegalValue}
 use Rattle.meaning.specs.Laws.Image.Parsed.{ruleNode-is, IsEdge, ruleEdge-is}
@@ -111,11 +111,6 @@ come-mark {p} w = sym (w .mark ∙ ruleNode-is p (w .made .rule) (w .made .is) .
 
 -- Each item of the right side.
 
-pub every-in : {A : Type 0} (Q : A → Type 0) (l : List A) → Every Q l → (i : ℕ) → i < length l → (d : A) → Q (getD l i d)
-every-in Q [] h i k d = absurd (omega arith)
-every-in Q (a ∷ l) h zero k d = h .0
-every-in Q (a ∷ l) h (suc i) k d = every-in Q l (h .1) i (omega arith) d
-
 becomes-at : (l : List Node) (i : ℕ) → i < length l → becomes l i ≡ live (getD l i blankNode)
 becomes-at [] i q = absurd (omega arith)
 becomes-at (a ∷ l) zero q = refl
@@ -140,7 +135,7 @@ module _ {L : Layout} {bs lens atoms : List ℕ} {k : ℕ} (w : Made L bs lens a
               (node-names (λ v. valuesOf lens atoms v ≡ assigned (w .host) (w .tree) (w .slots) v) (w .tree .right) (w .agree) j h blankRule)
               ∙ node-value .label;
           root = node-value .root;
-          legal = every-in (LegalNode L) (w .right .nodes) (w .legal .nodes) j (omega (arith, w .nodesLong)) blankNode;
+          legal = Every-in (LegalNode L) (w .right .nodes) (w .legal .nodes) j (omega (arith, w .nodesLong)) blankNode;
         }
 
     -- one outside the interface comes with its mark
@@ -167,7 +162,7 @@ module _ {L : Layout} {bs lens atoms : List ℕ} {k : ℕ} (w : Made L bs lens a
     edge-value = edge-at (L .atoms) (w .host) (w .tree) (w .slots) (w .right) (w .values) j h _ blankEdge
 
     pub edge-ends : LegalValue L (length (w .right .nodes)) the-edge
-    edge-ends = every-in (LegalValue L (length (w .right .nodes))) (w .right .edges) (w .legal .edges) j (omega (arith, w .edgesLong)) blankEdge
+    edge-ends = Every-in (LegalValue L (length (w .right .nodes))) (w .right .edges) (w .legal .edges) j (omega (arith, w .edgesLong)) blankEdge
 
     -- between the places, the first of which are the right nodes'
     pub between-front : between (take (length (w .tree .right .nodes)) places) the-edge ≡ between places the-edge

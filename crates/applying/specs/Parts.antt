@@ -1,64 +1,49 @@
 -- Laws of the four parts of an application, one after the other: what each is handed, from what the parts before it left.
 -- Rests on Making and Checks, on ledger's Changes and Applications, and on the meaning's laws of room, ends and legality.
 use mathlib.Core.Path.{_≡_, refl, sym, _∙_, ap, subst}
-use mathlib.Core.Bool.{true, false, not}
-use mathlib.Core.Logic.{_⊎_, inl, inr}
 use mathlib.Core.Option.{some}
-use mathlib.Core.List.{List, _++_, map}
+use mathlib.Core.List.{List, _++_}
 use Prim.Native.Nat.{ℕ, _+_, _-_, _/_, _<_, _≤_}
 use native.Mathlib.Omega.{arith}
-use borrow.Author.Tests.{leb-true, ltb-true, not-true}
-use lib.ListN.{length, getD, take, drop, length-drop, List·getD-map}
+use borrow.Author.Tests.{leb-true}
+use lib.ListN.{length, getD, take, drop}
 use lib.Seq.{getD-take, take-take, take-add, drop-at, length-take-le}
-use lib.Dec.{eqb, ltb}
-use Rattle.meaning.specs.Basics.{both}
-use Rattle.meaning.specs.Layout.{Edge, free, nodeLength, edgeLength, recordLength, readNode, readEdge}
-use Rattle.meaning.specs.Image.{Rule, anyMark, ruleGraph}
-use Rattle.meaning.specs.References.{anyKept, anyPlaced, ruleHolds}
+use Rattle.meaning.specs.Layout.{free, nodeLength, edgeLength, recordLength, readNode, readEdge}
+use Rattle.meaning.specs.Image.{Rule, ruleGraph}
 use Rattle.meaning.specs.Matching.{leftNodes, leftEdges, Match}
 use Rattle.meaning.specs.Applying.{Right, rightSide, Ledger, Added, stores, freeSlots, edgesGo, nodesChange, addNodes, between, addEdges, changed, recordsOf, hindrance}
-use Rattle.meaning.specs.Laws.Tests.{both-true, either-true, all-true, isSome-true}
-use Rattle.meaning.specs.Laws.References.{clauses-true}
-use Rattle.meaning.specs.Laws.Hosts.{LegalEdge, liveAt-lt}
+use Rattle.meaning.specs.Laws.Tests.{isSome-true}
+use Rattle.meaning.specs.Laws.Every.{Every-in}
+use Rattle.meaning.specs.Laws.Hosts.{LegalEdge}
 use Rattle.meaning.specs.Laws.Pieces.{length-read}
 use Rattle.meaning.specs.Laws.Applying.{stores-append, rightSide-some, firstFailing-none}
-use Rattle.meaning.specs.Laws.Restoring.{from-nodes, changed-from}
-use Rattle.meaning.specs.Laws.Room.{afterLeft, afterNew, changed-is, afterLeft-nodes, afterLeft-edges}
-use Rattle.meaning.specs.Laws.Attached.{nodesAfter, rightSlots, between-attached}
-use Rattle.meaning.specs.Laws.Values.{LegalValue, LegalRight, interface-left, interface-right, rightSide-legal}
+use Rattle.meaning.specs.Laws.Room.{afterNew, changed-is, afterLeft-nodes, afterLeft-edges}
+use Rattle.meaning.specs.Laws.Attached.{rightSlots}
+use Rattle.meaning.specs.Laws.Values.{LegalRight, interface-left, interface-right, new-marked, rightSide-legal}
 use Rattle.meaning.specs.Laws.FirstMatch.{found-match, node-inside, edge-inside}
 use Rattle.meaning.specs.Laws.Image.Parsed.{Few, rule-few}
-use Rattle.meaning.specs.Laws.Legality.{Ready}
+use Rattle.meaning.specs.Laws.Legality.{Ready, between-legal}
 use Rattle.meaning.specs.declared.Layout.{Layout}
 use Rattle.matching.specs.Next.{total}
 use Rattle.ledger.specs.Running.{journalOf, ledgerOf, Held, Leads}
 use Rattle.ledger.specs.Changes.{Went, Below, goes, quotient-le}
-use Rattle.ledger.specs.Whole.{records-count, running-legal, few-nodes}
+use Rattle.ledger.specs.Whole.{records-count, running-legal, few-nodes, few-edges}
 use Rattle.ledger.specs.Applications.{ready}
-use Rattle.applying.specs.Making.{blankRule, blankEdge, Made, Alters, Grows, Grew, Edges, Unhindered}
-use Rattle.applying.specs.Items.{every-in}
+use Rattle.applying.specs.Making.{blankRule, blankEdge, Made, Alters, Grows, Grew, Edges, Unhindered, Left, Halfway}
 use Rattle.applying.specs.Checks.{values-agree}
 
--- a right node outside the interface is not any
-pub new-marked : (r : Rule) → ruleHolds r ≡ true → (j : ℕ) → r .interface ≤ j → j < length (r .right .nodes)
-    → eqb (getD (r .right .nodes) j blankRule .mark) anyMark ≡ false
-unfolding ruleHolds anyPlaced anyKept
-new-marked r holds j h k =
-    at (either-true _ _ (all-true (anyKept r) (length (r .right .nodes)) (both-true _ _ (clauses-true _ holds 9) .0) j k))
-  where
-    at : (not (eqb (getD (map (λ n. n .mark) (r .right .nodes)) j 0) anyMark) ≡ true)
-        ⊎ (both (ltb j (r .interface)) (eqb (getD (map (λ n. n .mark) (r .left .nodes)) j 0) anyMark) ≡ true)
-        → eqb (getD (r .right .nodes) j blankRule .mark) anyMark ≡ false
-    at (inl q) = ap (λ (m : ℕ). eqb m anyMark) (sym (List·getD-map (λ n. n .mark) (r .right .nodes) j blankRule)) ∙ not-true _ q
-    at (inr q) = let l : j < r .interface = ltb-true _ _ (both-true _ _ q .0) in absurd (omega arith)
-
--- the bytes of the right graph, and the numbers of a rule that the code reads: the interface, left nodes and edges, new nodes,
--- right edges
-pub record Counted (r : Rule) (rb : List ℕ) (k n m new count : ℕ) : Type 0 where
+-- the bytes of the right graph, and the numbers of a rule that the code reads: the interface,
+-- and for the left part the left nodes and edges,
+pub record LeftCounted (r : Rule) (rb : List ℕ) (k n m : ℕ) : Type 0 where
   pub right : ruleGraph rb ≡ some (r .right)
   pub interface : k ≡ r .interface
   pub nodes : n ≡ leftNodes r
   pub edges : m ≡ leftEdges r
+
+-- for the right part the new nodes and the right edges
+pub record RightCounted (r : Rule) (rb : List ℕ) (k new count : ℕ) : Type 0 where
+  pub right : ruleGraph rb ≡ some (r .right)
+  pub interface : k ≡ r .interface
   pub added : k + new ≡ length (r .right .nodes)
   pub rightEdges : count ≡ length (r .right .edges)
 
@@ -101,8 +86,8 @@ module _ {L : Layout} {nodes edges journal : List ℕ} {used : ℕ} {bs slots le
     right-there = isSome-true _ (firstFailing-none _ _ _ (u .fine) .0)
 
     -- so their number fits
-    pub records-fit : {rb : List ℕ} {k n m new count : ℕ} → Counted r rb k n m new count → used + m + n + new + count ≤ length journal
-    records-fit s = omega (arith, quotient-le (used + recordsOf r) (length journal) (recordLength L) all-records)
+    pub records-fit : used + recordsOf r ≤ length journal
+    records-fit = quotient-le (used + recordsOf r) (length journal) (recordLength L) all-records
 
     -- the interface is among the right nodes, and the others are new
     module _ {k c : ℕ} (ek : k ≡ r .interface) (ec : c ≡ length (r .right .nodes)) where
@@ -125,29 +110,29 @@ module _ {L : Layout} {nodes edges journal : List ℕ} {used : ℕ} {bs slots le
       pub inner : (r .interface ≤ leftNodes r) × (r .interface ≤ length (r .right .nodes))
       inner = (interface-left r (u .match .legal .holds), interface-right r (u .match .legal .holds))
 
-      module _ {rb : List ℕ} {k n m new count : ℕ} (s : Counted r rb k n m new count) where
-        -- The whole right side.
+      -- The whole right side.
 
-        abbrev pub made : Made L rb lens atoms k
-        made =
-            record {
-              stored = record { variables = u .match .arrays .variables; room = u .match .arrays .room; few = u .match .arrays .few; words = u .match .arrays .words };
-              few = u .running .held .few;
-              host = g .host;
-              tree = r;
-              slots = p;
-              right = right;
-              is = s .right;
-              values = q;
-              agree = values-agree (u .match);
-              legal = values-legal;
-              nodesLong = sizes .0;
-              edgesLong = sizes .1;
-              fewNodes = few .rightNodes;
-              inside = omega arith;
-              marked = λ j h l. new-marked r (u .match .legal .holds) j (omega arith) l;
-            }
+      abbrev pub made : {rb : List ℕ} {k : ℕ} → ruleGraph rb ≡ some (r .right) → k ≡ r .interface → Made L rb lens atoms k
+      made is ek =
+          record {
+            stored = u .match .arrays;
+            few = u .running .held .few;
+            host = g .host;
+            tree = r;
+            slots = p;
+            right = right;
+            is = is;
+            values = q;
+            agree = values-agree (u .match);
+            legal = values-legal;
+            nodesLong = sizes .0;
+            edgesLong = sizes .1;
+            fewNodes = few .rightNodes;
+            inside = omega (arith, ek, inner .1);
+            marked = λ j h l. new-marked r (u .match .legal .holds) j (omega (arith, ek)) l blankRule;
+          }
 
+      module _ {rb : List ℕ} {k n m : ℕ} (s : LeftCounted r rb k n m) where
         -- Left edges go.
 
         pub go-next : Held L nodes edges journal used
@@ -183,7 +168,7 @@ module _ {L : Layout} {nodes edges journal : List ℕ} {used : ℕ} {bs slots le
             abbrev pub alters : Alters L nodes journal₁ rb lens atoms slots (used + m) k n
             alters =
                 record {
-                  made = made;
+                  made = made (s .right) (s .interface);
                   room = u .match .room;
                   few = omega (arith, few .leftNodes);
                   records = rw (gone .journalLong) (omega (arith, all-records));
@@ -198,92 +183,108 @@ module _ {L : Layout} {nodes edges journal : List ℕ} {used : ℕ} {bs slots le
                   apart = λ i j h l e. match .nodesApart i j h (omega arith) (slot-is i (omega arith) ∙ e ∙ sym (slot-is j (omega arith)));
                 }
 
-            module _ {nodes₂ journal₂ : List ℕ}
-                (kept : Went L (stores (nodesChange (take k (right .nodes)) (take n slots)) (ledgerOf L nodes edges₁ journal₁ (used + m))) nodes edges₁ journal₁ nodes₂ edges₁ journal₂ (used + m + n))
-              where
-                pub kept-is : ledgerOf L nodes₂ edges₁ journal₂ (used + m + n) ≡ afterLeft r p right g
-                kept-is =
-                    kept .leads .ledger
-                    ∙ (λ i. stores (nodesChange (take (s .interface i) (right .nodes)) (nodes-are i)) (gone-is i))
-                    ∙ sym (stores-append (edgesGo r p) (nodesChange (take (r .interface) (right .nodes)) (take (leftNodes r) p)) g)
+            pub left-done : {nodes₂ journal₂ : List ℕ}
+                → Went L (stores (nodesChange (take k (right .nodes)) (take n slots)) (ledgerOf L nodes edges₁ journal₁ (used + m))) nodes edges₁ journal₁ nodes₂ edges₁ journal₂ (used + m + n)
+                → Left L nodes edges journal used r p right (used + m + n) nodes₂ edges₁ journal₂
+            left-done w =
+                record {
+                  went = record {
+                    leads = record {
+                      ledger =
+                          w .leads .ledger
+                          ∙ (λ i. stores (nodesChange (take (s .interface i) (right .nodes)) (nodes-are i)) (gone-is i))
+                          ∙ sym (stores-append (edgesGo r p) (nodesChange (take (r .interface) (right .nodes)) (take (leftNodes r) p)) g);
+                      held = w .leads .held;
+                    };
+                    nodesLong = w .nodesLong;
+                    edgesLong = gone .edgesLong;
+                    journalLong = w .journalLong ∙ gone .journalLong;
+                  };
+                  records = omega (arith, s .nodes, s .edges);
+                }
 
-                -- New nodes come.
+      -- The right side is to come.
 
-                abbrev pub grows : Grows L nodes₂ journal₂ rb lens atoms slots (used + m + n) k new
-                grows =
-                    record {
-                      made = made;
-                      room = u .match .room;
-                      counted = s .added;
-                      free =
-                          let f = ap (λ (h : Ledger). freeSlots (h .host .nodes)) kept-is in
-                          let a = afterLeft-nodes r p right g match in
-                          omega (arith, can .nodeRoom, sizes .0, inner .1);
-                      records = rw (kept .journalLong, gone .journalLong) (omega (arith, all-records));
-                    }
+      abbrev pub halfway : {nodes₂ edges₂ journal₂ : List ℕ} {kept : ℕ} → Left L nodes edges journal used r p right kept nodes₂ edges₂ journal₂
+          → Halfway L nodes₂ edges₂ journal₂ kept bs slots lens atoms
+      halfway left =
+          record {
+            nodes₀ = nodes;
+            edges₀ = edges;
+            journal₀ = journal;
+            used₀ = used;
+            start = u;
+            right = right;
+            values = q;
+            left = left;
+          }
 
-                module _ {nodes₃ journal₃ places : List ℕ}
-                    (grew : Grew L (drop k (right .nodes)) nodes₂ edges₁ journal₂ slots (used + m + n) k new places nodes₃ journal₃)
-                  where
-                    pub grown-is : addNodes (drop k (right .nodes)) (ledgerOf L nodes₂ edges₁ journal₂ (used + m + n)) ≡ afterNew r p right g
-                    grown-is = λ i. addNodes (drop (s .interface i) (right .nodes)) (kept-is i)
+      module _ {rb : List ℕ} {k new count : ℕ} (s : RightCounted r rb k new count) {nodes₂ edges₂ journal₂ : List ℕ} {kept : ℕ}
+          (left : Left L nodes edges journal used r p right kept nodes₂ edges₂ journal₂)
+        where
+          -- New nodes come.
 
-                    pub grew-is : ledgerOf L nodes₃ edges₁ journal₃ (used + m + n + new) ≡ afterNew r p right g .ledger
-                    grew-is = grew .went .leads .ledger ∙ ap (λ (a : Added). a .ledger) grown-is
+          abbrev pub grows : Grows L nodes₂ journal₂ rb lens atoms slots kept k new
+          grows =
+              record {
+                made = made (s .right) (s .interface);
+                room = u .match .room;
+                counted = s .added;
+                free =
+                    let f = ap (λ (h : Ledger). freeSlots (h .host .nodes)) (left .went .leads .ledger) in
+                    let a = afterLeft-nodes r p right g match in
+                    omega (arith, can .nodeRoom, sizes .0, inner .1);
+                records = rw (left .went .journalLong) (omega (arith, left .records, all-records));
+              }
 
-                    -- the places are the slots of the right nodes
-                    pub places-are : take (length (r .right .nodes)) places ≡ rightSlots r p right g
-                    places-are =
-                        let t : take k slots ≡ take (r .interface) p =
-                        rw (s .interface) (sym (take-take (r .interface) (total r) slots (omega (arith, inner .0)))) in
-                        ap (λ (c : ℕ). take c places) (sym (s .added)) ∙ grew .lie ∙ (λ i. t i ++ grown-is i .slots)
+          -- the number of all records fits
+          pub right-fits : kept + new + count ≤ length journal₂
+          right-fits = rw (left .went .journalLong) (omega (arith, left .records, s .added, s .interface, s .rightEdges, records-fit))
 
-                    pub room-nodes : length (drop (r .interface) (right .nodes)) ≤ freeSlots (afterLeft r p right g .host .nodes)
-                    room-nodes =
-                        let a = afterLeft-nodes r p right g match in
-                        let b = length-drop (r .interface) (right .nodes) in
-                        omega (arith, can .nodeRoom, sizes .0, inner .1)
+          module _ {nodes₃ journal₃ places : List ℕ}
+              (grew : Grew L (drop k (right .nodes)) nodes₂ edges₂ journal₂ slots kept k new places nodes₃ journal₃)
+            where
+              pub grown-is : addNodes (drop k (right .nodes)) (ledgerOf L nodes₂ edges₂ journal₂ kept) ≡ afterNew r p right g
+              grown-is = λ i. addNodes (drop (s .interface i) (right .nodes)) (left .went .leads .ledger i)
 
-                    pub between-legal : (e : Edge) → LegalValue L (length (right .nodes)) e → LegalEdge L (between (rightSlots r p right g) e)
-                    between-legal e h =
-                        let a = between-attached r p right g match (inner .0) (omega (arith, sizes .0, inner .1)) room-nodes L e h in
-                        let b = from-nodes g (changed r p right g) (changed-from r p right g) in
-                        let c = length-read (nodeLength L) readNode nodes in
-                        let d = few-nodes L nodes edges journal used (u .running) in
-                        record {
-                          mark = h .mark;
-                          source = omega (arith, liveAt-lt (nodesAfter r p right g) _ (a .source));
-                          target = omega (arith, liveAt-lt (nodesAfter r p right g) _ (a .target));
-                          size = h .size;
-                          words = h .words;
-                        }
+              pub grew-is : ledgerOf L nodes₃ edges₂ journal₃ (kept + new) ≡ afterNew r p right g .ledger
+              grew-is = grew .went .leads .ledger ∙ ap (λ (a : Added). a .ledger) grown-is
 
-                    -- Right edges come.
+              -- the places are the slots of the right nodes
+              pub places-are : take (length (r .right .nodes)) places ≡ rightSlots r p right g
+              places-are =
+                  let t : take k slots ≡ take (r .interface) p =
+                  rw (s .interface) (sym (take-take (r .interface) (total r) slots (omega (arith, inner .0)))) in
+                  ap (λ (c : ℕ). take c places) (sym (s .added)) ∙ grew .lie ∙ (λ i. t i ++ grown-is i .slots)
 
-                    abbrev pub joins : Edges L edges₁ journal₃ rb lens atoms places (used + m + n + new) count
-                    joins =
-                        record {
-                          interface = k;
-                          made = made;
-                          room = grew .room;
-                          counted = s .rightEdges;
-                          ends = λ i h.
-                              subst (λ (l : List ℕ). LegalEdge L (between l (getD (right .edges) i blankEdge))) (sym places-are)
-                              (between-legal _ (every-in _ (right .edges) (values-legal .edges) i (omega (arith, sizes .1)) blankEdge));
-                          free =
-                              let f = ap (λ (h : Ledger). freeSlots (h .host .edges)) kept-is in
-                              let a = afterLeft-edges r p right g match in
-                              omega (arith, can .edgeRoom);
-                          records = rw (grew .went .journalLong, kept .journalLong, gone .journalLong) (omega (arith, all-records));
-                        }
+              -- Right edges come.
 
-                    pub joined : {edges₄ journal₄ : List ℕ}
-                        → Went L (addEdges (take (length (r .right .nodes)) places) (right .edges) (ledgerOf L nodes₃ edges₁ journal₃ (used + m + n + new))) nodes₃ edges₁ journal₃ nodes₃ edges₄ journal₄ (used + m + n + new + count)
-                        → Leads L (changed r p right g) nodes₃ edges₄ journal₄ (used + m + n + new + count)
-                    joined w =
-                        record {
-                          ledger =
-                              w .leads .ledger ∙ (λ i. addEdges (places-are i) (right .edges) (grew-is i))
-                              ∙ sym (changed-is r p right g);
-                          held = w .leads .held;
-                        }
+              abbrev pub joins : Edges L edges₂ journal₃ rb lens atoms places (kept + new) count
+              joins =
+                  record {
+                    interface = k;
+                    made = made (s .right) (s .interface);
+                    room = grew .room;
+                    counted = s .rightEdges;
+                    ends = λ i h.
+                        subst (λ (l : List ℕ). LegalEdge L (between l (getD (right .edges) i blankEdge))) (sym places-are)
+                        (between-legal L (length nodes / nodeLength L) (length edges / edgeLength L) (few-nodes L nodes edges journal used (u .running))
+                        (few-edges L nodes edges journal used (u .running)) r (u .match .legal) p g (running-legal L nodes edges journal used (u .running))
+                        right can _ (Every-in _ (right .edges) (values-legal .edges) i (omega (arith, sizes .1)) blankEdge));
+                    free =
+                        let f = ap (λ (h : Ledger). freeSlots (h .host .edges)) (left .went .leads .ledger) in
+                        let a = afterLeft-edges r p right g match in
+                        omega (arith, can .edgeRoom);
+                    records = rw (grew .went .journalLong, left .went .journalLong) (omega (arith, left .records, all-records));
+                  }
+
+              pub joined : {edges₄ journal₄ : List ℕ}
+                  → Went L (addEdges (take (length (r .right .nodes)) places) (right .edges) (ledgerOf L nodes₃ edges₂ journal₃ (kept + new))) nodes₃ edges₂ journal₃ nodes₃ edges₄ journal₄ (kept + new + count)
+                  → Leads L (changed r p right g) nodes₃ edges₄ journal₄ (kept + new + count)
+              joined w =
+                  record {
+                    ledger =
+                        w .leads .ledger ∙ (λ i. addEdges (places-are i) (right .edges) (grew-is i))
+                        ∙ sym (changed-is r p right g);
+                    held = w .leads .held;
+                  }

@@ -3,14 +3,18 @@
 ghost use mathlib.Core.Path.{_≡_};
 ghost use Prim.Native.Nat.{_+_, _/_, _<_};
 ghost use lib.ListN.{length, take, drop};
+ghost use lib.Dec.{ltb};
 ghost use Rattle.meaning.specs.Layout.{live, ofNode, ofEdge, nodeLength, recordLength, readNodes, readEdges};
+ghost use Rattle.meaning.specs.Image.{rule as readRule};
+ghost use Rattle.meaning.specs.Matching.{leftNodes};
 ghost use Rattle.meaning.specs.Applying.{store, stores, nodesChange, lowestFree, freeSlots, between, addEdges, hindrance};
+ghost use Rattle.references.specs.Runs.{For};
 ghost use Rattle.matching.specs.Next.{total};
 ghost use Rattle.ledger.specs.Running.{ledgerOf, Held, Running, Leads};
 ghost use Rattle.ledger.specs.Changes.{Went, becomes};
 ghost use Rattle.ledger.specs.Rooms.{stopOf};
 ghost use Rattle.applying.specs.Application.{AtMatch, Applies};
-ghost use Rattle.applying.specs.Making.{Takes, Comes, Joins, Changes, Alters, Grows, Grew, Edges, Unhindered, Changed};
+ghost use Rattle.applying.specs.Making.{Takes, Comes, Joins, Changes, Alters, Grows, Grew, Edges, Unhindered, Changed, LeftChanged, Halfway, RightCame};
 use ledger::Applied;
 use meaning::Layout;
 use meaning::Stop;
@@ -267,9 +271,9 @@ fn hindrance(
     Applied::Stopped(Stop::LabelTooLarge)
 }
 
-// The changes, in order, with one record each: left edges, all left nodes, new nodes, right edges. The answer: the records
+// The left part of the changes, in order, with one record each: left edges go, all left nodes change. The answer: the records
 // used after them.
-fn change(
+fn change_left(
     l: Layout,
     nodes: &mut [u8],
     edges: &mut [u8],
@@ -281,15 +285,13 @@ fn change(
     atoms: &[u32; 48],
 ) -> usize
     requires { ⌜ Unhindered l (now nodes) (now edges) (now journal) used (now rule) (now slots) (now lens) (now atoms) ⌝ }
-    ensures { λ r. ⌜ Changed l (now (nodes .entry)) (now (edges .entry)) (now (journal .entry)) used (now (rule .entry)) (now (slots .entry)) (now (lens .entry)) (now (atoms .entry)) r (now (nodes .exit)) (now (edges .exit)) (now (journal .exit)) ⌝ }
+    ensures { λ r. ⌜ LeftChanged l (now (nodes .entry)) (now (edges .entry)) (now (journal .entry)) used (now (rule .entry)) (now (slots .entry)) (now (lens .entry)) (now (atoms .entry)) r (now (nodes .exit)) (now (edges .exit)) (now (journal .exit)) ⌝ }
 {
     let left = references::parts::left_part(rule);
     let right = references::parts::right_part(rule);
     let k = references::parts::interface_of(rule);
     let n = references::parts::node_count(left);
     let m = references::parts::edge_count(left);
-    let new = references::parts::node_count(right) - k;
-    let count = references::parts::edge_count(right);
     ledger::free_edges(l, &nodes[..], edges, journal, used, slots, n, m);
     let gone = used + m;
     change_nodes(
@@ -305,13 +307,34 @@ fn change(
         slots,
         n,
     );
-    let kept = gone + n;
+    gone + n
+}
+
+// The right part, in order, with one record each: new nodes come, right edges come. The answer: the records used after them.
+fn add_right(
+    l: Layout,
+    nodes: &mut [u8],
+    edges: &mut [u8],
+    journal: &mut [u8],
+    used: usize,
+    rule: &[u8],
+    slots: &[usize; 12],
+    lens: &[usize; 6],
+    atoms: &[u32; 48],
+) -> usize
+    requires { ⌜ Halfway l (now nodes) (now edges) (now journal) used (now rule) (now slots) (now lens) (now atoms) ⌝ }
+    ensures { λ r. ⌜ RightCame l (now (nodes .entry)) (now (edges .entry)) (now (journal .entry)) used (now (rule .entry)) (now (slots .entry)) (now (lens .entry)) (now (atoms .entry)) r (now (nodes .exit)) (now (edges .exit)) (now (journal .exit)) ⌝ }
+{
+    let right = references::parts::right_part(rule);
+    let k = references::parts::interface_of(rule);
+    let new = references::parts::node_count(right) - k;
+    let count = references::parts::edge_count(right);
     let places = new_nodes(
         l,
         nodes,
         &edges[..],
         journal,
-        kept,
+        used,
         right,
         k,
         lens,
@@ -319,7 +342,7 @@ fn change(
         slots,
         new,
     );
-    let come = kept + new;
+    let come = used + new;
     new_edges(
         l,
         &nodes[..],
@@ -335,8 +358,65 @@ fn change(
     come + count
 }
 
-// Applies a rule at its first match: the checks, the changes, and the test after them. That test finds nothing, since an
-// application leaves no edge on a free node.
+// All changes: on the left, then on the right. The answer: the records used after them.
+fn change(
+    l: Layout,
+    nodes: &mut [u8],
+    edges: &mut [u8],
+    journal: &mut [u8],
+    used: usize,
+    rule: &[u8],
+    slots: &[usize; 12],
+    lens: &[usize; 6],
+    atoms: &[u32; 48],
+) -> usize
+    requires { ⌜ Unhindered l (now nodes) (now edges) (now journal) used (now rule) (now slots) (now lens) (now atoms) ⌝ }
+    ensures { λ r. ⌜ Changed l (now (nodes .entry)) (now (edges .entry)) (now (journal .entry)) used (now (rule .entry)) (now (slots .entry)) (now (lens .entry)) (now (atoms .entry)) r (now (nodes .exit)) (now (edges .exit)) (now (journal .exit)) ⌝ }
+{
+    let kept = change_left(l, nodes, edges, journal, used, rule, slots, lens, atoms);
+    add_right(l, nodes, edges, journal, kept, rule, slots, lens, atoms)
+}
+
+// Whether a rule takes nodes away: its interface is fewer than the left nodes.
+fn takes_nodes(rule: &[u8]) -> bool
+    ensures { λ b. ⌜ For (readRule (now (rule .entry))) (λ r. b ≡ ltb (r .interface) (leftNodes r)) ⌝ }
+{
+    let left = references::parts::left_part(rule);
+    references::parts::interface_of(rule) < references::parts::node_count(left)
+}
+
+// The changes, and the test after them. That test, made where nodes go, finds nothing, since an application leaves no edge
+// on a free node.
+fn change_and_test(
+    l: Layout,
+    nodes: &mut [u8],
+    edges: &mut [u8],
+    journal: &mut [u8],
+    used: usize,
+    rule: &[u8],
+    slots: &[usize; 12],
+    lens: &[usize; 6],
+    atoms: &[u32; 48],
+) -> After
+    requires { ⌜ Unhindered l (now nodes) (now edges) (now journal) used (now rule) (now slots) (now lens) (now atoms) ⌝ }
+    ensures { λ a. ⌜ Applies l (now (nodes .entry)) (now (edges .entry)) (now (journal .entry)) used (now (rule .entry)) (now (slots .entry)) a (now (nodes .exit)) (now (edges .exit)) (now (journal .exit)) ⌝ }
+{
+    let all = change(l, nodes, edges, journal, used, rule, slots, lens, atoms);
+    if takes_nodes(rule) {
+        if ledger::edge_on_free_node(l, &nodes[..], &edges[..]) {
+            return After {
+                applied: Applied::Stopped(Stop::EdgeOnFreeNode),
+                records: all,
+            };
+        }
+    }
+    After {
+        applied: Applied::Done,
+        records: all,
+    }
+}
+
+// Applies a rule at its first match: the checks, then the changes and the test after them.
 pub fn apply(
     l: Layout,
     nodes: &mut [u8],
@@ -371,17 +451,7 @@ pub fn apply(
             };
         }
         Applied::Done => {
-            let all = change(l, nodes, edges, journal, used, rule, slots, lens, atoms);
-            if ledger::edge_on_free_node(l, &nodes[..], &edges[..]) {
-                return After {
-                    applied: Applied::Stopped(Stop::EdgeOnFreeNode),
-                    records: all,
-                };
-            }
-            return After {
-                applied: Applied::Done,
-                records: all,
-            };
+            return change_and_test(l, nodes, edges, journal, used, rule, slots, lens, atoms);
         }
     }
 }

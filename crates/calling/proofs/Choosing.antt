@@ -74,8 +74,8 @@ module _ (L : Layout) (image numbers nodes edges : List ℕ) where
 
   -- all were passed
   pub none-chosen : (i : ℕ) → i ≤ length numbers → length numbers ≤ i → Passed i → (m : Matched) → m .outcome ≡ NoMatch
-      → IsChoice L image numbers nodes edges (record { number = 0; matched = m })
-  none-chosen i a b passed m q =
+      → (lens atoms : List ℕ) → IsChoice L image numbers nodes edges (record { number = 0; matched = m }) lens atoms
+  none-chosen i a b passed m q lens atoms =
       record {
         right = λ p e. rw q (sym (passed p e ∙ none-left (p .rules) (hostOf L nodes edges) numbers i a b));
         match = λ p e w. let z : _≡_ {A = ℕ} 0 1 = cc in absurd (omega arith);
@@ -104,11 +104,11 @@ module _ {image numbers bs : List ℕ} {i n : ℕ} (t : Tried image numbers bs i
         holds = legal-rule (p .tree .rules) (p .legal) n .holds;
       }
 
-  module _ {L : Layout} {nodes edges : List ℕ} {m : Matched} (passed : Passed L image numbers nodes edges i)
-      (first : IsFirst L nodes edges bs m)
+  module _ {L : Layout} {nodes edges lens atoms : List ℕ} {m : Matched} (passed : Passed L image numbers nodes edges i)
+      (first : IsFirst L nodes edges bs m lens atoms)
     where
       -- it has a match
-      pub chosen : m .outcome ≡ Match → IsChoice L image numbers nodes edges (record { number = n; matched = m })
+      pub chosen : m .outcome ≡ Match → IsChoice L image numbers nodes edges (record { number = n; matched = m }) lens atoms
       chosen q =
           record {
             right = λ p e.

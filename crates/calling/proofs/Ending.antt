@@ -71,8 +71,8 @@ call-fails L nodes edges journal t room rules o e = rw (← e)
 -- Over bytes: what the code's call comes to.
 
 -- no rule has a match
-pub fails : {L : Layout} {image numbers nodes edges journal : List ℕ} {c : Choice} (t : Tally)
-    → IsChoice L image numbers nodes edges c → c .matched .outcome ≡ NoMatch → Running L nodes edges journal (t .records)
+pub fails : {L : Layout} {image numbers nodes edges journal lens atoms : List ℕ} {c : Choice} (t : Tally)
+    → IsChoice L image numbers nodes edges c lens atoms → c .matched .outcome ≡ NoMatch → Running L nodes edges journal (t .records)
     → Called L image numbers nodes edges journal t (record { end = Failed; tally = t }) nodes edges journal
 fails {L} {image} {numbers} {nodes} {edges} {journal} t choice q run =
     record {
@@ -81,13 +81,13 @@ fails {L} {image} {numbers} {nodes} {edges} {journal} t choice q run =
     }
 
 -- the rule of the choice's number has a match, and the bytes are its part
-pub record Found (L : Layout) (image numbers nodes edges bs : List ℕ) (c : Choice) : Type 0 where
-  pub choice : IsChoice L image numbers nodes edges c
+pub record Found (L : Layout) (image numbers nodes edges bs : List ℕ) (c : Choice) (lens atoms : List ℕ) : Type 0 where
+  pub choice : IsChoice L image numbers nodes edges c lens atoms
   pub match : c .matched .outcome ≡ Match
   pub part : For (program image)
       (λ p. c .number < length (p .rules) → (d : Rule) → rule bs ≡ some (getD (p .rules) (c .number) d))
 
-module _ {L : Layout} {image numbers nodes edges bs : List ℕ} {c : Choice} (f : Found L image numbers nodes edges bs c) where
+module _ {L : Layout} {image numbers nodes edges bs lens atoms : List ℕ} {c : Choice} (f : Found L image numbers nodes edges bs c lens atoms) where
   there : For (program image) (λ p. rule bs ≡ some (ruleAt (p .rules) (c .number)))
   there p e = f .part p e (f .choice .match p e (f .match) .there) _
 
@@ -96,7 +96,7 @@ module _ {L : Layout} {image numbers nodes edges bs : List ℕ} {c : Choice} (f 
   chosen p e = rw (f .match) at (f .choice .right p e)
 
   -- it can be applied
-  pub at-match : Listed image numbers → AtMatch L nodes edges bs (c .matched .slots) (c .matched .lens) (c .matched .atoms)
+  pub at-match : Listed image numbers → AtMatch L nodes edges bs (c .matched .slots) lens atoms
   at-match listed =
       let p = listed .programmed in
       let m = f .choice .match (p .tree) (p .is) (f .match) in

@@ -18,7 +18,7 @@ use Rattle.meaning.specs.declared.End.the-variants.{Done as doneEnd, Stopped as
 use Rattle.references.specs.Runs.{For}
 use Rattle.graph.specs.Graph.{hostOf}
 use Rattle.matching.specs.Next.{total}
-use Rattle.matching.specs.Values.{Arrays, valuesOf}
+use Rattle.values.specs.Values.{valuesOf, Stored}
 use Rattle.matching.specs.declared.Outcome.{Outcome}
 use Rattle.matching.specs.declared.Outcome.the-variants.{Match, NoMatch}
 use Rattle.ledger.specs.declared.Applied.{Applied}
@@ -36,20 +36,20 @@ chosenAt rules i slots NoMatch = none
 
 module _ (L : Layout) where
   -- a match of a rule of the list: the arrays hold the values of the variables that occur on the left
-  pub record HasMatch (rules : List Rule) (nodes edges : List ℕ) (c : Choice) : Type 0 where
+  pub record HasMatch (rules : List Rule) (nodes edges : List ℕ) (c : Choice) (lens atoms : List ℕ) : Type 0 where
     pub there : c .number < length rules
     pub room : length (c .matched .slots) ≡ 12
-    pub arrays : Arrays (c .matched .lens) (c .matched .atoms)
+    pub arrays : Stored lens atoms
     pub values : (v : ℕ) → absent v (names (ruleAt rules (c .number) .left)) ≡ false
-        → valuesOf (c .matched .lens) (c .matched .atoms) v
+        → valuesOf lens atoms v
         ≡ assigned (hostOf L nodes edges) (ruleAt rules (c .number)) (take (total (ruleAt rules (c .number))) (c .matched .slots)) v
 
   -- the first listed rule that has a match
-  pub record IsChoice (image numbers nodes edges : List ℕ) (c : Choice) : Type 0 where
+  pub record IsChoice (image numbers nodes edges : List ℕ) (c : Choice) (lens atoms : List ℕ) : Type 0 where
     pub right : For (program image)
         (λ p. chosenAt (p .rules) (c .number) (c .matched .slots) (c .matched .outcome)
         ≡ firstRule (p .rules) (hostOf L nodes edges) numbers)
-    pub match : For (program image) (λ p. c .matched .outcome ≡ Match → HasMatch (p .rules) nodes edges c)
+    pub match : For (program image) (λ p. c .matched .outcome ≡ Match → HasMatch (p .rules) nodes edges c lens atoms)
 
 -- How applying it ends the call.
 

@@ -1,6 +1,8 @@
 // A call of a rule set: the first listed rule that has a match is applied; it fails if none has.
 ghost use mathlib.Core.Path.{_≡_};
+ghost use lib.ListN.{length};
 ghost use Rattle.graph.specs.Graph.{Legal};
+ghost use Rattle.values.specs.Values.{Stored};
 ghost use Rattle.ledger.specs.Running.{Running};
 ghost use Rattle.calling.specs.Called.{Listed, Called};
 ghost use Rattle.calling.specs.Choosing.{IsChoice, ranAfter};
@@ -24,17 +26,28 @@ pub struct Choice {
     pub matched: Matched,
 }
 
-// The first of the rules of these numbers that has a match, with that match.
-pub fn first_rule(l: Layout, image: &[u8], numbers: &[u8], nodes: &[u8], edges: &[u8]) -> Choice
+// The first of the rules of these numbers that has a match, with that match. Room is lent for the plan of a rule and for the
+// values of the match's variables.
+pub fn first_rule(
+    l: Layout,
+    image: &[u8],
+    numbers: &[u8],
+    nodes: &[u8],
+    edges: &[u8],
+    plan: &mut [usize; 102],
+    lens: &mut [usize; 6],
+    atoms: &mut [u32; 48],
+) -> Choice
     requires { ⌜ Legal l (now nodes) (now edges) ⌝ }
     requires { ⌜ Listed (now image) (now numbers) ⌝ }
-    ensures { λ c. ⌜ IsChoice l (now (image .entry)) (now (numbers .entry)) (now (nodes .entry)) (now (edges .entry)) c ⌝ }
+    requires { ⌜ (length (now plan) ≡ 102) × Stored (now lens) (now atoms) ⌝ }
+    ensures { λ c. ⌜ IsChoice l (now (image .entry)) (now (numbers .entry)) (now (nodes .entry)) (now (edges .entry)) c (now (lens .exit)) (now (atoms .exit)) ⌝ }
 {
     let mut i: usize = 0;
     while i < numbers.len() {
         let number = fields::wide(numbers[i]);
         let rule = references::parts::rule_part(image, number);
-        let matched = matching::first_match(l, nodes, edges, rule);
+        let matched = matching::first_match(l, nodes, edges, rule, plan, lens, atoms);
         let outcome = matched.outcome;
         match outcome {
             Outcome::Match => {
@@ -80,26 +93,27 @@ pub fn call(
     requires { ⌜ Listed (now image) (now numbers) ⌝ }
     ensures { λ r. ⌜ Called l (now (image .entry)) (now (numbers .entry)) (now (nodes .entry)) (now (edges .entry)) (now (journal .entry)) t r (now (nodes .exit)) (now (edges .exit)) (now (journal .exit)) ⌝ }
 {
-    let c = first_rule(l, image, numbers, &nodes[..], &edges[..]);
+    let mut plan = [0usize; 102];
+    let mut lens = [0usize; 6];
+    let mut atoms = [0u32; 48];
+    let c = first_rule(
+        l,
+        image,
+        numbers,
+        &nodes[..],
+        &edges[..],
+        &mut plan,
+        &mut lens,
+        &mut atoms,
+    );
     let m = c.matched;
     let outcome = m.outcome;
     match outcome {
         Outcome::Match => {
             let rule = references::parts::rule_part(image, c.number);
             let slots = m.slots;
-            let lens = m.lens;
-            let atoms = m.atoms;
-            let a = applying::apply(
-                l,
-                nodes,
-                edges,
-                journal,
-                t.records,
-                rule,
-                &slots,
-                &lens,
-                &atoms,
-            );
+            let used = t.records;
+            let a = applying::apply(l, nodes, edges, journal, used, rule, &slots, &lens, &atoms);
             after(t, a)
         }
         Outcome::NoMatch => Ran {

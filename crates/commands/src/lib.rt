@@ -289,7 +289,33 @@ fn run_loop(
     }
 }
 
-// Runs the main command of an image.
+// Enters and runs a rule set of these numbers.
+fn run_set(
+    l: Layout,
+    image: &[u8],
+    p: &[u8],
+    nodes: &mut [u8],
+    edges: &mut [u8],
+    journal: &mut [u8],
+    t: Tally,
+) -> Ran
+    requires { ⌜ Begun l (now nodes) (now edges) (now journal) t ⌝ }
+    requires { ⌜ Known (now image) 80 (now p) ⌝ }
+    ensures { λ r. ⌜ Comes l (Known (now (image .entry)) 80 (now (p .entry))) (runsCommand l) (now (nodes .entry)) (now (edges .entry)) (now (journal .entry)) t r (now (nodes .exit)) (now (edges .exit)) (now (journal .exit)) ⌝ }
+{
+    let fuel = t.fuel;
+    if fuel == 0 {
+        return Ran {
+            end: End::Stopped(Stop::OutOfFuel),
+            tally: t,
+        };
+    }
+    let spent = tally::entered(t);
+    calling::call(l, image, p, nodes, edges, journal, spent)
+}
+
+// Runs the main command of an image. A lone rule set is called at once: with two callers the compiler keeps the call, and the
+// arrays of the search, out of the frame of run_command, so that a level of nested commands takes little stack.
 pub fn run_program(
     l: Layout,
     image: &[u8],
@@ -304,5 +330,8 @@ pub fn run_program(
 {
     let tag = parts::main_tag(image);
     let part = parts::main_part(image);
+    if tag == 0x50 {
+        return run_set(l, image, part, nodes, edges, journal, t);
+    }
     run_command(l, image, tag, part, nodes, edges, journal, t)
 }

@@ -1,45 +1,74 @@
--- What the clauses of a candidate's test are in the words of a trial. Rests on Trials and on the meaning's FirstMatch.
-use mathlib.Core.Path.{_≡_, sym, _∙_}
-use mathlib.Core.Bool.{Bool}
-use mathlib.Core.List.{List, []}
+-- What the clauses of a candidate's test are in the words of a trial; the test in its steps, by the slot alone, beside the items
+-- placed, and by label and tests; and labels that agree where their length fits. Rests on Trials and on the meaning's FirstMatch.
+use mathlib.Core.Path.{_≡_, refl, sym, _∙_, ap}
+use mathlib.Core.Logic.{inl, inr}
+use mathlib.Core.Bool.{Bool, true, false}
+use mathlib.Core.List.{List, [], _∷_, _++_, append-nil}
 use Prim.Native.Nat.{ℕ, _+_, _-_, _<_, _≤_}
 use native.Mathlib.Omega.{arith}
-use lib.ListN.{length, getD, drop}
-use Rattle.meaning.specs.Basics.{absent}
-use Rattle.meaning.specs.Layout.{Host}
+use native.Mathlib.Decide.{ℕ-discrete}
+use borrow.Author.Tests.{eq-eqb, eqb-true}
+use lib.Dec.{eqb}
+use lib.ListN.{length, getD, drop, length-append}
+use lib.Seq.{getD-at, take-all}
+use Rattle.meaning.specs.Basics.{choose, both, clauses, all, absent, same, concat}
+use Rattle.meaning.specs.Layout.{Host, liveAt}
 use Rattle.meaning.specs.Image.{Rule}
-use Rattle.meaning.specs.References.{labels}
-use Rattle.meaning.specs.Matching.{Assignment, nodeAt, edgeAt, leftNode, leftEdge, leftNodes, leftEdges, nodeSlot}
-use Rattle.meaning.specs.FirstMatch.{marksAgree, labelAgrees, joins}
-use Rattle.meaning.specs.Laws.Tests.{choose-lt, choose-le}
+use Rattle.meaning.specs.References.{labels, lists, ruleHolds}
+use Rattle.meaning.specs.Matching.{nodeAt, edgeAt, leftNode, leftEdge, leftNodes, leftEdges, nodeSlot, atomsOf, instance}
+use Rattle.meaning.specs.FirstMatch.{marksAgree, isVariable, share, spare, taken, orElse, assigned, lengthFits, labelAgrees, firstWith, testsSoFar, joins, linked, canGo, nodeFits, edgeFits, fits}
+use Rattle.meaning.specs.Laws.Tests.{choose-lt, choose-le, both-yes, both-no, both-of, same-of}
+use Rattle.meaning.specs.Laws.References.{label-simple}
+use Rattle.meaning.specs.Laws.Labels.{need, fits-need}
 use Rattle.meaning.specs.Laws.Assignment.{label-node, label-edge}
-use Rattle.fitting.specs.Fitting.{Known, Inside, labelAt, Tried, Full, Numbers, joinsAt}
+use Rattle.meaning.specs.declared.Element.the-variants.{Variable}
+use Rattle.plan.specs.Plan.{labelOf, Alone}
+use Rattle.fitting.specs.Fitting.{Known, Inside, slots, labelAt, Tried, Full, Numbers, joinsAt, Candidate, Guessed, NodeLike, Likely}
 use Rattle.fitting.specs.Trials.{few-items, tried, full}
-use Rattle.fitting.proofs.Loops.{of-first, of-second}
+use Rattle.fitting.proofs.Loops.{clauses-fail, first-of, of-first, of-second}
+use Rattle.fitting.proofs.Values.{assigned-first}
 
-module _ (h : Host) (r : Rule) (α : Assignment) (b : Bool) (c : ℕ) where
-  pub node-agrees : (i : ℕ) → i < leftNodes r → b ≡ labelAgrees r α (getD (labels (r .left)) i []) (labelAt h (leftNodes r) i c)
-      → b ≡ labelAgrees r α (leftNode r i .label) (nodeAt h c .label)
-  node-agrees i k e = e ∙ rw (label-node r i k, choose-lt i (leftNodes r) (nodeAt h c .label) (edgeAt h c .label) k)
+-- Trials.
 
-  pub edge-agrees : (i : ℕ) → leftNodes r ≤ i → i < leftNodes r + leftEdges r → b ≡ labelAgrees r α (getD (labels (r .left)) i []) (labelAt h (leftNodes r) i c)
-      → b ≡ labelAgrees r α (leftEdge r (i - leftNodes r) .label) (edgeAt h c .label)
-  edge-agrees i k l e =
-      let s : leftNodes r + (i - leftNodes r) ≡ i = omega arith in
-      let m = rw s at (label-edge r (i - leftNodes r) (omega arith)) in
-      e ∙ rw (m, choose-le i (leftNodes r) (nodeAt h c .label) (edgeAt h c .label) k)
+-- an item and a slot for it, by whichever rule the plan is of
+module _ {h : Host} {bs plan : List ℕ} {i c : ℕ} (w : Known bs plan) (k : Candidate h bs plan i c) where
+  pub item-there : i < leftNodes (w .rule) + leftEdges (w .rule)
+  item-there =
+      let a = w .planned .laid .items in
+      let b = k .planned .laid .items in
+      omega (arith, a .nodes, a .edges, b .nodes, b .edges, k .there)
+
+  pub item-inside : c < slots h (leftNodes (w .rule)) i
+  item-inside =
+      let n : leftNodes (k .rule) ≡ leftNodes (w .rule) = sym (k .planned .laid .items .nodes) ∙ w .planned .laid .items .nodes in
+      rw n at (k .inside)
+
+module _ {h : Host} {bs plan : List ℕ} (w : Known bs plan) (i c : ℕ) where
+  abbrev pub nodeCandidate : i < getD plan 0 0 → c < length (h .nodes) → Candidate h bs plan i c
+  nodeCandidate k s =
+      let n : i < leftNodes (w .rule) = omega (arith, w .planned .laid .items .nodes) in
+      record {
+        rule = w .rule;
+        planned = w .planned;
+        there = omega arith;
+        inside = of-first (λ m. c < m) i (leftNodes (w .rule)) (length (h .nodes)) (length (h .edges)) n s;
+      }
+
+  abbrev pub edgeCandidate : getD plan 0 0 ≤ i → i < getD plan 0 0 + getD plan 1 0 → c < length (h .edges) → Candidate h bs plan i c
+  edgeCandidate j k s =
+      let n : leftNodes (w .rule) ≤ i = omega (arith, w .planned .laid .items .nodes) in
+      record {
+        rule = w .rule;
+        planned = w .planned;
+        there = omega (arith, w .planned .laid .items .nodes, w .planned .laid .items .edges);
+        inside = of-second (λ m. c < m) i (leftNodes (w .rule)) (length (h .nodes)) (length (h .edges)) n s;
+      }
 
 module _ (h : Host) (bs plan at : List ℕ) (w : Known bs plan) (room : length at ≡ 12) where
-  abbrev pub triedNode : (i c : ℕ) → Inside h (getD plan 0 0) at i → i < getD plan 0 0 → c < length (h .nodes) → Tried h bs plan at i c
-  triedNode i c f k s =
+  abbrev pub triedItem : (i c : ℕ) → Inside h (getD plan 0 0) at i → Candidate h bs plan i c → Tried h bs plan at i c
+  triedItem i c f k =
       let n : getD plan 0 0 ≡ leftNodes (w .rule) = w .planned .laid .items .nodes in
-      tried h bs plan at w room i c (omega arith) (rw n at f) (of-first (λ m. c < m) i (leftNodes (w .rule)) _ _ (omega arith) s)
-
-  abbrev pub triedEdge : (i c : ℕ) → Inside h (getD plan 0 0) at i → getD plan 0 0 ≤ i → i < getD plan 0 0 + getD plan 1 0 → c < length (h .edges) → Tried h bs plan at i c
-  triedEdge i c f j k s =
-      let n : getD plan 0 0 ≡ leftNodes (w .rule) = w .planned .laid .items .nodes in
-      let m : getD plan 1 0 ≡ leftEdges (w .rule) = w .planned .laid .items .edges in
-      tried h bs plan at w room i c (omega arith) (rw n at f) (of-second (λ m. c < m) i (leftNodes (w .rule)) _ _ (omega arith) s)
+      tried h bs plan at w room i c (item-there w k) (rw n at f) (item-inside w k)
 
   abbrev pub allPlaced : Inside h (getD plan 0 0) at (getD plan 0 0 + getD plan 1 0) → Full h bs plan at 12 0
   allPlaced f =
@@ -47,7 +76,7 @@ module _ (h : Host) (bs plan at : List ℕ) (w : Known bs plan) (room : length a
       let m : getD plan 1 0 ≡ leftEdges (w .rule) = w .planned .laid .items .edges in
       full h bs plan at w room 12 0 (few-items h bs plan at w room) (rw (n, m) at f)
 
--- The other clauses, from what is in hand.
+-- Clauses, from what is in hand.
 
 pub marks-are : (a b m n : ℕ) (g : Bool) → m ≡ a → n ≡ b → g ≡ marksAgree m n → marksAgree a b ≡ g
 marks-are a b m n g p q e = sym (rw (p, q) at e)
@@ -71,3 +100,172 @@ module _ {bs plan : List ℕ} (w : Known bs plan) where
 
   pub absent-is : (l : List ℕ) (c : ℕ) (g : Bool) → g ≡ absent c (drop (getD plan 0 0) l) → absent c (drop (leftNodes (w .rule)) l) ≡ g
   absent-is l c g q = let n : getD plan 0 0 ≡ leftNodes (w .rule) = w .planned .laid .items .nodes in sym (rw n at q)
+
+never : {A : Type 0} → false ≡ true → A
+never e = let z : _≡_ {A = ℕ} 0 1 = cc in absurd (omega arith)
+
+both-end : (t : Bool) → both t true ≡ t
+unfolding both
+both-end true = refl
+both-end false = refl
+
+-- where all clauses but two hold, those two are left
+node-clauses : (a b c d e f g t : Bool) → a ≡ true → b ≡ true → c ≡ true → d ≡ true → f ≡ true → g ≡ true
+    → clauses (a ∷ b ∷ c ∷ d ∷ e ∷ f ∷ g ∷ t ∷ []) ≡ both e t
+unfolding clauses both
+node-clauses a b c d e f g t p q u v x y = rw (p, q, u, v, x, y) (ap (both e) (both-end t))
+
+edge-clauses : (a b e t : Bool) → a ≡ true → b ≡ true → clauses (a ∷ b ∷ e ∷ t ∷ []) ≡ both e t
+unfolding clauses both
+edge-clauses a b e t p q = rw (p, q) (ap (both e) (both-end t))
+
+-- A node's slot alone.
+
+module _ (h : Host) (r : Rule) (sort i c : ℕ) where
+  unlike : ((p : List ℕ) → nodeFits h r p i c ≡ false) → NodeLike h r sort i c false
+  unlike f = record { no = λ e. f; live = λ e. never e; marks = λ e. never e; roots = λ e. never e; label = λ e. never e }
+
+  pub free-slot : liveAt (h .nodes) c ≡ false → NodeLike h r sort i c false
+  unfolding nodeFits
+  free-slot e = unlike (λ p. sym (clauses-fail _ 0 (omega arith) e))
+
+  pub other-mark : marksAgree (leftNode r i .mark) (nodeAt h c .mark) ≡ false → NodeLike h r sort i c false
+  unfolding nodeFits
+  other-mark e = unlike (λ p. sym (clauses-fail _ 2 (omega arith) e))
+
+  pub other-root : eqb (leftNode r i .root) (nodeAt h c .root) ≡ false → NodeLike h r sort i c false
+  unfolding nodeFits
+  other-root e = unlike (λ p. sym (clauses-fail _ 3 (omega arith) e))
+
+  pub like-label : i < leftNodes r → liveAt (h .nodes) c ≡ true → marksAgree (leftNode r i .mark) (nodeAt h c .mark) ≡ true
+      → eqb (leftNode r i .root) (nodeAt h c .root) ≡ true → (b : Bool) → Guessed r sort (labelOf r i) (labelAt h (leftNodes r) i c) b
+      → NodeLike h r sort i c b
+  unfolding nodeFits
+  like-label k l m t b q =
+      let g = first-of (λ a. Guessed r sort (labelOf r i) a b) i (leftNodes r) (nodeAt h c .label) (edgeAt h c .label) k q in
+      record {
+        no = λ e p. sym (clauses-fail _ 4 (omega arith) (rw (label-node r i k) at (g .no e (assigned h r (p ++ c ∷ [])))));
+        live = λ e. l;
+        marks = λ e. m;
+        roots = λ e. t;
+        label = λ e. rw e at g;
+      }
+
+-- the slots passed do not fit, nor does one more
+pub passed-more : (h : Host) (r : Rule) (i c x : ℕ) → ((y : ℕ) → c ≤ y → y < x → (p : List ℕ) → nodeFits h r p i y ≡ false)
+    → ((p : List ℕ) → nodeFits h r p i x ≡ false) → (y : ℕ) → c ≤ y → y < x + 1 → (p : List ℕ) → nodeFits h r p i y ≡ false
+passed-more h r i c x f g y j k p = go (ℕ-discrete y x)
+  where
+    go : Dec (y ≡ x) → nodeFits h r p i y ≡ false
+    go (yes e) = rw e (g p)
+    go (no d) = f y j (omega arith) p
+
+-- A slot beside the items placed.
+
+module _ (h : Host) (r : Rule) (sort : ℕ) (p : List ℕ) (i c : ℕ) (n : length p ≡ i) where
+  unlikely : fits h r p c ≡ false → Likely h r sort p i c false
+  unlikely e = record { no = λ q. e; rest = λ q. never q; label = λ q. never q }
+
+  module _ (k : i < leftNodes r) where
+    fits-node : fits h r p c ≡ nodeFits h r p i c
+    unfolding fits
+    fits-node = choose-lt (length p) (leftNodes r) _ _ (omega arith) ∙ rw n
+
+    pub used-node : absent c p ≡ false → Likely h r sort p i c false
+    unfolding nodeFits
+    used-node e = unlikely (fits-node ∙ sym (clauses-fail _ 1 (omega arith) e))
+
+    pub unlinked : all (linked h r (p ++ c ∷ []) i) (leftEdges r) ≡ false → Likely h r sort p i c false
+    unfolding nodeFits
+    unlinked e = unlikely (fits-node ∙ sym (clauses-fail _ 5 (omega arith) e))
+
+    pub likely-node : NodeLike h r sort i c true → absent c p ≡ true → all (linked h r (p ++ c ∷ []) i) (leftEdges r) ≡ true
+        → (b : Bool) → b ≡ canGo h r i c → Likely h r sort p i c b
+    unfolding nodeFits
+    likely-node l a f b g =
+        record {
+          no = λ e. fits-node ∙ sym (clauses-fail _ 6 (omega arith) (sym g ∙ e));
+          rest = λ e.
+              fits-node
+              ∙ node-clauses _ _ _ _ _ _ _ _ (l .live refl) a (l .marks refl) (l .roots refl) f (sym g ∙ e)
+              ∙ rw (label-node r i k, choose-lt i (leftNodes r) (nodeAt h c .label) (edgeAt h c .label) k);
+          label = λ e. of-first (λ m. Guessed r sort (labelOf r i) m true) i (leftNodes r) (nodeAt h c .label) (edgeAt h c .label) k (l .label refl);
+        }
+
+  module _ (k : leftNodes r ≤ i) (l : i < leftNodes r + leftEdges r) where
+    fits-edge : fits h r p c ≡ edgeFits h r p (i - leftNodes r) c
+    unfolding fits
+    fits-edge = choose-le (length p) (leftNodes r) _ _ (omega arith) ∙ rw n
+
+    -- its label clause, in the words of the item
+    edge-agrees : labelAgrees r (assigned h r (p ++ c ∷ [])) (leftEdge r (i - leftNodes r) .label) (edgeAt h c .label)
+        ≡ labelAgrees r (assigned h r (p ++ c ∷ [])) (labelOf r i) (labelAt h (leftNodes r) i c)
+    edge-agrees =
+        let s : leftNodes r + (i - leftNodes r) ≡ i = omega arith in
+        let m = rw s at (label-edge r (i - leftNodes r) (omega arith)) in
+        rw (m, choose-le i (leftNodes r) (nodeAt h c .label) (edgeAt h c .label) k)
+
+    pub unjoined : joins h r p (i - leftNodes r) c ≡ false → Likely h r sort p i c false
+    unfolding edgeFits
+    unjoined e = unlikely (fits-edge ∙ sym (clauses-fail _ 0 (omega arith) e))
+
+    pub used-edge : absent c (drop (leftNodes r) p) ≡ false → Likely h r sort p i c false
+    unfolding edgeFits
+    used-edge e = unlikely (fits-edge ∙ sym (clauses-fail _ 1 (omega arith) e))
+
+    pub likely-edge : joins h r p (i - leftNodes r) c ≡ true → absent c (drop (leftNodes r) p) ≡ true → (b : Bool)
+        → Guessed r sort (labelOf r i) (labelAt h (leftNodes r) i c) b → Likely h r sort p i c b
+    unfolding edgeFits
+    likely-edge j a b g =
+        record {
+          no = λ e. fits-edge ∙ sym (clauses-fail _ 2 (omega arith) (edge-agrees ∙ g .no e _));
+          rest = λ e. fits-edge ∙ edge-clauses _ _ _ _ j a ∙ ap (λ (t : Bool). both t (testsSoFar h r (p ++ c ∷ []))) edge-agrees;
+          label = λ e. rw e at g;
+        }
+
+-- A label that is empty, or one variable that its item is the first to have, agrees where its length fits.
+
+-- such a variable takes all of the atoms
+lone-takes : (r : Rule) (v : ℕ) (m : List ℕ) → lists r (Variable v ∷ []) ≤ 1 → lengthFits r (Variable v ∷ []) m ≡ true
+    → orElse (taken r v (spare r (Variable v ∷ []) (length m)) (Variable v ∷ []) m) [] ≡ m
+unfolding taken isVariable orElse choose need
+lone-takes r v m s f =
+    let e = fits-need r (Variable v ∷ []) m s f in
+    rw (eq-eqb v v refl) (take-all (share r (spare r (Variable v ∷ []) (length m)) (Variable v)) m (omega arith))
+
+empty-fits : (r : Rule) (m : List ℕ) → lengthFits r [] m ≡ true → m ≡ []
+unfolding lengthFits lists choose
+empty-fits r m f = let e = eqb-true (length m) 0 f in sym (take-all 0 m (omega arith))
+
+module _ (h : Host) (r : Rule) (p : List ℕ) (i c : ℕ) (n : length p ≡ i) (k : i < leftNodes r + leftEdges r) (holds : ruleHolds r ≡ true)
+    (f : lengthFits r (labelOf r i) (labelAt h (leftNodes r) i c) ≡ true) where
+  first-takes : (v : ℕ) → labelOf r i ≡ Variable v ∷ [] → firstWith v (labels (r .left)) ≡ i
+      → assigned h r (p ++ c ∷ []) v ≡ labelAt h (leftNodes r) i c
+  first-takes v l e =
+      let s = length-append p (c ∷ []) in
+      let a = rw (e, getD-at p c [] 0 i n, l) at (assigned-first h r (p ++ c ∷ []) v (omega arith) (omega arith)) in
+      a ∙ lone-takes r v (labelAt h (leftNodes r) i c) (rw l at (label-simple r holds i)) (rw l at f)
+
+  pub alone-agrees : Alone r i (labelOf r i) → labelAgrees r (assigned h r (p ++ c ∷ [])) (labelOf r i) (labelAt h (leftNodes r) i c) ≡ true
+  unfolding labelAgrees concat atomsOf
+  alone-agrees (inl e) = both-of _ _ f (same-of _ _ (rw e (empty-fits r _ (rw e at f))))
+  alone-agrees (inr x) =
+      both-of _ _ f (same-of _ _ (rw (x .is) (sym (append-nil _ ∙ first-takes (x .variable) (x .is) (x .first)))))
+
+-- Label and tests of a slot that is likely.
+
+module _ {h : Host} {r : Rule} {sort : ℕ} {p : List ℕ} {i c : ℕ} (l : Likely h r sort p i c true) where
+  -- the label agrees where the atoms are those that it stands for
+  pub compared-is : (g : Bool) → g ≡ same (labelAt h (leftNodes r) i c) (instance (assigned h r (p ++ c ∷ [])) (labelOf r i))
+      → labelAgrees r (assigned h r (p ++ c ∷ [])) (labelOf r i) (labelAt h (leftNodes r) i c) ≡ g
+  unfolding labelAgrees
+  compared-is g q = both-yes _ _ (l .label refl .length refl) ∙ sym q
+
+  pub compared-no : (g : Bool) → g ≡ same (labelAt h (leftNodes r) i c) (instance (assigned h r (p ++ c ∷ [])) (labelOf r i)) → g ≡ false
+      → false ≡ fits h r p c
+  compared-no g q e = sym (l .rest refl ∙ both-no _ _ (compared-is g q ∙ e))
+
+  -- the tests are left where the label agrees
+  pub left-tests : labelAgrees r (assigned h r (p ++ c ∷ [])) (labelOf r i) (labelAt h (leftNodes r) i c) ≡ true
+      → (b : Bool) → b ≡ testsSoFar h r (p ++ c ∷ []) → b ≡ fits h r p c
+  left-tests e b q = q ∙ sym (l .rest refl ∙ both-yes _ _ e)

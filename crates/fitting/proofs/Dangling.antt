@@ -85,3 +85,9 @@ module _ (h : Host) (r : Rule) (plan at : List ℕ) (x : ℕ) (e : Numbers plan 
       pub dangles-near : g ≡ true → (b : Bool) → b ≡ absent x (drop (getD plan 0 0) (take (getD plan 0 0 + getD plan 1 0) at)) → b ≡ dangles h r whole x
       unfolding dangles
       dangles-near z b y = y ∙ rw (e .nodes, e .edges) (sym (both-yes _ _ (touched (sym i ∙ d) s t p q ∙ sym f ∙ z)))
+
+-- where no node goes, no edge dangles
+pub none-dangles : (h : Host) (r : Rule) (p : List ℕ) (n : ℕ) → leftNodes r ≤ r .interface → any (dangles h r p) n ≡ false
+unfolding dangles touchesGone
+none-dangles h r p n k =
+    any-no (dangles h r p) n (λ x l. both-no _ _ (any-no (touchesGone h r p x) (leftNodes r) (λ j m. both-no _ _ (lt-leb (r .interface) j (omega arith)))))

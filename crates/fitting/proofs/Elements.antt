@@ -1,12 +1,13 @@
 -- Elements, operands and conditions case by case: what a trial gives their variables and nodes, and what they then stand for.
 -- Rests on Fitting and on the meaning's Matching.
-use mathlib.Core.Path.{_≡_, sym, _∙_, ap}
+use mathlib.Core.Path.{_≡_, refl, sym, _∙_, ap}
 use mathlib.Core.Bool.{Bool, true, false, not}
 use mathlib.Core.List.{List, [], _∷_}
-use Prim.Native.Nat.{ℕ, _<_}
+use Prim.Native.Nat.{ℕ, _+_, _<_, _≤_}
+use native.Mathlib.Omega.{arith}
 use lib.Dec.{eqb, ltb}
-use lib.ListN.{length, getD}
-use Rattle.meaning.specs.Basics.{any}
+use lib.ListN.{length, getD, take, drop}
+use Rattle.meaning.specs.Basics.{any, same}
 use Rattle.meaning.specs.Numbers.{height, less}
 use Rattle.meaning.specs.Layout.{Host}
 use Rattle.meaning.specs.References.{operandNames, elementNames, conditionOperands, conditionNodes}
@@ -19,38 +20,44 @@ use Rattle.meaning.specs.declared.Element.the-variants.{Constant, Variable, Sum
 use Rattle.meaning.specs.declared.Condition.{Condition}
 use Rattle.meaning.specs.declared.Condition.the-variants.{Edge as edgeBetween, InDegree, OutDegree, Equal, Less}
 use Rattle.meaning.specs.declared.Test.{Test}
-use Rattle.labels.specs.Labels.{atomsIn, Holds}
-use Rattle.labels.specs.declared.Label.{Label}
 use Rattle.plan.specs.Plan.{testOf}
-use Rattle.fitting.specs.Fitting.{slotOf, Valued, OperandValued, Decided, HasValue, HasElement, HasOperand, HasCondition, HasTest}
+use Rattle.fitting.specs.declared.Agrees.the-variants.{Upto, Differs}
+use Rattle.fitting.specs.Fitting.{slotOf, AgreesFrom, Valued, OperandValued, Decided, HasValue, HasElement, HasOperand, HasCondition, HasTest}
 
--- What elements and operands stand for.
+-- What elements stand for, and whether atoms have it from a place on.
 
-module _ (α : Assignment) (e : Element) (b : Label) where
-  pub constant-atoms : (x : ℕ) → e ≡ Constant x → Holds (x ∷ []) b → Holds (atomsOf α e) b
-  unfolding atomsOf
-  constant-atoms x q h = rw q h
+pub variable-atoms : (α : Assignment) (e : Element) (v : ℕ) → e ≡ Variable v → atomsOf α e ≡ α v
+unfolding atomsOf
+variable-atoms α e v q = rw q
 
-  pub variable-atoms : (v : ℕ) → e ≡ Variable v → Holds (α v) b → Holds (atomsOf α e) b
-  unfolding atomsOf
-  variable-atoms v q h = rw q h
+module _ (α : Assignment) (e : Element) (m : List ℕ) (from : ℕ) where
+  module _ (x : ℕ) (q : e ≡ Constant x) where
+    pub constant-agrees : true ≡ same (take 1 (drop from m)) (x ∷ []) → from + 1 ≤ length m → AgreesFrom m from (atomsOf α e) (Upto (from + 1))
+    unfolding atomsOf
+    constant-agrees s k = rw q (refl, k, sym s)
 
-  pub sum-atoms : (x y : Operand) → e ≡ Sum x y → Holds [] b → Holds (atomsOf α e) b
-  unfolding atomsOf
-  sum-atoms x y q h = rw q h
+    pub constant-differs : false ≡ same (take 1 (drop from m)) (x ∷ []) → AgreesFrom m from (atomsOf α e) Differs
+    unfolding atomsOf
+    constant-differs s = rw q (sym s)
 
-  pub difference-atoms : (x y : Operand) → e ≡ Difference x y → Holds [] b → Holds (atomsOf α e) b
-  unfolding atomsOf
-  difference-atoms x y q h = rw q h
+  pub sum-agrees : (x y : Operand) → e ≡ Sum x y → from ≤ length m → AgreesFrom m from (atomsOf α e) (Upto from)
+  unfolding atomsOf same
+  sum-agrees x y q k = rw q (omega arith, k, refl)
+
+  pub difference-agrees : (x y : Operand) → e ≡ Difference x y → from ≤ length m → AgreesFrom m from (atomsOf α e) (Upto from)
+  unfolding atomsOf same
+  difference-agrees x y q k = rw q (omega arith, k, refl)
+
+-- What operands stand for.
 
 module _ (α : Assignment) (o : Operand) where
   pub constant-atom : (x : ℕ) → o ≡ constantOperand x → x ≡ atomOf α o
   unfolding atomOf
   constant-atom x q = rw q
 
-  pub variable-atom : (v x : ℕ) (b : Label) → o ≡ variableOperand v → Holds (α v) b → x ≡ getD (atomsIn b) 0 0 → x ≡ atomOf α o
+  pub variable-atom : (v x : ℕ) → o ≡ variableOperand v → x ≡ getD (α v) 0 0 → x ≡ atomOf α o
   unfolding atomOf
-  variable-atom v x b q h e = e ∙ rw (q, h .atoms)
+  variable-atom v x q e = rw q e
 
 -- What a trial gives.
 

@@ -1,4 +1,5 @@
 mod Loops
+mod Parts
 mod Values
 mod Agreeing
 mod Elements

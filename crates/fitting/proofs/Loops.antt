@@ -90,7 +90,7 @@ every-fails f (a ∷ l) (suc t) d h e = go (f a) (every-fails f l t d (omega ari
     go true q = q
     go false q = refl
 
--- Clauses: one that does not hold, wherever it stands; and the last, where the others hold.
+-- Clauses: one that does not hold, wherever it stands.
 
 pub clauses-fail : (l : List Bool) (i : ℕ) → i < length l → getD l i true ≡ false → false ≡ clauses l
 unfolding clauses both
@@ -101,15 +101,6 @@ clauses-fail (b ∷ l) (suc i) h e = go b (clauses-fail l i (omega arith) e)
     go : (b : Bool) → false ≡ clauses l → false ≡ both b (clauses l)
     go true q = q
     go false q = refl
-
-pub clauses-first : (b : Bool) (l : List Bool) → b ≡ true → clauses l ≡ clauses (b ∷ l)
-unfolding clauses both
-clauses-first b l e = rw e
-
-pub clauses-one : (b : Bool) → b ≡ clauses (b ∷ [])
-unfolding clauses both
-clauses-one true = refl
-clauses-one false = refl
 
 -- By whether the first of two numbers is below the second.
 

@@ -1,5 +1,5 @@
 -- The values that a placement gives: that of a variable, from the first item that has it; and that the elements of a placed
--- item's label have values. Rests on Fitting and on the meaning's laws of labels and assignments.
+-- item's label have values. Rests on Fitting, on Parts and on the meaning's laws of labels and assignments.
 use mathlib.Core.Path.{_≡_, refl, sym, _∙_, ap}
 use mathlib.Core.Bool.{Bool, true, false}
 use mathlib.Core.List.{List, [], _∷_, _++_, map}
@@ -8,6 +8,7 @@ use native.Mathlib.Omega.{arith}
 use native.Mathlib.Decide.{decLt}
 use borrow.Author.Tests.{eq-eqb}
 use lib.ListN.{length, getD, take, drop, length-map}
+use lib.Seq.{getD-take, getD-drop}
 use Rattle.meaning.specs.Basics.{choose}
 use Rattle.meaning.specs.Layout.{Host}
 use Rattle.meaning.specs.Image.{Rule}
@@ -21,9 +22,8 @@ use Rattle.meaning.specs.Laws.Labels.{taken-has, taken-not}
 use Rattle.meaning.specs.Laws.Assignment.{labels-length}
 use Rattle.meaning.specs.declared.Element.{Element}
 use Rattle.meaning.specs.declared.Element.the-variants.{Constant, Variable, Sum, Difference}
-use Rattle.labels.specs.Labels.{atomsIn, Held, Holds}
-use Rattle.labels.specs.declared.Label.{Label}
-use Rattle.fitting.specs.Fitting.{slots, slotOf, labelAt, ElementValued, HasValue}
+use Rattle.fitting.specs.Fitting.{slots, slotOf, labelAt, ElementValued, HasValue, OnLeft, Takes}
+use Rattle.fitting.proofs.Parts.{item-is}
 
 -- what variable v takes of atoms m at label l, or nothing
 abbrev takenOf : Rule → ℕ → List Element → List ℕ → List ℕ
@@ -81,7 +81,7 @@ host-label h r q j k = go (decLt j (leftNodes r))
         parted-back (λ x. nodeAt h x .label) (λ x. edgeAt h x .label) (leftNodes r) q j (omega arith) k
         ∙ sym (choose-le j (leftNodes r) (nodeAt h (getD q j 0) .label) (edgeAt h (getD q j 0) .label) (omega arith))
 
-assigned-first : (h : Host) (r : Rule) (q : List ℕ) (v : ℕ) → length q ≤ leftNodes r + leftEdges r → firstWith v (labels (r .left)) < length q
+pub assigned-first : (h : Host) (r : Rule) (q : List ℕ) (v : ℕ) → length q ≤ leftNodes r + leftEdges r → firstWith v (labels (r .left)) < length q
     → assigned h r q v
     ≡ takenOf r v (getD (labels (r .left)) (firstWith v (labels (r .left))) []) (labelAt h (leftNodes r) (firstWith v (labels (r .left))) (getD q (firstWith v (labels (r .left))) 0))
 assigned-first h r q v s k =
@@ -90,39 +90,52 @@ assigned-first h r q v s k =
     value-first r v (labels (r .left)) (hostLabels h r q) (omega arith) (omega arith)
     ∙ ap (takenOf r v (getD (labels (r .left)) (firstWith v (labels (r .left))) [])) (host-label h r q _ k)
 
--- A trial's variable, whose first item and its slot, label and value are in hand.
+-- A trial's variable: the slot of its first item, and its value where that item's label has it.
 
 module _ {h : Host} {bs plan at : List ℕ} {i c v : ℕ} (w : HasValue h bs plan at i c v) where
-  pub first-item : (j : ℕ) → j ≡ getD plan (28 + v) 0 → j ≡ firstWith v (labels (w .trial .rule .left))
-  first-item j e = e ∙ w .trial .planned .first v (w .valued .0)
+  abbrev pub on-left : OnLeft bs plan v
+  on-left =
+      record {
+        rule = w .trial .rule;
+        planned = w .trial .planned;
+        there = w .valued .0;
+        placed = omega (arith, w .valued .1, w .trial .few);
+      }
 
-  pub first-placed : (j : ℕ) → j ≡ getD plan (28 + v) 0 → j < length (w .trial .placed)
-  first-placed j e = let f = first-item j e in omega (arith, w .valued .1)
+  first-placed : getD plan (28 + v) 0 < length (w .trial .placed)
+  first-placed = omega (arith, item-is on-left, w .valued .1)
 
-  pub first-there : (j : ℕ) → j ≡ getD plan (28 + v) 0 → j < leftNodes (w .trial .rule) + leftEdges (w .trial .rule)
-  first-there j e = let f = first-placed j e in omega (arith, w .trial .few)
+  module _ (x : ℕ) (s : x ≡ slotOf at i c (getD plan (28 + v) 0)) where
+    first-slot : x ≡ getD (w .trial .placed) (getD plan (28 + v) 0) 0
+    first-slot = s ∙ w .trial .slot (getD plan (28 + v) 0) first-placed
 
-  -- it is below twelve, and its slot is inside its table
-  pub first-low : (j : ℕ) → j ≡ getD plan (28 + v) 0 → j < 12
-  first-low j e =
-      let t = w .trial .planned .laid .items in
-      omega (arith, first-there j e, t .fewNodes, t .fewEdges)
+    -- it is inside its table
+    pub first-inside : x < slots h (getD plan 0 0) (getD plan (28 + v) 0)
+    first-inside =
+        let n : getD plan 0 0 ≡ leftNodes (w .trial .rule) = w .trial .planned .laid .items .nodes in
+        rw (n, first-slot) (w .trial .inside (getD plan (28 + v) 0) first-placed)
 
-  pub first-inside : (j x : ℕ) → j ≡ getD plan (28 + v) 0 → x ≡ slotOf at i c j → x < slots h (getD plan 0 0) j
-  first-inside j x e s =
-      let n : getD plan 0 0 ≡ leftNodes (w .trial .rule) = w .trial .planned .laid .items .nodes in
-      rw (n, s ∙ w .trial .slot j (first-placed j e)) (w .trial .inside j (first-placed j e))
+    -- and what the variable takes of its label is its value
+    module _ (m : List ℕ) (len from n : ℕ) (g : m ≡ labelAt h (getD plan 0 0) (getD plan (28 + v) 0) x) (e : length m ≡ len) (t : Takes (w .trial .rule) v len from n) where
+      pub part-value : take n (drop from m) ≡ assigned h (w .trial .rule) (w .trial .placed) v
+      part-value =
+          let f = item-is on-left in
+          let k : getD plan 0 0 ≡ leftNodes (w .trial .rule) = w .trial .planned .laid .items .nodes in
+          let q = assigned-first h (w .trial .rule) (w .trial .placed) v (w .trial .few) (w .valued .1) in
+          let d : m ≡ labelAt h (leftNodes (w .trial .rule)) (firstWith v (labels (w .trial .rule .left))) (getD (w .trial .placed) (firstWith v (labels (w .trial .rule .left))) 0) =
+          g ∙ rw (first-slot, k, f)
+          in
+          t m e ∙ rw (← e, d) (sym q)
 
-  pub value-holds : (j x : ℕ) (a b : Label) → j ≡ getD plan (28 + v) 0 → x ≡ slotOf at i c j → Holds (labelAt h (getD plan 0 0) j x) a → Held b
-      → atomsIn b ≡ takenOf (w .trial .rule) v (getD (labels (w .trial .rule .left)) j []) (atomsIn a)
-      → Holds (assigned h (w .trial .rule) (w .trial .placed) v) b
-  value-holds j x a b e s g d t =
-      let f = first-item j e in
-      let n : getD plan 0 0 ≡ leftNodes (w .trial .rule) = w .trial .planned .laid .items .nodes in
-      let y : x ≡ getD (w .trial .placed) j 0 = s ∙ w .trial .slot j (first-placed j e) in
-      let m : atomsIn a ≡ labelAt h (leftNodes (w .trial .rule)) j (getD (w .trial .placed) j 0) = g .atoms ∙ rw (n, y) in
-      let q = assigned-first h (w .trial .rule) (w .trial .placed) v (w .trial .few) (w .valued .1) in
-      record { held = d; atoms = t ∙ rw (m, f) (sym q) }
+      -- whose first atom is there, if it has one
+      pub no-atom : n ≡ 0 → 0 ≡ getD (assigned h (w .trial .rule) (w .trial .placed) v) 0 0
+      no-atom z = rw (← part-value, z)
+
+      pub first-atom : (n ≡ 0 → ⊥) → getD m from 0 ≡ getD (assigned h (w .trial .rule) (w .trial .placed) v) 0 0
+      first-atom d =
+          let z : from + 0 ≡ from = omega arith in
+          let k : 0 < n = omega arith in
+          rw (← part-value) (sym (getD-take n (drop from m) 0 0 k ∙ getD-drop from m 0 0 ∙ rw z))
 
 -- The elements of a placed item's label have values.
 

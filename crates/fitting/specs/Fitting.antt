@@ -1,23 +1,25 @@
 -- What the functions know: the rule and its plan, the slots placed so far, and what an element, an operand or a test needs
 -- of them. Rests on the plan's Plan and on the meaning's Matching and FirstMatch.
 use mathlib.Core.Path.{_≡_}
-use mathlib.Core.Bool.{Bool}
+use mathlib.Core.Bool.{Bool, true, false}
 use mathlib.Core.Option.{some}
-use mathlib.Core.List.{List}
+use mathlib.Core.List.{List, [], _∷_, _++_}
 use Prim.Native.Nat.{ℕ, _+_, _<_, _≤_}
-use lib.ListN.{length, getD}
+use lib.ListN.{length, getD, take, drop}
 use lib.Dec.{eqb, leb, ltb}
-use Rattle.meaning.specs.Basics.{choose, both, either}
-use Rattle.meaning.specs.Layout.{Host}
+use Rattle.meaning.specs.Basics.{choose, both, either, same}
+use Rattle.meaning.specs.Layout.{Host, liveAt}
 use Rattle.meaning.specs.Image.{Rule, label}
 use Rattle.meaning.specs.References.{operandNames, elementNames, conditionOperands, conditionNodes, labels}
-use Rattle.meaning.specs.Matching.{nodeAt, edgeAt, leftNodes, leftEdges, leftEdge, runs}
-use Rattle.meaning.specs.FirstMatch.{marksAgree, firstWith}
+use Rattle.meaning.specs.Matching.{nodeAt, edgeAt, leftNodes, leftEdges, leftNode, leftEdge, Assignment, runs}
+use Rattle.meaning.specs.FirstMatch.{marksAgree, firstWith, spare, taken, orElse, assigned, lengthFits, labelAgrees, testsSoFar, nodeFits, fits}
 use Rattle.meaning.specs.Laws.Every.{Every}
 use Rattle.meaning.specs.declared.Operand.{Operand}
 use Rattle.meaning.specs.declared.Element.{Element}
 use Rattle.meaning.specs.declared.Condition.{Condition}
-use Rattle.plan.specs.Plan.{Planned, testOf}
+use Rattle.plan.specs.Plan.{Planned, testOf, labelOf}
+use Rattle.fitting.specs.declared.Agrees.{Agrees}
+use Rattle.fitting.specs.declared.Agrees.the-variants.{Upto, Differs}
 
 -- the rule that the plan is of
 pub record Known (bs plan : List ℕ) : Type 0 where
@@ -126,7 +128,7 @@ pub record Numbers (plan : List ℕ) (r : Rule) : Type 0 where
 
 -- there is room for a plan's numbers and for the slots of all its items
 pub record Room (plan at : List ℕ) : Type 0 where
-  pub numbers : length plan ≡ 42
+  pub numbers : length plan ≡ 102
   pub slots : length at ≡ 12
   pub items : getD plan 0 0 + getD plan 1 0 ≤ 12
 
@@ -137,3 +139,62 @@ joinsAt h r k s t x = both (runs h s t x) (marksAgree (leftEdge r k .mark) (edge
 -- slot s or slot t is that of item j, which is not one of the first k
 abbrev pub goneAt : ℕ → List ℕ → ℕ → ℕ → ℕ → Bool
 goneAt k at s t j = both (leb k j) (either (eqb s (getD at j 0)) (eqb t (getD at j 0)))
+
+-- Where values are.
+
+-- variable v is one of the rule's, and a left item has it
+pub record OnLeft (bs plan : List ℕ) (v : ℕ) : Type 0 where
+  pub rule : Rule
+  pub planned : Planned bs rule plan
+  pub there : v < length (rule .variables)
+  pub placed : firstWith v (labels (rule .left)) < leftNodes rule + leftEdges rule
+
+-- of a label of so many atoms, variable v takes the n from a place on, at the first item that has it
+abbrev pub Takes : Rule → ℕ → ℕ → ℕ → ℕ → Type 0
+Takes r v len from n =
+    (m : List ℕ) → length m ≡ len
+    → take n (drop from m)
+    ≡ orElse (taken r v (spare r (labelOf r (firstWith v (labels (r .left)))) len) (labelOf r (firstWith v (labels (r .left)))) m) []
+
+-- the atoms m have b from a place on, and up to where; or they don't
+abbrev pub AgreesFrom : List ℕ → ℕ → List ℕ → Agrees → Type 0
+AgreesFrom m from b (Upto k) = (k ≡ from + length b) × (k ≤ length m) × (same (take (length b) (drop from m)) b ≡ true)
+AgreesFrom m from b Differs = same (take (length b) (drop from m)) b ≡ false
+
+-- Candidates in two steps.
+
+-- item i is one of the rule's, and slot c is in its table
+pub record Candidate (h : Host) (bs plan : List ℕ) (i c : ℕ) : Type 0 where
+  pub rule : Rule
+  pub planned : Planned bs rule plan
+  pub there : i < leftNodes rule + leftEdges rule
+  pub inside : c < slots h (leftNodes rule) i
+
+-- what is known of a label by its length and, for a label of sort 2, by its atom
+pub record Guessed (r : Rule) (sort : ℕ) (l : List Element) (m : List ℕ) (b : Bool) : Type 0 where
+  pub no : b ≡ false → (α : Assignment) → labelAgrees r α l m ≡ false
+  pub length : b ≡ true → lengthFits r l m ≡ true
+  pub constant : b ≡ true → sort ≡ 2 → (α : Assignment) → labelAgrees r α l m ≡ true
+
+module _ (h : Host) (r : Rule) where
+  -- what is known of slot c for left node i by the slot alone
+  pub record NodeLike (sort i c : ℕ) (b : Bool) : Type 0 where
+    pub no : b ≡ false → (p : List ℕ) → nodeFits h r p i c ≡ false
+    pub live : b ≡ true → liveAt (h .nodes) c ≡ true
+    pub marks : b ≡ true → marksAgree (leftNode r i .mark) (nodeAt h c .mark) ≡ true
+    pub roots : b ≡ true → eqb (leftNode r i .root) (nodeAt h c .root) ≡ true
+    pub label : b ≡ true → Guessed r sort (labelOf r i) (nodeAt h c .label) true
+
+  -- the first such slot from c to n, or n
+  pub record NextLike (sort i c n y : ℕ) : Type 0 where
+    pub onward : c ≤ n → c ≤ y
+    pub inside : c ≤ n → y ≤ n
+    pub passed : (x : ℕ) → c ≤ x → x < y → (p : List ℕ) → nodeFits h r p i x ≡ false
+    pub like : y < n → NodeLike sort i y true
+
+  -- slot c cannot stand for item i behind the prefix p, or it can if label and tests agree
+  pub record Likely (sort : ℕ) (p : List ℕ) (i c : ℕ) (b : Bool) : Type 0 where
+    pub no : b ≡ false → fits h r p c ≡ false
+    pub rest : b ≡ true → fits h r p c
+        ≡ both (labelAgrees r (assigned h r (p ++ c ∷ [])) (labelOf r i) (labelAt h (leftNodes r) i c)) (testsSoFar h r (p ++ c ∷ []))
+    pub label : b ≡ true → Guessed r sort (labelOf r i) (labelAt h (leftNodes r) i c) true

@@ -1,20 +1,19 @@
 // Candidates of the search: whether a slot can stand for a left item behind the items placed so far, and whether a full
 // placement leaves nothing dangling and passes the tests.
 ghost use mathlib.Core.Path.{_≡_};
-ghost use mathlib.Core.List.{[]};
+ghost use mathlib.Core.Bool.{true};
 ghost use Prim.Native.Nat.{_+_, _-_, _<_, _≤_, max};
 ghost use lib.ListN.{length, getD, take, drop};
 ghost use Rattle.meaning.specs.Basics.{any, all, count, every, absent, same};
 ghost use Rattle.meaning.specs.Numbers.{height};
 ghost use Rattle.meaning.specs.Layout.{Host};
 ghost use Rattle.meaning.specs.Image.{Rule};
-ghost use Rattle.meaning.specs.References.{labels};
 ghost use Rattle.meaning.specs.Matching.{leftNodes, leftEdges, leftEdge, nodeSlot, atomsOf, atomOf, instance, conditionHolds, testHolds};
-ghost use Rattle.meaning.specs.FirstMatch.{marksAgree, assigned, labelAgrees, linked as isLinked, leftTouches, canGo, testsSoFar, nodeFits, edgeFits, dangles as isDangling, complete as isComplete};
+ghost use Rattle.meaning.specs.FirstMatch.{marksAgree, assigned, linked as isLinked, leftTouches, canGo, testsSoFar, fits, dangles as isDangling, complete as isComplete};
 ghost use Rattle.labels.specs.Labels.{atomsIn, Held, Holds};
 ghost use Rattle.graph.specs.Graph.{Legal, hostOf};
-ghost use Rattle.plan.specs.Plan.{For, IsLaid, HasEdge, testOf};
-ghost use Rattle.fitting.specs.Fitting.{Known, Inside, slots, labelAt, slotOf, Tried, TriedEdge, Full, HasValue, HasElement, HasOperand, HasElements, HasCondition, HasTest, Numbers, Room, joinsAt, goneAt};
+ghost use Rattle.plan.specs.Plan.{For, IsLaid, HasEdge, testOf, labelOf};
+ghost use Rattle.fitting.specs.Fitting.{Known, Inside, slots, labelAt, slotOf, Tried, TriedEdge, Full, HasValue, HasElement, HasOperand, HasElements, HasCondition, HasTest, Numbers, Room, joinsAt, goneAt, OnLeft, Takes, Candidate, AgreesFrom, Guessed, NodeLike, NextLike, Likely};
 use labels::Front;
 use labels::Label;
 use meaning::Condition;
@@ -40,7 +39,7 @@ fn item_label(
     l: Layout,
     nodes: &[u8],
     edges: &[u8],
-    plan: &[usize; 42],
+    plan: &[usize; 102],
     j: usize,
     x: usize,
 ) -> Label
@@ -54,13 +53,78 @@ fn item_label(
     graph::edge_label(l, nodes, edges, x)
 }
 
+// How many atoms that label has.
+fn item_length(
+    l: Layout,
+    nodes: &[u8],
+    edges: &[u8],
+    plan: &[usize; 102],
+    j: usize,
+    x: usize,
+) -> usize
+    requires { ⌜ Legal l (now nodes) (now edges) ⌝ }
+    requires { ⌜ (0 < length (now plan)) × (x < slots (hostOf l (now nodes) (now edges)) (getD (now plan) 0 0) j) ⌝ }
+    ensures { λ r. ⌜ (r ≡ length (labelAt (hostOf l (now (nodes .entry)) (now (edges .entry))) (getD (now (plan .entry)) 0 0) j x)) × (r ≤ 8) ⌝ }
+{
+    if j < plan[0] {
+        return graph::node_length(l, nodes, edges, x);
+    }
+    graph::edge_length(l, nodes, edges, x)
+}
+
+// Its atom of number k.
+fn item_atom(
+    l: Layout,
+    nodes: &[u8],
+    edges: &[u8],
+    plan: &[usize; 102],
+    j: usize,
+    x: usize,
+    k: usize,
+) -> u32
+    requires { ⌜ Legal l (now nodes) (now edges) ⌝ }
+    requires { ⌜ (0 < length (now plan)) × (x < slots (hostOf l (now nodes) (now edges)) (getD (now plan) 0 0) j) ⌝ }
+    requires { ⌜ k < length (labelAt (hostOf l (now nodes) (now edges)) (getD (now plan) 0 0) j x) ⌝ }
+    ensures { λ r. ⌜ r ≡ getD (labelAt (hostOf l (now (nodes .entry)) (now (edges .entry))) (getD (now (plan .entry)) 0 0) j x) k 0 ⌝ }
+{
+    if j < plan[0] {
+        return graph::node_atom(l, nodes, edges, x, k);
+    }
+    graph::edge_atom(l, nodes, edges, x, k)
+}
+
+// Atoms of a label: so many from a place on.
+pub struct Part {
+    pub from: usize,
+    pub n: usize,
+}
+
+// The atoms that variable v takes of a label of len atoms, at the first item that has it.
+fn part_of(rule: &[u8], plan: &[usize; 102], v: usize, len: usize) -> Part
+    requires { ⌜ OnLeft (now rule) (now plan) v ⌝ }
+    requires { ⌜ len ≤ 8 ⌝ }
+    ensures { λ t. ⌜ (t .from + t .n ≤ len) × ((w : OnLeft (now (rule .entry)) (now (plan .entry)) v) → Takes (w .rule) v len (t .from) (t .n)) ⌝ }
+{
+    let n = labels::spare(plan::counts(plan, plan[28 + v]), len);
+    let k = labels::share(plan::types(rule, plan), Element::Variable(v), n);
+    let from = plan[90 + v] + plan[96 + v] * n;
+    if len <= from {
+        return Part { from: 0, n: 0 };
+    }
+    let left = len - from;
+    if left < k {
+        return Part { from, n: left };
+    }
+    Part { from, n: k }
+}
+
 // The value of variable v, which item plan[28 + v] is the first to have.
 pub fn value(
     l: Layout,
     nodes: &[u8],
     edges: &[u8],
     rule: &[u8],
-    plan: &[usize; 42],
+    plan: &[usize; 102],
     at: &[usize; 12],
     i: usize,
     c: usize,
@@ -72,30 +136,73 @@ pub fn value(
 {
     let j = plan[28 + v];
     let a = item_label(l, nodes, edges, plan, j, slot_of(at, i, c, j));
-    labels::taken(plan::types(rule, plan), plan::pattern(rule, plan, j), v, a)
+    let t = part_of(rule, plan, v, a.len);
+    labels::cut(a, t.from, t.n)
 }
 
-// The atoms that a left element stands for.
-fn element_value(
+// Up to where a label agrees with an element.
+pub enum Agrees {
+    Upto(usize),
+    Differs,
+}
+
+// Whether label a has, from a place on, the value of variable v.
+fn variable_agrees(
     l: Layout,
     nodes: &[u8],
     edges: &[u8],
     rule: &[u8],
-    plan: &[usize; 42],
+    plan: &[usize; 102],
+    at: &[usize; 12],
+    i: usize,
+    c: usize,
+    v: usize,
+    a: Label,
+    from: usize,
+) -> Agrees
+    requires { ⌜ Legal l (now nodes) (now edges) ⌝ }
+    requires { ⌜ HasValue (hostOf l (now nodes) (now edges)) (now rule) (now plan) (now at) i c v ⌝ }
+    requires { ⌜ Held a × (from ≤ a .len) ⌝ }
+    ensures { λ r. ⌜ ((w : HasValue (hostOf l (now (nodes .entry)) (now (edges .entry))) (now (rule .entry)) (now (plan .entry)) (now (at .entry)) i c v) → AgreesFrom (atomsIn a) from (assigned (hostOf l (now (nodes .entry)) (now (edges .entry))) (w .trial .rule) (w .trial .placed) v) r) ⌝ }
+{
+    let j = plan[28 + v];
+    let b = item_label(l, nodes, edges, plan, j, slot_of(at, i, c, j));
+    let t = part_of(rule, plan, v, b.len);
+    if labels::has_part(a, from, b, t.from, t.n) {
+        return Agrees::Upto(from + t.n);
+    }
+    Agrees::Differs
+}
+
+// Whether label a has, from a place on, the atoms that a left element stands for.
+fn element_agrees(
+    l: Layout,
+    nodes: &[u8],
+    edges: &[u8],
+    rule: &[u8],
+    plan: &[usize; 102],
     at: &[usize; 12],
     i: usize,
     c: usize,
     e: Element,
-) -> Label
+    a: Label,
+    from: usize,
+) -> Agrees
     requires { ⌜ Legal l (now nodes) (now edges) ⌝ }
     requires { ⌜ HasElement (hostOf l (now nodes) (now edges)) (now rule) (now plan) (now at) i c e ⌝ }
-    ensures { λ r. ⌜ ((w : HasElement (hostOf l (now (nodes .entry)) (now (edges .entry))) (now (rule .entry)) (now (plan .entry)) (now (at .entry)) i c e) → Holds (atomsOf (assigned (hostOf l (now (nodes .entry)) (now (edges .entry))) (w .trial .rule) (w .trial .placed)) e) r) ⌝ }
+    requires { ⌜ Held a × (from ≤ a .len) ⌝ }
+    ensures { λ r. ⌜ ((w : HasElement (hostOf l (now (nodes .entry)) (now (edges .entry))) (now (rule .entry)) (now (plan .entry)) (now (at .entry)) i c e) → AgreesFrom (atomsIn a) from (atomsOf (assigned (hostOf l (now (nodes .entry)) (now (edges .entry))) (w .trial .rule) (w .trial .placed)) e) r) ⌝ }
 {
     match e {
-        Element::Constant(x) => labels::one(x),
-        Element::Variable(v) => value(l, nodes, edges, rule, plan, at, i, c, v),
-        Element::Sum(a, b) => labels::none(),
-        Element::Difference(a, b) => labels::none(),
+        Element::Constant(x) => {
+            if labels::has_atom(a, from, x) {
+                return Agrees::Upto(from + 1);
+            }
+            Agrees::Differs
+        }
+        Element::Variable(v) => variable_agrees(l, nodes, edges, rule, plan, at, i, c, v, a, from),
+        Element::Sum(x, y) => Agrees::Upto(from),
+        Element::Difference(x, y) => Agrees::Upto(from),
     }
 }
 
@@ -105,7 +212,7 @@ fn elements_agree(
     nodes: &[u8],
     edges: &[u8],
     rule: &[u8],
-    plan: &[usize; 42],
+    plan: &[usize; 102],
     at: &[usize; 12],
     i: usize,
     c: usize,
@@ -123,12 +230,16 @@ fn elements_agree(
         let front = labels::first_element(rest);
         match front {
             Front::First(e, end) => {
-                let b = element_value(l, nodes, edges, rule, plan, at, i, c, e);
-                if !labels::has_at(a, from, b) {
-                    return false;
+                let next = element_agrees(l, nodes, edges, rule, plan, at, i, c, e, a, from);
+                match next {
+                    Agrees::Upto(k) => {
+                        from = k;
+                        rest = &rest[end..];
+                    }
+                    Agrees::Differs => {
+                        return false;
+                    }
                 }
-                from += b.len;
-                rest = &rest[end..];
             }
             Front::Nothing => {
                 return from == a.len;
@@ -137,28 +248,49 @@ fn elements_agree(
     }
 }
 
-// Whether the label of item i at slot c agrees with its pattern.
-fn label_agrees(
+// Whether the label in slot c can agree with that of item i, by its length and, where that is one constant, by its atom.
+fn label_likely(
     l: Layout,
     nodes: &[u8],
     edges: &[u8],
     rule: &[u8],
-    plan: &[usize; 42],
+    plan: &[usize; 102],
+    i: usize,
+    c: usize,
+) -> bool
+    requires { ⌜ Legal l (now nodes) (now edges) ⌝ }
+    requires { ⌜ Candidate (hostOf l (now nodes) (now edges)) (now rule) (now plan) i c ⌝ }
+    ensures { λ b. ⌜ ((w : Known (now (rule .entry)) (now (plan .entry))) → Guessed (w .rule) (getD (now (plan .entry)) (66 + i) 0) (labelOf (w .rule) i) (labelAt (hostOf l (now (nodes .entry)) (now (edges .entry))) (leftNodes (w .rule)) i c) b) ⌝ }
+{
+    let n = item_length(l, nodes, edges, plan, i, c);
+    if labels::length_fits(plan::counts(plan, i), n) {
+        if plan[66 + i] == 2 {
+            let x = item_atom(l, nodes, edges, plan, i, c, 0);
+            return x as usize == plan[78 + i];
+        }
+        return true;
+    }
+    false
+}
+
+// Whether the label of item i at slot c agrees with its pattern, where its length fits: both are copied out and compared.
+fn compared(
+    l: Layout,
+    nodes: &[u8],
+    edges: &[u8],
+    rule: &[u8],
+    plan: &[usize; 102],
     at: &[usize; 12],
     i: usize,
     c: usize,
 ) -> bool
     requires { ⌜ Legal l (now nodes) (now edges) ⌝ }
     requires { ⌜ Tried (hostOf l (now nodes) (now edges)) (now rule) (now plan) (now at) i c ⌝ }
-    ensures { λ r. ⌜ ((w : Tried (hostOf l (now (nodes .entry)) (now (edges .entry))) (now (rule .entry)) (now (plan .entry)) (now (at .entry)) i c) → r ≡ labelAgrees (w .trial .rule) (assigned (hostOf l (now (nodes .entry)) (now (edges .entry))) (w .trial .rule) (w .trial .placed)) (getD (labels (w .trial .rule .left)) i []) (labelAt (hostOf l (now (nodes .entry)) (now (edges .entry))) (leftNodes (w .trial .rule)) i c)) ⌝ }
+    ensures { λ r. ⌜ ((w : Tried (hostOf l (now (nodes .entry)) (now (edges .entry))) (now (rule .entry)) (now (plan .entry)) (now (at .entry)) i c) → r ≡ same (labelAt (hostOf l (now (nodes .entry)) (now (edges .entry))) (leftNodes (w .trial .rule)) i c) (instance (assigned (hostOf l (now (nodes .entry)) (now (edges .entry))) (w .trial .rule) (w .trial .placed)) (labelOf (w .trial .rule) i))) ⌝ }
 {
     let a = item_label(l, nodes, edges, plan, i, c);
     let p = plan::pattern(rule, plan, i);
-    let s = labels::shape(plan::types(rule, plan), p);
-    if labels::length_fits(s, a.len) {
-        return elements_agree(l, nodes, edges, rule, plan, at, i, c, p, a);
-    }
-    false
+    elements_agree(l, nodes, edges, rule, plan, at, i, c, p, a)
 }
 
 // Marks, slots and edges.
@@ -193,7 +325,7 @@ fn joins(
     nodes: &[u8],
     edges: &[u8],
     rule: &[u8],
-    plan: &[usize; 42],
+    plan: &[usize; 102],
     k: usize,
     s: usize,
     t: usize,
@@ -218,7 +350,7 @@ fn any_joins(
     nodes: &[u8],
     edges: &[u8],
     rule: &[u8],
-    plan: &[usize; 42],
+    plan: &[usize; 102],
     k: usize,
     s: usize,
     t: usize,
@@ -253,7 +385,7 @@ fn link_holds(
     nodes: &[u8],
     edges: &[u8],
     rule: &[u8],
-    plan: &[usize; 42],
+    plan: &[usize; 102],
     at: &[usize; 12],
     i: usize,
     c: usize,
@@ -285,7 +417,7 @@ fn linked(
     nodes: &[u8],
     edges: &[u8],
     rule: &[u8],
-    plan: &[usize; 42],
+    plan: &[usize; 102],
     at: &[usize; 12],
     i: usize,
     c: usize,
@@ -305,7 +437,7 @@ fn linked(
     true
 }
 
-fn left_touches(rule: &[u8], plan: &[usize; 42], i: usize, k: usize) -> bool
+fn left_touches(rule: &[u8], plan: &[usize; 102], i: usize, k: usize) -> bool
     requires { ⌜ HasEdge (now rule) (now plan) k ⌝ }
     ensures { λ b. ⌜ For (now (rule .entry)) (now (plan .entry)) (λ r. (h : Host) → b ≡ leftTouches h r i k) ⌝ }
 {
@@ -315,7 +447,7 @@ fn left_touches(rule: &[u8], plan: &[usize; 42], i: usize, k: usize) -> bool
     plan::target(rule, plan, k) == i
 }
 
-fn left_degree(rule: &[u8], plan: &[usize; 42], i: usize) -> usize
+fn left_degree(rule: &[u8], plan: &[usize; 102], i: usize) -> usize
     requires { ⌜ IsLaid (now rule) (now plan) ⌝ }
     ensures { λ d. ⌜ For (now (rule .entry)) (now (plan .entry)) (λ r. (h : Host) → d ≡ count (leftTouches h r i) (leftEdges r)) ⌝ }
 {
@@ -339,7 +471,7 @@ fn can_go(
     nodes: &[u8],
     edges: &[u8],
     rule: &[u8],
-    plan: &[usize; 42],
+    plan: &[usize; 102],
     i: usize,
     c: usize,
 ) -> bool
@@ -355,13 +487,38 @@ fn can_go(
 
 // Tests.
 
+// The first atom of the value of variable v, 0 if it has none.
+fn variable_atom(
+    l: Layout,
+    nodes: &[u8],
+    edges: &[u8],
+    rule: &[u8],
+    plan: &[usize; 102],
+    at: &[usize; 12],
+    i: usize,
+    c: usize,
+    v: usize,
+) -> u32
+    requires { ⌜ Legal l (now nodes) (now edges) ⌝ }
+    requires { ⌜ HasValue (hostOf l (now nodes) (now edges)) (now rule) (now plan) (now at) i c v ⌝ }
+    ensures { λ r. ⌜ ((w : HasValue (hostOf l (now (nodes .entry)) (now (edges .entry))) (now (rule .entry)) (now (plan .entry)) (now (at .entry)) i c v) → r ≡ getD (assigned (hostOf l (now (nodes .entry)) (now (edges .entry))) (w .trial .rule) (w .trial .placed) v) 0 0) ⌝ }
+{
+    let j = plan[28 + v];
+    let x = slot_of(at, i, c, j);
+    let t = part_of(rule, plan, v, item_length(l, nodes, edges, plan, j, x));
+    if t.n == 0 {
+        return 0;
+    }
+    item_atom(l, nodes, edges, plan, j, x, t.from)
+}
+
 // An operand's atom.
 fn atom(
     l: Layout,
     nodes: &[u8],
     edges: &[u8],
     rule: &[u8],
-    plan: &[usize; 42],
+    plan: &[usize; 102],
     at: &[usize; 12],
     i: usize,
     c: usize,
@@ -373,20 +530,8 @@ fn atom(
 {
     match o {
         Operand::Constant(x) => x,
-        Operand::Variable(v) => first_atom(value(l, nodes, edges, rule, plan, at, i, c, v)),
+        Operand::Variable(v) => variable_atom(l, nodes, edges, rule, plan, at, i, c, v),
     }
-}
-
-// The first atom of a label, or 0.
-fn first_atom(a: Label) -> u32
-    requires { ⌜ Held a ⌝ }
-    ensures { λ r. ⌜ r ≡ getD (atomsIn a) 0 0 ⌝ }
-{
-    if a.len == 0 {
-        return 0;
-    }
-    let atoms = a.atoms;
-    atoms[0]
 }
 
 // An atom's signed value plus 2^31.
@@ -404,7 +549,7 @@ fn condition_holds(
     nodes: &[u8],
     edges: &[u8],
     rule: &[u8],
-    plan: &[usize; 42],
+    plan: &[usize; 102],
     at: &[usize; 12],
     i: usize,
     c: usize,
@@ -441,7 +586,7 @@ fn test_holds(
     nodes: &[u8],
     edges: &[u8],
     rule: &[u8],
-    plan: &[usize; 42],
+    plan: &[usize; 102],
     at: &[usize; 12],
     i: usize,
     c: usize,
@@ -466,7 +611,7 @@ fn tests_so_far(
     nodes: &[u8],
     edges: &[u8],
     rule: &[u8],
-    plan: &[usize; 42],
+    plan: &[usize; 102],
     at: &[usize; 12],
     i: usize,
     c: usize,
@@ -490,24 +635,22 @@ fn tests_so_far(
     true
 }
 
-// Candidates.
+// Candidates, in two steps: whether a slot is likely, by all but label and tests, and the rest.
 
-// Whether slot c can stand for left node i.
-pub fn node_fits(
+// Whether slot c can stand for left node i, as far as the slot alone tells.
+fn node_like(
     l: Layout,
     nodes: &[u8],
     edges: &[u8],
     rule: &[u8],
-    plan: &[usize; 42],
-    at: &[usize; 12],
+    plan: &[usize; 102],
     i: usize,
     c: usize,
 ) -> bool
     requires { ⌜ Legal l (now nodes) (now edges) ⌝ }
     requires { ⌜ Known (now rule) (now plan) ⌝ }
-    requires { ⌜ (length (now at) ≡ 12) × Inside (hostOf l (now nodes) (now edges)) (getD (now plan) 0 0) (now at) i ⌝ }
     requires { ⌜ (i < getD (now plan) 0 0) × (c < length (hostOf l (now nodes) (now edges) .nodes)) ⌝ }
-    ensures { λ r. ⌜ ((w : Known (now (rule .entry)) (now (plan .entry))) → r ≡ nodeFits (hostOf l (now (nodes .entry)) (now (edges .entry))) (w .rule) (take i (now (at .entry))) i c) ⌝ }
+    ensures { λ b. ⌜ ((w : Known (now (rule .entry)) (now (plan .entry))) → NodeLike (hostOf l (now (nodes .entry)) (now (edges .entry))) (w .rule) (getD (now (plan .entry)) (66 + i) 0) i c b) ⌝ }
 {
     if !graph::node_live(l, nodes, edges, c) {
         return false;
@@ -521,28 +664,69 @@ pub fn node_fits(
     if plan::root(rule, plan, i) != graph::node_root(l, nodes, edges, c) {
         return false;
     }
-    if !absent(at, 0, i, c) {
-        return false;
+    label_likely(l, nodes, edges, rule, plan, i, c)
+}
+
+// The first slot from c to n that can, n if there is none.
+pub fn next_like(
+    l: Layout,
+    nodes: &[u8],
+    edges: &[u8],
+    rule: &[u8],
+    plan: &[usize; 102],
+    i: usize,
+    c: usize,
+    n: usize,
+) -> usize
+    requires { ⌜ Legal l (now nodes) (now edges) ⌝ }
+    requires { ⌜ Known (now rule) (now plan) ⌝ }
+    requires { ⌜ (i < getD (now plan) 0 0) × (n ≤ length (hostOf l (now nodes) (now edges) .nodes)) ⌝ }
+    ensures { λ y. ⌜ ((w : Known (now (rule .entry)) (now (plan .entry))) → NextLike (hostOf l (now (nodes .entry)) (now (edges .entry))) (w .rule) (getD (now (plan .entry)) (66 + i) 0) i c n y) ⌝ }
+{
+    let mut x = c;
+    while x < n {
+        if node_like(l, nodes, edges, rule, plan, i, x) {
+            return x;
+        }
+        x += 1;
     }
-    if !label_agrees(l, nodes, edges, rule, plan, at, i, c) {
+    n
+}
+
+// Whether slot c, which is like left node i, can stand for it beside the nodes placed, by all but label and tests.
+pub fn node_likely(
+    l: Layout,
+    nodes: &[u8],
+    edges: &[u8],
+    rule: &[u8],
+    plan: &[usize; 102],
+    at: &[usize; 12],
+    i: usize,
+    c: usize,
+) -> bool
+    requires { ⌜ Legal l (now nodes) (now edges) ⌝ }
+    requires { ⌜ Known (now rule) (now plan) ⌝ }
+    requires { ⌜ (length (now at) ≡ 12) × Inside (hostOf l (now nodes) (now edges)) (getD (now plan) 0 0) (now at) i ⌝ }
+    requires { ⌜ (i < getD (now plan) 0 0) × (c < length (hostOf l (now nodes) (now edges) .nodes)) ⌝ }
+    requires { ⌜ ((w : Known (now rule) (now plan)) → NodeLike (hostOf l (now nodes) (now edges)) (w .rule) (getD (now plan) (66 + i) 0) i c true) ⌝ }
+    ensures { λ b. ⌜ ((w : Known (now (rule .entry)) (now (plan .entry))) → Likely (hostOf l (now (nodes .entry)) (now (edges .entry))) (w .rule) (getD (now (plan .entry)) (66 + i) 0) (take i (now (at .entry))) i c b) ⌝ }
+{
+    if !absent(at, 0, i, c) {
         return false;
     }
     if !linked(l, nodes, edges, rule, plan, at, i, c) {
         return false;
     }
-    if !can_go(l, nodes, edges, rule, plan, i, c) {
-        return false;
-    }
-    tests_so_far(l, nodes, edges, rule, plan, at, i, c)
+    can_go(l, nodes, edges, rule, plan, i, c)
 }
 
-// Whether slot c can stand for the left edge that is item i, whose ends are at slots s and t.
-pub fn edge_fits(
+// Whether slot c can stand for the left edge that is item i, whose ends are at slots s and t, by all but label and tests.
+pub fn edge_likely(
     l: Layout,
     nodes: &[u8],
     edges: &[u8],
     rule: &[u8],
-    plan: &[usize; 42],
+    plan: &[usize; 102],
     at: &[usize; 12],
     i: usize,
     s: usize,
@@ -554,7 +738,7 @@ pub fn edge_fits(
     requires { ⌜ (length (now at) ≡ 12) × Inside (hostOf l (now nodes) (now edges)) (getD (now plan) 0 0) (now at) i ⌝ }
     requires { ⌜ (getD (now plan) 0 0 ≤ i) × (i < getD (now plan) 0 0 + getD (now plan) 1 0) × (c < length (hostOf l (now nodes) (now edges) .edges)) ⌝ }
     requires { ⌜ ((w : Known (now rule) (now plan)) → (s ≡ nodeSlot (take i (now at)) (leftEdge (w .rule) (i - leftNodes (w .rule)) .source)) × (t ≡ nodeSlot (take i (now at)) (leftEdge (w .rule) (i - leftNodes (w .rule)) .target))) ⌝ }
-    ensures { λ r. ⌜ ((w : Known (now (rule .entry)) (now (plan .entry))) → r ≡ edgeFits (hostOf l (now (nodes .entry)) (now (edges .entry))) (w .rule) (take i (now (at .entry))) (i - leftNodes (w .rule)) c) ⌝ }
+    ensures { λ b. ⌜ ((w : Known (now (rule .entry)) (now (plan .entry))) → Likely (hostOf l (now (nodes .entry)) (now (edges .entry))) (w .rule) (getD (now (plan .entry)) (66 + i) 0) (take i (now (at .entry))) i c b) ⌝ }
 {
     let n = plan[0];
     if !joins(l, nodes, edges, rule, plan, i - n, s, t, c) {
@@ -563,8 +747,34 @@ pub fn edge_fits(
     if !absent(at, n, i, c) {
         return false;
     }
-    if !label_agrees(l, nodes, edges, rule, plan, at, i, c) {
-        return false;
+    label_likely(l, nodes, edges, rule, plan, i, c)
+}
+
+// Whether slot c, which is likely for item i, fits it.
+pub fn rest_fits(
+    l: Layout,
+    nodes: &[u8],
+    edges: &[u8],
+    rule: &[u8],
+    plan: &[usize; 102],
+    at: &[usize; 12],
+    i: usize,
+    c: usize,
+) -> bool
+    requires { ⌜ Legal l (now nodes) (now edges) ⌝ }
+    requires { ⌜ Known (now rule) (now plan) ⌝ }
+    requires { ⌜ (length (now at) ≡ 12) × Inside (hostOf l (now nodes) (now edges)) (getD (now plan) 0 0) (now at) i ⌝ }
+    requires { ⌜ Candidate (hostOf l (now nodes) (now edges)) (now rule) (now plan) i c ⌝ }
+    requires { ⌜ ((w : Known (now rule) (now plan)) → Likely (hostOf l (now nodes) (now edges)) (w .rule) (getD (now plan) (66 + i) 0) (take i (now at)) i c true) ⌝ }
+    ensures { λ r. ⌜ ((w : Known (now (rule .entry)) (now (plan .entry))) → r ≡ fits (hostOf l (now (nodes .entry)) (now (edges .entry))) (w .rule) (take i (now (at .entry))) c) ⌝ }
+{
+    let sort = plan[66 + i];
+    if sort != 1 {
+        if sort != 2 {
+            if !compared(l, nodes, edges, rule, plan, at, i, c) {
+                return false;
+            }
+        }
     }
     tests_so_far(l, nodes, edges, rule, plan, at, i, c)
 }
@@ -572,7 +782,7 @@ pub fn edge_fits(
 // Full placements.
 
 // Whether slot s or slot t is that of a left node that goes.
-fn touches_gone(plan: &[usize; 42], at: &[usize; 12], s: usize, t: usize) -> bool
+fn touches_gone(plan: &[usize; 102], at: &[usize; 12], s: usize, t: usize) -> bool
     requires { ⌜ Room (now plan) (now at) ⌝ }
     ensures { λ r. ⌜ r ≡ any (goneAt (getD (now (plan .entry)) 2 0) (now (at .entry)) s t) (getD (now (plan .entry)) 0 0) ⌝ }
 {
@@ -596,7 +806,7 @@ fn dangles(
     l: Layout,
     nodes: &[u8],
     edges: &[u8],
-    plan: &[usize; 42],
+    plan: &[usize; 102],
     at: &[usize; 12],
     x: usize,
 ) -> bool
@@ -618,7 +828,7 @@ fn dangles(
     false
 }
 
-fn any_dangles(l: Layout, nodes: &[u8], edges: &[u8], plan: &[usize; 42], at: &[usize; 12]) -> bool
+fn any_dangles(l: Layout, nodes: &[u8], edges: &[u8], plan: &[usize; 102], at: &[usize; 12]) -> bool
     requires { ⌜ Legal l (now nodes) (now edges) ⌝ }
     requires { ⌜ Room (now plan) (now at) ⌝ }
     ensures { λ b. ⌜ ((r : Rule) → Numbers (now (plan .entry)) r → b ≡ any (isDangling (hostOf l (now (nodes .entry)) (now (edges .entry))) r (take (leftNodes r + leftEdges r) (now (at .entry)))) (length (hostOf l (now (nodes .entry)) (now (edges .entry)) .edges))) ⌝ }
@@ -639,7 +849,7 @@ fn all_tests(
     nodes: &[u8],
     edges: &[u8],
     rule: &[u8],
-    plan: &[usize; 42],
+    plan: &[usize; 102],
     at: &[usize; 12],
 ) -> bool
     requires { ⌜ Legal l (now nodes) (now edges) ⌝ }
@@ -663,7 +873,7 @@ pub fn complete(
     nodes: &[u8],
     edges: &[u8],
     rule: &[u8],
-    plan: &[usize; 42],
+    plan: &[usize; 102],
     at: &[usize; 12],
 ) -> bool
     requires { ⌜ Legal l (now nodes) (now edges) ⌝ }
@@ -671,8 +881,10 @@ pub fn complete(
     requires { ⌜ (length (now at) ≡ 12) × Inside (hostOf l (now nodes) (now edges)) (getD (now plan) 0 0) (now at) (getD (now plan) 0 0 + getD (now plan) 1 0) ⌝ }
     ensures { λ r. ⌜ ((w : Known (now (rule .entry)) (now (plan .entry))) → r ≡ isComplete (hostOf l (now (nodes .entry)) (now (edges .entry))) (w .rule) (take (leftNodes (w .rule) + leftEdges (w .rule)) (now (at .entry)))) ⌝ }
 {
-    if any_dangles(l, nodes, edges, plan, at) {
-        return false;
+    if plan[2] < plan[0] {
+        if any_dangles(l, nodes, edges, plan, at) {
+            return false;
+        }
     }
     all_tests(l, nodes, edges, rule, plan, at)
 }

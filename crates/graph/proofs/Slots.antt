@@ -14,7 +14,7 @@ use Rattle.meaning.specs.Numbers.{number}
 use Rattle.meaning.specs.Layout.{Slot, free, isLive, Node, Edge, Sized, nodeLength, edgeLength, pieces, cut, atoms, readNode, readEdge, readNodes, readEdges, keepsNode, keepsEdge}
 use Rattle.meaning.specs.Matching.{nodeIn, edgeIn}
 use Rattle.meaning.specs.Laws.Pieces.{getD-map, length-pieces, length-read}
-use Rattle.meaning.specs.Laws.Layout.{getD-zeros, readNode-free, readNode-live, isLive-readNode, keepsNode-free, keepsNode-live, readEdge-free, readEdge-live, isLive-readEdge, keepsEdge-free, keepsEdge-live, kept-node, kept-edge}
+use Rattle.meaning.specs.Laws.Layout.{getD-zeros, length-atoms, readNode-free, readNode-live, isLive-readNode, keepsNode-free, keepsNode-live, readEdge-free, readEdge-live, isLive-readEdge, keepsEdge-free, keepsEdge-live, kept-node, kept-edge}
 use Rattle.meaning.specs.declared.Layout.{Layout}
 use Rattle.graph.specs.Graph.{Legal}
 
@@ -64,6 +64,10 @@ pub record NodeBytes (L : Layout) (b : List ℕ) (s : Slot Node) : Type 0 where
   pub size : getD b 3 0 ≤ L .atoms
   pub label : atoms (getD b 3 0) (drop 4 b) ≡ nodeIn s .label
 
+-- the length of its label among it
+pub node-long : {L : Layout} {b : List ℕ} {s : Slot Node} → NodeBytes L b s → getD b 3 0 ≡ length (nodeIn s .label)
+node-long {L} {b} h = sym (length-atoms (getD b 3 0) (drop 4 b)) ∙ ap length (h .label)
+
 kept-node-bytes : (L : Layout) (b : List ℕ) → keepsNode L b ≡ true → NodeBytes L b (readNode b)
 unfolding nodeIn
 kept-node-bytes L b k = at (ℕ-discrete (getD b 0 0) 0)
@@ -100,6 +104,10 @@ pub record EdgeBytes (L : Layout) (b : List ℕ) (s : Slot Edge) : Type 0 where
   pub target : number (take (L .width) (drop (4 + L .width) b)) ≡ edgeIn s .target
   pub size : getD b 3 0 ≤ L .atoms
   pub label : atoms (getD b 3 0) (drop (4 + 2 * L .width) b) ≡ edgeIn s .label
+
+-- the length of its label among it
+pub edge-long : {L : Layout} {b : List ℕ} {s : Slot Edge} → EdgeBytes L b s → getD b 3 0 ≡ length (edgeIn s .label)
+edge-long {L} {b} h = sym (length-atoms (getD b 3 0) (drop (4 + 2 * L .width) b)) ∙ ap length (h .label)
 
 kept-edge-bytes : (L : Layout) (nodes : List (Slot Node)) (b : List ℕ) → keepsEdge L nodes b ≡ true → EdgeBytes L b (readEdge L b)
 unfolding edgeIn

@@ -1,7 +1,7 @@
 // The host graph in lent tables, by slot number: marks, roots, labels, ends, and the counts of edges that tests ask for.
 ghost use mathlib.Core.Path.{_≡_};
-ghost use Prim.Native.Nat.{_<_};
-ghost use lib.ListN.{length};
+ghost use Prim.Native.Nat.{_<_, _≤_};
+ghost use lib.ListN.{length, getD};
 ghost use Rattle.meaning.specs.Basics.{any, count};
 ghost use Rattle.meaning.specs.Layout.{Sized, liveAt, readNodes, readEdges};
 ghost use Rattle.meaning.specs.Image.{Rule};
@@ -57,6 +57,24 @@ pub fn node_label(l: Layout, nodes: &[u8], edges: &[u8], x: usize) -> Label
     labels::read_label(host::slot(nodes, l.node, x), 4)
 }
 
+// How many atoms its label has.
+pub fn node_length(l: Layout, nodes: &[u8], edges: &[u8], x: usize) -> usize
+    requires { ⌜ Legal l (now nodes) (now edges) ⌝ }
+    requires { ⌜ x < length (hostOf l (now nodes) (now edges) .nodes) ⌝ }
+    ensures { λ r. ⌜ (r ≡ length (nodeAt (hostOf l (now (nodes .entry)) (now (edges .entry))) x .label)) × (r ≤ 8) ⌝ }
+{
+    labels::read_length(host::slot(nodes, l.node, x))
+}
+
+// Atom k of its label.
+pub fn node_atom(l: Layout, nodes: &[u8], edges: &[u8], x: usize, k: usize) -> u32
+    requires { ⌜ Legal l (now nodes) (now edges) ⌝ }
+    requires { ⌜ (x < length (hostOf l (now nodes) (now edges) .nodes)) × (k < length (nodeAt (hostOf l (now nodes) (now edges)) x .label)) ⌝ }
+    ensures { λ r. ⌜ r ≡ getD (nodeAt (hostOf l (now (nodes .entry)) (now (edges .entry))) x .label) k 0 ⌝ }
+{
+    labels::read_atom(host::slot(nodes, l.node, x), 4, k)
+}
+
 // Edges.
 
 // How many edge slots there are.
@@ -108,6 +126,24 @@ pub fn edge_label(l: Layout, nodes: &[u8], edges: &[u8], x: usize) -> Label
     ensures { λ r. ⌜ Holds (edgeAt (hostOf l (now (nodes .entry)) (now (edges .entry))) x .label) r ⌝ }
 {
     labels::read_label(host::slot(edges, l.edge, x), 4 + 2 * l.width)
+}
+
+// How many atoms its label has.
+pub fn edge_length(l: Layout, nodes: &[u8], edges: &[u8], x: usize) -> usize
+    requires { ⌜ Legal l (now nodes) (now edges) ⌝ }
+    requires { ⌜ x < length (hostOf l (now nodes) (now edges) .edges) ⌝ }
+    ensures { λ r. ⌜ (r ≡ length (edgeAt (hostOf l (now (nodes .entry)) (now (edges .entry))) x .label)) × (r ≤ 8) ⌝ }
+{
+    labels::read_length(host::slot(edges, l.edge, x))
+}
+
+// Atom k of its label.
+pub fn edge_atom(l: Layout, nodes: &[u8], edges: &[u8], x: usize, k: usize) -> u32
+    requires { ⌜ Legal l (now nodes) (now edges) ⌝ }
+    requires { ⌜ (x < length (hostOf l (now nodes) (now edges) .edges)) × (k < length (edgeAt (hostOf l (now nodes) (now edges)) x .label)) ⌝ }
+    ensures { λ r. ⌜ r ≡ getD (edgeAt (hostOf l (now (nodes .entry)) (now (edges .entry))) x .label) k 0 ⌝ }
+{
+    labels::read_atom(host::slot(edges, l.edge, x), 4 + 2 * l.width, k)
 }
 
 // What an edge does.

@@ -15,13 +15,12 @@ use Rattle.meaning.specs.Basics.{both, either, clauses, every, zeros, padded}
 use Rattle.meaning.specs.Numbers.{number, bytes}
 use Rattle.meaning.specs.Layout.{Sized, Tables, ofNode, ofEdge, put, undone, nodeLength, edgeLength, recordLength, pieces, cut}
 use Rattle.meaning.specs.Calls.{slotOf, readRecord, keepsRecord, keepsRecords}
-use Rattle.meaning.specs.Laws.Tests.{both-yes, both-no, every-true, choose-eq, choose-ne}
+use Rattle.meaning.specs.Laws.Tests.{both-yes, both-no, both-last, every-true, choose-eq, choose-ne}
 use Rattle.meaning.specs.Laws.Numbers.{length-bytes}
 use Rattle.meaning.specs.Laws.Pieces.{length-pieces, getD-pieces, pieces-suc}
 use Rattle.meaning.specs.Laws.Records.{keepsRecord-true}
 use Rattle.meaning.specs.declared.Layout.{Layout}
 use Rattle.host.specs.Host.{tablesOf, recordsFrom, putBack}
-use Rattle.host.proofs.Keeps.{both-last}
 
 -- Writing one.
 

@@ -1,6 +1,6 @@
 -- Laws for the layout test: what the clauses passed so far, and the one that fails, say of a slot; and a table slot by slot.
 use Prim.Native.Nat.{ℕ, _+_, _-_, _*_, _<_, _≤_}
-use mathlib.Core.Path.{_≡_, refl, sym, _∙_, ap}
+use mathlib.Core.Path.{_≡_, sym, _∙_, ap}
 use mathlib.Core.List.{List}
 use mathlib.Core.Bool.{Bool, true, false}
 use native.Mathlib.Numerals.{add-one}
@@ -11,6 +11,7 @@ use lib.Seq.{drop-cons}
 use Rattle.meaning.specs.Basics.{choose, both, either, clauses, every, zeros}
 use Rattle.meaning.specs.Numbers.{number}
 use Rattle.meaning.specs.Layout.{Slot, Node, nodeLength, readNodes, liveAt, isNodeMark, isEdgeMark, keepsNode, keepsEdge}
+use Rattle.meaning.specs.Laws.Tests.{both-last}
 use Rattle.meaning.specs.declared.Layout.{Layout}
 use Rattle.host.specs.Host.{states}
 use Rattle.host.specs.States.{live-nodes}
@@ -29,11 +30,6 @@ module _ {A : Type 0} (f : A → Bool) (l : List A) (i : ℕ) (d : A) where
   pub every-end : length l ≤ i → every f (drop i l) ≡ true
   unfolding every
   every-end h = rw (drop-of-length-le l h)
-
-pub both-last : (t : Bool) → t ≡ both t true
-unfolding both
-both-last true = refl
-both-last false = refl
 
 -- A node's slot.
 

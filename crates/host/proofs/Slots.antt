@@ -4,7 +4,6 @@ use mathlib.Core.Path.{_≡_, refl, sym, _∙_, ap}
 use mathlib.Core.List.{List, [], _∷_, _++_, append-assoc}
 use mathlib.Core.Bool.{true, false, not}
 use native.Mathlib.Omega.{arith}
-use native.Mathlib.Nat.{mul-le-mul-right, div-mul-le-self, suc-mul}
 use native.Mathlib.Numerals.{add-one}
 use lib.Dec.{eqb}
 use lib.ListN.{length, getD, take, drop, List·getD-eq-default, length-map, drop-of-length-le}
@@ -14,13 +13,6 @@ use Rattle.meaning.specs.Applying.{lowestFree, freeSlots}
 use Rattle.meaning.specs.Laws.Pieces.{getD-map, length-pieces, getD-pieces, stored}
 use Rattle.host.specs.Host.{stateOf, states}
 use Rattle.host.specs.States.{state-byte}
-
--- a slot of a table lies in it
-pub slot-within : (w i n : ℕ) → i < n / w → i * w + w ≤ n
-slot-within w i n h =
-    let k : suc i * w ≤ n / w * w = mul-le-mul-right w h in
-    let m = div-mul-le-self n w in
-    omega (arith, suc-mul i w)
 
 -- the part from a slot's start to its end
 abbrev pub slotPart : ℕ → ℕ → List ℕ → List ℕ

@@ -1,31 +1,23 @@
 -- Putting recorded stores back restores what was there, at the level of slots and of bytes: a journal that holds the records
 -- of some changes, put back from its end to an earlier count, gives the tables of the host that the later changes were made to.
 -- Rests on Host and the meaning's Laws/Records.
-use Prim.Native.Nat.{ℕ, zero, suc, _-_, _*_, _%_, _<_, _≤_}
+use Prim.Native.Nat.{ℕ, zero, suc, _-_, _%_, _<_, _≤_}
 use mathlib.Core.Path.{_≡_, refl, sym, _∙_, ap}
 use mathlib.Core.List.{List, [], _∷_, map, reverse, reverse-append, reverse-reverse}
 use native.Mathlib.Omega.{arith}
-use native.Mathlib.Nat.{zero-mul, sub-zero, suc-mul, add-comm}
 use lib.ListN.{length, take, drop, length-drop, length-reverse, length-map, take-append-drop}
-use lib.Seq.{drop-at, drop-drop}
+use lib.Seq.{drop-at}
 use Rattle.meaning.specs.Basics.{concat, padded}
-use Rattle.meaning.specs.Layout.{Slot, Node, Edge, Tables, Host, Change, undone, nodeLength, edgeLength, recordLength, pieces, writeNode, writeEdge, writeNodes, writeEdges, writeRecord}
+use Rattle.meaning.specs.Layout.{Slot, Node, Edge, Tables, Host, Change, undone, nodeLength, edgeLength, recordLength, writeNode, writeEdge, writeNodes, writeEdges, writeRecord}
 use Rattle.meaning.specs.Calls.{readRecord, counted}
 use Rattle.meaning.specs.Laws.Every.{Every}
-use Rattle.meaning.specs.Laws.Pieces.{concat-cut}
+use Rattle.meaning.specs.Laws.Pieces.{pieces-drop, concat-cut}
 use Rattle.meaning.specs.Laws.Hosts.{LegalHost, cut-nodes, cut-edges}
 use Rattle.meaning.specs.Laws.Records.{mapChange, mapTables, undone-map, LegalChange, records-written}
 use Rattle.meaning.specs.declared.Layout.{Layout}
 use Rattle.host.specs.Host.{tablesOf, recordsFrom, putBack}
 
 -- Lists.
-
-pieces-drop : (w m n : ℕ) (bs : List ℕ) → m ≤ n → pieces w (n - m) (drop (m * w) bs) ≡ drop m (pieces w n bs)
-pieces-drop w zero n bs h = rw (sub-zero n, zero-mul w)
-pieces-drop w (suc m) zero bs h = absurd (omega arith)
-pieces-drop w (suc m) (suc n) bs h =
-    let e : suc n - suc m ≡ n - m = omega arith in
-    rw (e, suc-mul m w, add-comm (m * w) w, ← (drop-drop (m * w) w bs), pieces-drop w m n (drop w bs) (omega arith)) (unfold pieces in refl)
 
 map-drop : {A B : Type 0} (f : A → B) (n : ℕ) (l : List A) → map f (drop n l) ≡ drop n (map f l)
 map-drop f zero l = refl
@@ -59,7 +51,7 @@ module _ (L : Layout) (wide : 0 < L .width) (js : List (Change (Slot Node) (Slot
   later =
       let c : List (Change (List ℕ) (List ℕ)) = map (mapChange (writeNode L) (writeEdge L)) js in
       let e : map (readRecord L) (counted L (length js) journal) ≡ reverse c =
-      sym (reverse-reverse (map (readRecord L) (counted L (length js) journal))) ∙ ap reverse (records-written L wide js n legal) in
+      sym (reverse-reverse (map (readRecord L) (counted L (length js) journal))) ∙ ap reverse (records-written L wide js legal n) in
       let k : length c ≡ length js = length-map js (mapChange (writeNode L) (writeEdge L)) in
       ap (λ (l : List (List ℕ)). reverse (map (readRecord L) l)) (pieces-drop (recordLength L) mark (length js) journal m)
       ∙ ap reverse (map-drop (readRecord L) mark (counted L (length js) journal) ∙ ap (drop mark) e)

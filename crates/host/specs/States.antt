@@ -3,15 +3,14 @@
 use Prim.Native.Nat.{ℕ, zero, suc}
 use mathlib.Core.Path.{_≡_, refl, sym, _∙_, ap}
 use mathlib.Core.List.{List, [], _∷_, map}
-use mathlib.Core.Bool.{Bool, true, false, not}
+use mathlib.Core.Bool.{not}
 use native.Mathlib.Omega.{arith}
 use lib.ListN.{getD}
 use lib.Dec.{eqb}
-use Rattle.meaning.specs.Basics.{choose}
 use Rattle.meaning.specs.Layout.{Slot, free, live, isLive, liveAt, nodeLength, edgeLength, cut, readNode, readEdge, readNodes, readEdges}
 use Rattle.meaning.specs.Applying.{lowestFree, freeSlots}
 use Rattle.meaning.specs.declared.Layout.{Layout}
-use Rattle.meaning.specs.Laws.Layout.{isLive-readNode, isLive-readEdge}
+use Rattle.meaning.specs.Laws.Layout.{isLive-choose, isLive-readNode, isLive-readEdge}
 use Rattle.host.specs.Host.{stateOf, states}
 
 -- Two tables whose slots are free in the same places.
@@ -52,14 +51,9 @@ module _ {A B : Type 0} (f : List ℕ → Slot A) (g : List ℕ → Slot B) (sam
 
 -- A slot is free exactly when its state byte is zero.
 
-state-test : {A : Type 0} (t : Bool) (a : A) → isLive (choose t free (live a)) ≡ not t
-unfolding isLive choose
-state-test true a = refl
-state-test false a = refl
-
 pub state-byte : (b : List ℕ) → isLive (stateOf b) ≡ not (eqb (getD b 0 0) 0)
 unfolding stateOf
-state-byte b = state-test (eqb (getD b 0 0) 0) tt
+state-byte b = isLive-choose (eqb (getD b 0 0) 0) tt
 
 pub state-node : (b : List ℕ) → isLive (readNode b) ≡ isLive (stateOf b)
 state-node b = isLive-readNode b ∙ sym (state-byte b)

@@ -32,8 +32,8 @@ fn copy(to: &mut [u8], from: &[u8])
     }
 }
 
-// Zeros a part.
-fn clear(to: &mut [u8])
+// Zeros all bytes: of a slot or of records that go, or of a journal before a run.
+pub fn clear(to: &mut [u8])
     ensures { λ _. ⌜ now (to .exit) ≡ replicate (length (now (to .entry))) 0 ⌝ }
 {
     let mut i: usize = 0;

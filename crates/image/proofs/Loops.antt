@@ -3,49 +3,24 @@
 use mathlib.Core.Path.{_≡_, refl, sym, ap, _∙_}
 use mathlib.Core.Bool.{Bool, true, false}
 use mathlib.Core.Option.{Option, some, none}
-use mathlib.Core.Logic.{inl, inr}
-use mathlib.Core.List.{List, [], _∷_}
+use mathlib.Core.List.{List}
 use Prim.Native.Nat.{ℕ, _+_, _-_, _<_, _≤_}
 use native.Mathlib.Omega.{arith}
-use denote.Enum.Declared
-use package.types.Run
 use lib.ListN.{length, take, drop, getD, length-drop}
-use lib.Seq.{take-all}
 use Rattle.meaning.specs.Basics.{isSome}
-use Rattle.meaning.specs.Image.{Read, field, leading}
+use Rattle.meaning.specs.Image.{Read, leading}
 use Rattle.meaning.specs.Laws.Tests.{isSome-true}
 use Rattle.meaning.specs.Laws.Image.{Reading, stopped, leading-led, reading-cut, reading-bad, reading-next, isSome-false}
 use Rattle.fields.specs.declared.Found.{Found}
-use Rattle.fields.specs.declared.Found.the-variants.{Field, Short, End}
 use Rattle.fields.specs.Fields.{fieldAt}
-use Rattle.fields.specs.Laws.{Lies, found-field, short-none, end-none}
-use Rattle.fields.proofs.Found as found
+use Rattle.fields.specs.Laws.{Lies}
+pub use Rattle.fields.proofs.Finding.{NoField, no-field, a-field, part-in, nearer, tail-part}
 use Rattle.image.specs.Form.{endOf}
 use Rattle.image.specs.declared.Ended.the-variants.{At, Bad}
 
--- a slice from a place to its end
-pub tail-part : (n : ℕ) (bs : List ℕ) → take (length bs - n) (drop n bs) ≡ drop n bs
-tail-part n bs = take-all (length bs - n) (drop n bs) (rw (length-drop n bs) (omega arith))
-
--- what is found is no field
-pub no-field : (bs : List ℕ) (at : ℕ) (f : Found) → f ≡ fieldAt bs at → Run.OneOf (1 ∷ 2 ∷ []) (Declared.tagOf found.the-type f) → field (drop at bs) ≡ none
-no-field bs at (Field tag start end) e (inl k) = let z : _≡_ {A = ℕ} 0 1 = k in absurd (omega arith)
-no-field bs at (Field tag start end) e (inr k) = let z : _≡_ {A = ℕ} 0 2 = k in absurd (omega arith)
-no-field bs at Short e k = short-none bs at e
-no-field bs at End e k = end-none bs at e
-
-pub a-field : (bs : List ℕ) (at : ℕ) {tag start end : ℕ} {f : Found} → f ≡ fieldAt bs at → f ≡ Field tag start end → Lies bs at tag start end
-a-field bs at {tag} {start} {end} e g = found-field bs at tag start end (sym g ∙ e)
-
-pub part-in : {bs : List ℕ} {at tag start end : ℕ} → Lies bs at tag start end → (start ≤ end) × (end ≤ length bs)
-part-in l = (omega (arith, l .starts, l .ends), l .inside)
-
-pub nearer : {bs : List ℕ} {at tag start end : ℕ} → Lies bs at tag start end → length bs - end < length bs - at
-nearer l = omega (arith, l .starts, l .ends, l .inside)
-
 -- a run of fields that is left with something to read, at a tag that passes
 module _ {A : Type 0} {passes : ℕ → Bool} {item : ℕ → List ℕ → Option A} {bound : ℕ} {bs : List ℕ} {at n : ℕ} (r : Reading passes item bound bs at n) (more : n ≡ bound → ⊥) where
-  pub turn-cut : {f : Found} → at < length bs → passes (getD bs at 0) ≡ true → f ≡ fieldAt bs at → Run.OneOf (1 ∷ 2 ∷ []) (Declared.tagOf found.the-type f) → leading passes item bound bs ≡ none
+  pub turn-cut : {f : Found} → at < length bs → passes (getD bs at 0) ≡ true → f ≡ fieldAt bs at → NoField f → leading passes item bound bs ≡ none
   turn-cut {f} h p e k = reading-cut r (omega (arith, r .few, more)) p h (no-field bs at f e k)
 
   module _ {tag start end : ℕ} {part : List ℕ} {ok : Bool} (l : Lies bs at tag start end) (p : passes (getD bs at 0) ≡ true) (q : part ≡ take (end - start) (drop start bs)) (o : ok ≡ isSome (item tag part)) where

@@ -3,12 +3,10 @@
 use mathlib.Core.Path.{_≡_, refl, sym, ap, _∙_}
 use mathlib.Core.Bool.{Bool, true, false}
 use mathlib.Core.Option.{Option, some, none}
-use mathlib.Core.List.{List, [], _∷_}
+use mathlib.Core.List.{List}
 use Prim.Native.Nat.{ℕ, _+_, _-_, _<_, _≤_}
 use native.Mathlib.Omega.{arith}
 use borrow.Author.Tests.{eq-eqb, ne-eqb}
-use denote.Enum.Declared
-use package.types.Run
 use lib.Dec.{eqb}
 use lib.ListN.{length, take, drop, length-drop, drop-of-length-le}
 use lib.Seq.{drop-cons, drop-drop}
@@ -19,10 +17,9 @@ use Rattle.meaning.specs.Laws.Image.{expect-yes, expect-other, expect-no, expec
 use Rattle.fields.specs.declared.Found.{Found}
 use Rattle.fields.specs.Fields.{fieldAt}
 use Rattle.fields.specs.Laws.{Lies}
-use Rattle.fields.proofs.Found as found
 use Rattle.image.specs.Form.{behindField, fieldEnd, testsOf, rulesOf, endOfRules}
 use Rattle.image.specs.declared.Ended.the-variants.{At, Bad}
-use Rattle.image.proofs.Loops.{EndsAt, no-field, run-none, ends-at}
+use Rattle.image.proofs.Loops.{EndsAt, NoField, no-field, run-none, ends-at}
 use Rattle.image.proofs.Checks.{failed, both-right}
 
 -- What is behind a place.
@@ -64,7 +61,7 @@ behind-some-at n end none e = let z : _≡_ {A = ℕ} 0 1 = cc in absurd (omega 
 behind-some-at n end (some d) e = (d, refl, cc)
 
 module _ (bs : List ℕ) (at tag : ℕ) where
-  pub end-cut : {f : Found} → f ≡ fieldAt bs at → Run.OneOf (1 ∷ 2 ∷ []) (Declared.tagOf found.the-type f) → Bad ≡ fieldEnd bs at tag
+  pub end-cut : {f : Found} → f ≡ fieldAt bs at → NoField f → Bad ≡ fieldEnd bs at tag
   end-cut {f} e k = behind-bad _ _ (expect-no tag (drop at bs) (no-field bs at f e k))
 
   pub end-other : {t start end : ℕ} → Lies bs at t start end → (t ≡ tag → ⊥) → Bad ≡ fieldEnd bs at tag
@@ -175,7 +172,7 @@ module _ (bs : List ℕ) where
   rules-at {at} e = ends-at (eqb 0x10) (λ tag. rule) 32 bs at e
 
   module _ {at : ℕ} (w : EndsAt (rulesOf bs) bs at) where
-    pub form-cut : {f : Found} → f ≡ fieldAt bs at → Run.OneOf (1 ∷ 2 ∷ []) (Declared.tagOf found.the-type f) → false ≡ isSome (program bs)
+    pub form-cut : {f : Found} → f ≡ fieldAt bs at → NoField f → false ≡ isSome (program bs)
     form-cut {f} e k = failed _ (program-no-field bs (w .read) (w .is) (ap field (w .rest) ∙ no-field bs at f e k))
 
     module _ {tag start end : ℕ} (l : Lies bs at tag start end) where

@@ -10,7 +10,7 @@ use native.Mathlib.Decide.{ℕ-discrete}
 use borrow.Author.Tests.{eq-eqb, ne-eqb}
 use lib.Dec.{eqb}
 use lib.ListN.{length, getD, set, take, drop, replicate, length-take, length-drop, length-set, drop-of-length-le}
-use lib.Seq.{length-take-le, take-all, take-nil, take-suc, take-suc-set, getD-set-same, getD-set-other, getD-take, getD-drop, drop-drop, ext-getD}
+use lib.Seq.{length-take-le, take-all, take-nil, take-suc, take-suc-set, getD-set-same, getD-set-other, getD-take, getD-drop, drop-cons, drop-drop, ext-getD}
 use Rattle.meaning.specs.Basics.{both, same}
 use Rattle.meaning.specs.Numbers.{number, whole}
 use Rattle.meaning.specs.Layout.{atoms}
@@ -141,44 +141,58 @@ same-no l m h = go (same l m) refl
     go true q = absurd (h (same-true l m q))
     go false q = sym q
 
--- label a has all of label b from a place on, if it has as many atoms and each is the same
-module _ (a : Label) (from : ℕ) (b : Label) (h : Held a) (k : Held b) where
-  abbrev there : List ℕ
-  there = take (length (atomsIn b)) (drop from (atomsIn a))
+-- a part of a label in hand has as many atoms as are asked for
+pub held-part : (a : Label) (from n : ℕ) → Held a → from + n ≤ a .len → length (take n (drop from (atomsIn a))) ≡ n
+held-part a from n h fits = let f = h .few in let r = h .room in part-length (a .atoms) (a .len) from n fits (omega arith)
 
-  pub has-short : from ≤ a .len → a .len - from < b .len → false ≡ same there (atomsIn b)
+held-at : (a : Label) (from n : ℕ) → Held a → from + n ≤ a .len → (j : ℕ) → j < n → getD (take n (drop from (atomsIn a))) j 0 ≡ getD (a .atoms) (from + j) 0
+held-at a from n h fits j k = let f = h .few in let r = h .room in part-at (a .atoms) (a .len) from n fits (omega arith) j k
+
+-- label a has a part of label b from a place on, if it has as many atoms there and each is the same
+module _ (a : Label) (from : ℕ) (b : Label) (start n : ℕ) (h : Held a) (k : Held b) (inside : start + n ≤ b .len) where
+  abbrev there : List ℕ
+  there = take n (drop from (atomsIn a))
+
+  abbrev wanted : List ℕ
+  wanted = take n (drop start (atomsIn b))
+
+  pub has-short : from ≤ a .len → a .len - from < n → false ≡ same there wanted
   has-short f s =
       same-no _ _ (λ e.
       let i = held-length a h in
-      let j = held-length b k in
       let d = length-drop from (atomsIn a) in
-      let t = length-take (length (atomsIn b)) (drop from (atomsIn a)) in
-      let q = ap length e in
+      let t = length-take n (drop from (atomsIn a)) in
+      let q = ap length e ∙ held-part b start n k inside in
       omega arith)
 
-  module _ (fits : from + b .len ≤ a .len) where
-    there-length : length there ≡ b .len
-    there-length =
-        let f = h .few in
-        let r = h .room in
-        rw (held-length b k) (part-length (a .atoms) (a .len) from (b .len) fits (omega arith))
-
-    there-at : (j : ℕ) → j < b .len → getD there j 0 ≡ getD (a .atoms) (from + j) 0
-    there-at j l =
-        let f = h .few in
-        let r = h .room in
-        rw (held-length b k) (part-at (a .atoms) (a .len) from (b .len) fits (omega arith) j l)
-
-    pub has-other : (j : ℕ) → j < b .len → (getD (a .atoms) (from + j) 0 ≡ getD (b .atoms) j 0 → ⊥) → false ≡ same there (atomsIn b)
+  module _ (fits : from + n ≤ a .len) where
+    pub has-other : (j : ℕ) → j < n → (getD (a .atoms) (from + j) 0 ≡ getD (b .atoms) (start + j) 0 → ⊥) → false ≡ same there wanted
     has-other j l d =
-        same-no _ _ (λ e. d (sym (there-at j l) ∙ ap (λ (m : List ℕ). getD m j 0) e ∙ getD-take (b .len) (b .atoms) j 0 l))
+        same-no _ _ (λ e. d (sym (held-at a from n h fits j l) ∙ ap (λ (m : List ℕ). getD m j 0) e ∙ held-at b start n k inside j l))
 
-    pub has-all : ((j : ℕ) → j < b .len → getD (a .atoms) (from + j) 0 ≡ getD (b .atoms) j 0) → true ≡ same there (atomsIn b)
+    pub has-all : ((j : ℕ) → j < n → getD (a .atoms) (from + j) 0 ≡ getD (b .atoms) (start + j) 0) → true ≡ same there wanted
     has-all e =
-        let t = there-length in
-        let u = held-length b k in
-        sym (same-of there (atomsIn b) (ext-getD 0 there (atomsIn b) (t ∙ sym u) (λ j l.
-        there-at j (omega arith) ∙ e j (omega arith) ∙ sym (getD-take (b .len) (b .atoms) j 0 (omega arith)))))
+        let t = held-part a from n h fits in
+        let u = held-part b start n k inside in
+        sym (same-of there wanted (ext-getD 0 there wanted (t ∙ sym u) (λ j l.
+        held-at a from n h fits j (omega arith) ∙ e j (omega arith) ∙ sym (held-at b start n k inside j (omega arith)))))
+
+-- label a has an atom at a place, if it goes that far and its atom there is the same
+module _ (a : Label) (from x : ℕ) (h : Held a) where
+  pub atom-here : from < a .len → eqb (getD (a .atoms) from 0) x ≡ same (take 1 (drop from (atomsIn a))) (x ∷ [])
+  unfolding same both
+  atom-here f =
+      let i = held-length a h in
+      let q : getD (atomsIn a) from 0 ≡ getD (a .atoms) from 0 = getD-take (a .len) (a .atoms) from 0 f in
+      rw (drop-cons (atomsIn a) from 0 (omega arith), q) (alone (eqb (getD (a .atoms) from 0) x))
+    where
+      alone : (t : Bool) → t ≡ both t true
+      alone true = refl
+      alone false = refl
+
+  pub atom-past : a .len ≤ from → false ≡ same (take 1 (drop from (atomsIn a))) (x ∷ [])
+  unfolding same
+  atom-past f = let i = held-length a h in rw (drop-of-length-le (atomsIn a) {i = from} (omega arith))
 
 -- the atoms of a label are those of two in a row, if it begins with the first and goes on with the second
 pub same-append : (xs ys zs : List ℕ) → same xs (ys ++ zs) ≡ both (same (take (length ys) xs) ys) (same (drop (length ys) xs) zs)

@@ -1,22 +1,22 @@
--- Walks along the elements of a left label where its bytes lie: a step and the end of one; counting the elements, what a
--- variable takes, and comparing with the label that the elements stand for.
+-- Walks along the elements of a left label where its bytes lie: a step and the end of one; counting the elements, and
+-- comparing with the label that the elements stand for.
 -- Rests on Laws, on references' Runs and on fields' Laws.
 use mathlib.Core.Path.{_≡_, refl, sym, _∙_, ap}
-use mathlib.Core.Bool.{Bool, true, false}
-use mathlib.Core.Option.{Option, some, none}
+use mathlib.Core.Bool.{true, false}
+use mathlib.Core.Option.{some, none}
 use mathlib.Core.List.{List, [], _∷_, _++_}
 use Prim.Native.Nat.{ℕ, suc, _+_, _-_, _<_, _≤_}
 use native.Mathlib.Omega.{arith}
 use native.Mathlib.Decide.{decLt}
 use borrow.Author.Tests.{eq-eqb, ne-eqb}
 use lib.Dec.{eqb, leb}
-use lib.ListN.{length, take, drop, length-drop, drop-of-length-le}
-use lib.Seq.{length-take-le, take-all, take-nil, drop-nil, drop-drop}
-use Rattle.meaning.specs.Basics.{choose, both, same, concat}
+use lib.ListN.{length, take, drop, length-drop}
+use lib.Seq.{length-take-le, take-all}
+use Rattle.meaning.specs.Basics.{both, same, concat}
 use Rattle.meaning.specs.Image.{Rule, field, anyTag, element, label}
 use Rattle.meaning.specs.References.{takesList, lists}
 use Rattle.meaning.specs.Matching.{Assignment, atomsOf, instance}
-use Rattle.meaning.specs.FirstMatch.{isVariable, share, spare, taken, orElse, lengthFits}
+use Rattle.meaning.specs.FirstMatch.{lengthFits}
 use Rattle.meaning.specs.Laws.Tests.{both-yes, both-no, choose-true, choose-false}
 use Rattle.meaning.specs.declared.Element.{Element}
 use Rattle.fields.specs.Fields.{fieldAt}
@@ -24,9 +24,8 @@ use Rattle.fields.specs.Laws.{found-field, short-none, end-none}
 use Rattle.fields.specs.declared.Found.{Found}
 use Rattle.fields.specs.declared.Found.the-variants.{Field as Lying, Short, End}
 use Rattle.references.specs.Runs.{only-run, run-none, run-some, run-there}
-use Rattle.labels.specs.Labels.{atomsIn, Held, Spells, behind, Next, Begins, Opens, Counted}
-use Rattle.labels.specs.Laws.{held-length, same-step, same-end}
-use Rattle.labels.specs.declared.Label.{Label}
+use Rattle.labels.specs.Labels.{Spells, behind, Next, Begins, Opens, Counted}
+use Rattle.labels.specs.Laws.{same-step, same-end}
 use Rattle.labels.specs.declared.Front.{Front}
 use Rattle.labels.specs.declared.Front.the-variants.{First, Nothing}
 use Rattle.labels.specs.declared.Counts.{Counts}
@@ -133,61 +132,6 @@ module _ (x : Rule) (l : List Element) (s : Counts) (c : Counted x l s) (m : Lis
   pub fits-listed : (s .lists ≡ 0 → ⊥) → leb (s .elements - s .lists) n ≡ lengthFits x l m
   unfolding lengthFits
   fits-listed d = rw (c .long, c .listed, e) (sym (choose-false _ _ _ (ne-eqb (lists x l) 0 (λ z. d (c .listed ∙ z)))))
-
--- What a variable takes.
-
--- the elements passed do not have it, and what is left is spelt by the rest
-pub record Taking (x : Rule) (v n : ℕ) (l : List Element) (m : List ℕ) (rest : List ℕ) (from : ℕ) : Type 0 where
-  pub later : List Element
-  pub spelt : Spells rest later
-  pub equal : orElse (taken x v n later (drop from m)) [] ≡ orElse (taken x v n l m) []
-
-pub taking-start : (x : Rule) (v n : ℕ) (l : List Element) (m p : List ℕ) → label p ≡ some l → Taking x v n l m p 0
-taking-start x v n l m p e = record { later = l; spelt = spells-label p l e; equal = refl }
-
--- of no atoms nothing is taken
-taken-none : (x : Rule) (v n : ℕ) (l : List Element) → orElse (taken x v n l []) [] ≡ []
-unfolding taken orElse choose
-taken-none x v n [] = refl
-taken-none x v n (e ∷ l) = at (isVariable v e) (taken-none x v n l)
-  where
-    at : (b : Bool) → orElse (taken x v n l []) [] ≡ [] → orElse (choose b (some (take (share x n e) [])) (taken x v n l (drop (share x n e) []))) [] ≡ []
-    at true h = take-nil (share x n e)
-    at false h = rw (drop-nil {A = ℕ} (share x n e)) h
-
-module _ (x : Rule) (v n : ℕ) (l : List Element) (m : List ℕ) (rest : List ℕ) (from : ℕ) (t : Taking x v n l m rest from) where
-  pub taking-end : t .later ≡ [] → [] ≡ orElse (taken x v n l m) []
-  unfolding taken orElse
-  taking-end e = rw e at (t .equal)
-
-  pub taking-past : length m ≤ from → [] ≡ orElse (taken x v n l m) []
-  taking-past h =
-      let e = drop-of-length-le m {i = from} h in
-      sym (rw e (taken-none x v n (t .later))) ∙ t .equal
-
-  module _ (rest' : List ℕ) (e : Element) (s : Next rest' (t .later) e) (k : ℕ) (i : k ≡ share x n e) where
-    pub taking-here : isVariable v e ≡ true → take k (drop from m) ≡ orElse (taken x v n l m) []
-    unfolding taken orElse
-    taking-here q =
-        let g = choose-true _ (some (take (share x n e) (drop from m))) (taken x v n (s .later) (drop (share x n e) (drop from m))) q in
-        let f : orElse (taken x v n (e ∷ s .later) (drop from m)) [] ≡ orElse (taken x v n l m) [] = rw (s .whole) at (t .equal) in
-        rw i (sym (ap (λ (o : Option (List ℕ)). orElse o []) g) ∙ f)
-
-    pub taking-next : isVariable v e ≡ false → Taking x v n l m rest' (from + k)
-    unfolding taken orElse
-    taking-next q =
-        let g = choose-false _ (some (take (share x n e) (drop from m))) (taken x v n (s .later) (drop (share x n e) (drop from m))) q in
-        let f : orElse (taken x v n (e ∷ s .later) (drop from m)) [] ≡ orElse (taken x v n l m) [] = rw (s .whole) at (t .equal) in
-        record {
-          later = s .later;
-          spelt = s .spelt;
-          equal = rw (← (drop-drop k from m), i) (sym (ap (λ (o : Option (List ℕ)). orElse o []) g) ∙ f);
-        }
-
--- the number of atoms left for a list is that of the label in hand
-pub taken-spare : (x : Rule) (v n : ℕ) (l : List Element) (a : Label) → Held a → n ≡ spare x l (a .len)
-    → orElse (taken x v n l (atomsIn a)) [] ≡ orElse (taken x v (spare x l (length (atomsIn a))) l (atomsIn a)) []
-taken-spare x v n l a h e = rw (held-length a h, e)
 
 -- Comparing with the label that the elements stand for.
 

@@ -10,7 +10,7 @@ ghost use Rattle.meaning.specs.Basics.{same};
 ghost use Rattle.meaning.specs.Layout.{atoms};
 ghost use Rattle.meaning.specs.Image.{Rule, label};
 ghost use Rattle.meaning.specs.References.{takesList};
-ghost use Rattle.meaning.specs.FirstMatch.{isVariable, share, spare, taken, orElse, lengthFits};
+ghost use Rattle.meaning.specs.FirstMatch.{share, spare, lengthFits};
 ghost use Rattle.meaning.specs.declared.Element.{Element};
 ghost use Rattle.labels.specs.Labels.{atomsIn, Held, Holds, Opens, Counted};
 use fields::Found;
@@ -60,6 +60,23 @@ pub fn read_label(b: &[u8], start: usize) -> Label
     }
 }
 
+// How many atoms the label of a slot has.
+pub fn read_length(b: &[u8]) -> usize
+    requires { ⌜ 3 < length (now b) ⌝ }
+    ensures { λ r. ⌜ r ≡ getD (now (b .entry)) 3 0 ⌝ }
+{
+    fields::wide(b[3])
+}
+
+// Atom k of the label of a slot whose atoms start at a place.
+pub fn read_atom(b: &[u8], start: usize, k: usize) -> u32
+    requires { ⌜ (3 < length (now b)) × (getD (now b) 3 0 ≤ 8) × (start + 4 * getD (now b) 3 0 ≤ length (now b)) ⌝ }
+    requires { ⌜ k < getD (now b) 3 0 ⌝ }
+    ensures { λ r. ⌜ r ≡ getD (atoms (getD (now (b .entry)) 3 0) (drop start (now (b .entry)))) k 0 ⌝ }
+{
+    fields::number4(b, start + 4 * k) as u32
+}
+
 // The n atoms of a label from a place on.
 fn copied(a: Label, from: usize, n: usize) -> Label
     requires { ⌜ Held a × (from + n ≤ a .len) ⌝ }
@@ -94,21 +111,32 @@ pub fn cut(a: Label, from: usize, n: usize) -> Label
     copied(a, from, left)
 }
 
-// Whether label a has, from a place on, all of label b.
-pub fn has_at(a: Label, from: usize, b: Label) -> bool
-    requires { ⌜ Held a × Held b × (from ≤ a .len) ⌝ }
-    ensures { λ r. ⌜ (r ≡ same (take (length (atomsIn b)) (drop from (atomsIn a))) (atomsIn b)) × (r ≡ true → from + b .len ≤ a .len) ⌝ }
+// Whether label a has atom x at a place.
+pub fn has_atom(a: Label, from: usize, x: u32) -> bool
+    requires { ⌜ Held a ⌝ }
+    ensures { λ r. ⌜ (r ≡ same (take 1 (drop from (atomsIn a))) (x ∷ [])) × (r ≡ true → from + 1 ≤ a .len) ⌝ }
+{
+    if from < a.len {
+        let atoms = a.atoms;
+        return atoms[from] == x;
+    }
+    false
+}
+
+// Whether label a has, from a place on, the n atoms that label b has from a place on.
+pub fn has_part(a: Label, from: usize, b: Label, start: usize, n: usize) -> bool
+    requires { ⌜ Held a × Held b × (from ≤ a .len) × (start + n ≤ b .len) ⌝ }
+    ensures { λ r. ⌜ (r ≡ same (take n (drop from (atomsIn a))) (take n (drop start (atomsIn b)))) × (r ≡ true → from + n ≤ a .len) ⌝ }
 {
     let x = a.atoms;
     let y = b.atoms;
-    let n = b.len;
     let left = a.len - from;
     if left < n {
         return false;
     }
     let mut j: usize = 0;
     while j < n {
-        if x[from + j] != y[j] {
+        if x[from + j] != y[start + j] {
             return false;
         }
         j += 1;
@@ -209,17 +237,6 @@ pub fn spare(s: Counts, n: usize) -> usize
     n - single
 }
 
-pub fn is_variable(e: Element, v: usize) -> bool
-    ensures { λ r. ⌜ r ≡ isVariable v e ⌝ }
-{
-    match e {
-        Element::Constant(c) => false,
-        Element::Variable(w) => w == v,
-        Element::Sum(a, b) => false,
-        Element::Difference(a, b) => false,
-    }
-}
-
 // How many atoms an element takes, where a list takes n of them.
 pub fn share(types: &[u8], e: Element, n: usize) -> usize
     ensures { λ r. ⌜ (r ≤ n + 1) × ((x : Rule) → x .variables ≡ now (types .entry) → r ≡ share x n e) ⌝ }
@@ -228,34 +245,4 @@ pub fn share(types: &[u8], e: Element, n: usize) -> usize
         return n;
     }
     1
-}
-
-// What variable v takes of a label at its first occurrence in a left label.
-pub fn taken(types: &[u8], p: &[u8], v: usize, a: Label) -> Label
-    requires { ⌜ Held a ⌝ }
-    ensures { λ r. ⌜ Held r × ((x : Rule) → x .variables ≡ now (types .entry) → (l : List Element) → label (now (p .entry)) ≡ some l → atomsIn r ≡ orElse (taken x v (spare x l (length (atomsIn a))) l (atomsIn a)) []) ⌝ }
-{
-    let len = a.len;
-    let n = spare(shape(types, p), len);
-    let mut rest = p;
-    let mut from: usize = 0;
-    loop {
-        let front = first_element(rest);
-        match front {
-            Front::First(e, end) => {
-                let k = share(types, e, n);
-                if is_variable(e, v) {
-                    return cut(a, from, k);
-                }
-                from += k;
-                if len <= from {
-                    return none();
-                }
-                rest = &rest[end..];
-            }
-            Front::Nothing => {
-                return none();
-            }
-        }
-    }
 }

@@ -1,29 +1,22 @@
 -- Laws of the running state: one slot stored with its record is one change of the ledger. Rests on Running.
 use mathlib.Core.Path.{_≡_, refl, sym, _∙_, ap}
-use mathlib.Core.Bool.{true}
-use mathlib.Core.List.{List, [], _∷_, _++_, map, reverse, reverse-cons, reverse-append, map-append, append-assoc, append-nil}
+use mathlib.Core.List.{List, [], _∷_, _++_, map, reverse, reverse-cons, reverse-append, map-append, append-nil}
 use Prim.Native.Nat.{ℕ, zero, suc, _+_, _-_, _*_, _/_, _<_, _≤_}
-use native.Mathlib.Nat.{zero-mul, suc-mul, mul-le-mul-right, div-mul-le-self}
+use native.Mathlib.Nat.{suc-mul}
 use native.Mathlib.Numerals.{add-one}
 use native.Mathlib.Omega.{arith}
 use lib.ListN.{length, getD, set, take, drop, replicate, length-append, length-map, length-reverse}
 use lib.Seq.{take-at, drop-at, set-at, drop-drop}
 use Rattle.meaning.specs.Basics.{concat, padded}
-use Rattle.meaning.specs.Layout.{Slot, Node, Edge, free, Change, ofNode, ofEdge, put, Sized, nodeLength, edgeLength, recordLength, fitsTable, pieces, cut, readNode, readEdge, readNodes, readEdges, writeNode, writeEdge, writeNodes, writeEdges, nodeBytes, edgeBytes, recordBytes, writeRecord}
+use Rattle.meaning.specs.Layout.{Slot, Node, Edge, free, Change, ofNode, ofEdge, put, Sized, nodeLength, edgeLength, recordLength, pieces, cut, readNode, readEdge, readNodes, readEdges, writeNode, writeEdge, writeNodes, writeEdges, nodeBytes, edgeBytes, recordBytes, writeRecord}
 use Rattle.meaning.specs.Applying.{standing, store}
 use Rattle.meaning.specs.Laws.Every.{Every}
-use Rattle.meaning.specs.Laws.Pieces.{getD-map, map-set, stored, length-stored, pieces-suc, pieces-stored, length-pieces, cut-write, read-stored, concat-set, length-read, Wide, fits-length}
+use Rattle.meaning.specs.Laws.Pieces.{getD-map, map-set, stored, length-stored, pieces-suc, pieces-stored, length-pieces, cut-write, read-stored, concat-append, concat-set, length-read, Wide, fits-length, fits-same, slot-within}
 use Rattle.meaning.specs.Laws.Hosts.{LegalNode, LegalEdge, OnLive, length-writeNode, length-writeEdge, read-write-node, read-write-edge}
-use Rattle.meaning.specs.Laws.Records.{mapChange, LegalChange, Within, length-writeRecord, read-write-record, Every-reverse}
+use Rattle.meaning.specs.Laws.Records.{mapChange, LegalChange, Within, length-writeRecord, read-write-record, length-written}
 use Rattle.meaning.specs.Laws.Attached.{OnLive-set}
 use Rattle.meaning.specs.declared.Layout.{Layout}
 use Rattle.ledger.specs.Running.{changeOf, journalOf, ledgerOf, Held, Leads}
-
--- a slot number of a table is below the table's end
-pub slot-end : (w i n : ℕ) → i < n / w → i * w + w ≤ n
-slot-end w i n h =
-    let j : suc i * w ≤ n / w * w = mul-le-mul-right w h in
-    omega (arith, suc-mul i w, div-mul-le-self n w)
 
 -- A table of legal slots, as they are written.
 
@@ -49,7 +42,7 @@ module _ {A : Type 0} (w : ℕ) (read : List ℕ → Slot A) (write : Slot A →
 
     module _ (x : ℕ) (s : Slot A) (h : x < length bs / w) (k : Good s) where
       length-kept : length (stored w x (write s) bs) ≡ length bs
-      length-kept = length-stored w x (write s) bs (slot-end w x (length bs) h) (wide s k)
+      length-kept = length-stored w x (write s) bs (slot-within w x (length bs) h) (wide s k)
 
       slot-read : map read (cut w (stored w x (write s) bs)) ≡ set table x s
       slot-read = read-stored w read x (write s) bs h (wide s k) ∙ ap (set table x) (back s k)
@@ -68,11 +61,6 @@ module _ {A : Type 0} (w : ℕ) (read : List ℕ → Slot A) (write : Slot A →
 
 -- The journal.
 
-concat-append : (ls ms : List (List ℕ)) → concat (ls ++ ms) ≡ concat ls ++ concat ms
-unfolding concat
-concat-append [] ms = refl
-concat-append (l ∷ ls) ms = ap (λ (m : List ℕ). l ++ m) (concat-append ls ms) ∙ sym (append-assoc l (concat ls) (concat ms))
-
 concat-one : (l : List ℕ) → concat (l ∷ []) ≡ l
 unfolding concat
 concat-one l = append-nil l
@@ -82,26 +70,22 @@ drop-zeros zero n = let e : n ≡ n - 0 = omega arith in ap (λ (k : ℕ). repli
 drop-zeros (suc m) zero = let e : 0 ≡ 0 - suc m = omega arith in ap (λ (k : ℕ). replicate k 0) e
 drop-zeros (suc m) (suc n) = let e : n - m ≡ suc n - suc m = omega arith in drop-zeros m n ∙ ap (λ (k : ℕ). replicate k 0) e
 
-fits-same : (w most : ℕ) (a b : List ℕ) → length b ≡ length a → fitsTable w most a ≡ true → fitsTable w most b ≡ true
-unfolding fitsTable
-fits-same w most a b e h = rw e h
+-- as many changes as records are used
+pub length-journalOf : (L : Layout) (journal : List ℕ) (used : ℕ) → length (journalOf L journal used) ≡ used
+unfolding journalOf
+length-journalOf L journal used =
+    length-reverse (map (changeOf L) (pieces (recordLength L) used journal))
+    ∙ length-map (pieces (recordLength L) used journal) (changeOf L)
+    ∙ length-pieces (recordLength L) used journal
 
 module _ (L : Layout) (wide : 0 < L .width) where
-  changeOf-write : (c : Change (Slot Node) (Slot Edge)) → LegalChange L c → changeOf L (writeRecord L c) ≡ c
+  -- a record that was written is read as its change
+  pub changeOf-write : (c : Change (Slot Node) (Slot Edge)) → LegalChange L c → changeOf L (writeRecord L c) ≡ c
   unfolding changeOf mapChange LegalChange
   changeOf-write (ofNode i s) h =
       ap (mapChange readNode (readEdge L)) (read-write-record L wide (ofNode i s) h) ∙ ap (ofNode i) (read-write-node L s (h .1))
   changeOf-write (ofEdge i s) h =
       ap (mapChange readNode (readEdge L)) (read-write-record L wide (ofEdge i s) h) ∙ ap (ofEdge i) (read-write-edge L s (h .1))
-
-  length-records : (cs : List (Change (Slot Node) (Slot Edge))) → Every (LegalChange L) cs
-      → length (concat (map (writeRecord L) cs)) ≡ length cs * recordLength L
-  unfolding concat
-  length-records [] h = sym (zero-mul (recordLength L))
-  length-records (c ∷ cs) h =
-      let k = length-writeRecord L wide c (h .0) in
-      let t = length-records cs (h .1) in
-      rw length-append (omega (arith, suc-mul (length cs) (recordLength L)))
 
   module _ (journal : List ℕ) (used : ℕ) (c : Change (Slot Node) (Slot Edge)) (legal : LegalChange L c)
       (room : used < length journal / recordLength L)
@@ -113,10 +97,10 @@ module _ (L : Layout) (wide : 0 < L .width) where
       size = length-writeRecord L wide c legal
 
       inside : suc used * recordLength L ≤ length journal
-      inside = omega (arith, suc-mul used (recordLength L), slot-end (recordLength L) used (length journal) room)
+      inside = omega (arith, suc-mul used (recordLength L), slot-within (recordLength L) used (length journal) room)
 
       length-after : length after ≡ length journal
-      length-after = length-stored (recordLength L) used (writeRecord L c) journal (slot-end (recordLength L) used (length journal) room) size
+      length-after = length-stored (recordLength L) used (writeRecord L c) journal (slot-within (recordLength L) used (length journal) room) size
 
       records-after : pieces (recordLength L) (suc used) after ≡ pieces (recordLength L) used journal ++ (writeRecord L c ∷ [])
       records-after =
@@ -129,13 +113,6 @@ module _ (L : Layout) (wide : 0 < L .width) where
       journal-after =
           rw (add-one used, records-after, map-append, reverse-append)
           (ap (λ (a : Change (Slot Node) (Slot Edge)). a ∷ reverse (map (changeOf L) (pieces (recordLength L) used journal))) (changeOf-write c legal))
-
-      length-journalOf : length (journalOf L journal used) ≡ used
-      unfolding journalOf
-      length-journalOf =
-          length-reverse (map (changeOf L) (pieces (recordLength L) used journal))
-          ∙ length-map (pieces (recordLength L) used journal) (changeOf L)
-          ∙ length-pieces (recordLength L) used journal
 
       written-after : Every (LegalChange L) (journalOf L journal used)
           → padded (length journal) (concat (map (writeRecord L) (reverse (journalOf L journal used)))) ≡ journal
@@ -151,8 +128,8 @@ module _ (L : Layout) (wide : 0 < L .width) where
 
           length-before : length (concat before) ≡ used * recordLength L
           length-before =
-              length-records (reverse (journalOf L journal used)) (Every-reverse (LegalChange L) (journalOf L journal used) legals)
-              ∙ ap (λ (n : ℕ). n * recordLength L) (length-reverse (journalOf L journal used) ∙ length-journalOf)
+              length-written L wide (journalOf L journal used) legals
+              ∙ ap (λ (n : ℕ). n * recordLength L) (length-journalOf L journal used)
 
           front : take (used * recordLength L) journal ≡ concat before
           front = ap (take (used * recordLength L)) (sym w) ∙ take-at (concat before) _ (used * recordLength L) length-before

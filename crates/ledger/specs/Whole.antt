@@ -1,30 +1,27 @@
 -- Laws of the running state between commands: a legal ledger in lent bytes, where it starts, and that it keeps the layout.
--- Rests on Running and on the meaning's laws of legality.
+-- Rests on Running, Steps and the meaning's laws of legality.
 use mathlib.Core.Path.{_≡_, sym, _∙_, ap, subst}
 use mathlib.Core.Bool.{true}
-use mathlib.Core.List.{List, map}
+use mathlib.Core.List.{List}
 use Prim.Native.Nat.{ℕ, _-_, _/_, _^_, _≤_}
 use native.Mathlib.Omega.{arith}
-use lib.ListN.{length, replicate, length-map, length-reverse}
+use lib.ListN.{length, replicate}
 use Rattle.meaning.specs.Basics.{concat}
 use Rattle.meaning.specs.Layout.{Sized, nodeLength, edgeLength, recordLength, fitsTable, pieces, readNode, readEdge, keepsLayout}
 use Rattle.meaning.specs.Applying.{Ledger}
 use Rattle.meaning.specs.Laws.Numbers.{Bytes}
-use Rattle.meaning.specs.Laws.Pieces.{length-pieces, length-read, fits-length}
+use Rattle.meaning.specs.Laws.Pieces.{length-read, fits-length}
 use Rattle.meaning.specs.Laws.Layout.{write-read-nodes, write-read-edges}
 use Rattle.meaning.specs.Laws.Hosts.{LegalHost, legal-host, keepsLayout-write}
 use Rattle.meaning.specs.Laws.Legality.{LegalLedger}
 use Rattle.meaning.specs.declared.Layout.{Layout}
-use Rattle.ledger.specs.Running.{changeOf, journalOf, ledgerOf, Running, Leads}
+use Rattle.ledger.specs.Running.{journalOf, ledgerOf, Running, Leads}
+use Rattle.ledger.specs.Steps.{length-journalOf}
 
 module _ (L : Layout) (nodes edges journal : List ℕ) (used : ℕ) where
   -- as many records as are used
   pub records-count : length (journalOf L journal used) ≡ used
-  unfolding journalOf
-  records-count =
-      length-reverse (map (changeOf L) (pieces (recordLength L) used journal))
-      ∙ length-map (pieces (recordLength L) used journal) (changeOf L)
-      ∙ length-pieces (recordLength L) used journal
+  records-count = length-journalOf L journal used
 
   module _ (run : Running L nodes edges journal used) where
     -- the ledger is legal, over tables of so many slots

@@ -220,11 +220,15 @@ pub fn room(
     requires { ⌜ («nodes_go» ≤ 256) × («edges_go» ≤ 256) ⌝ }
     ensures { λ r. ⌜ stopOf r ≡ lacking «nodes_come» (freeSlots (readNodes l (now (nodes .entry)))) «nodes_go» «edges_come» (freeSlots (readEdges l (now (edges .entry)))) «edges_go» records (length (now (journal .entry)) / recordLength l) ⌝ }
 {
-    if host::free_slots(nodes, l.node) + nodes_go < nodes_come {
-        return Applied::Stopped(Stop::NoNodeRoom);
+    if nodes_go < nodes_come {
+        if host::free_slots(nodes, l.node) + nodes_go < nodes_come {
+            return Applied::Stopped(Stop::NoNodeRoom);
+        }
     }
-    if host::free_slots(edges, l.edge) + edges_go < edges_come {
-        return Applied::Stopped(Stop::NoEdgeRoom);
+    if edges_go < edges_come {
+        if host::free_slots(edges, l.edge) + edges_go < edges_come {
+            return Applied::Stopped(Stop::NoEdgeRoom);
+        }
     }
     if journal.len() / l.change < records {
         return Applied::Stopped(Stop::NoRecordRoom);

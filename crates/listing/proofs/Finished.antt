@@ -1,20 +1,19 @@
 -- A run that came to a result leaves tables whose lines have room; and what a listed run puts in the buffer.
 -- Rests on Listing, Text and the meaning's laws.
 use mathlib.Core.Path.{_≡_, refl, sym}
-use mathlib.Core.Bool.{true}
 use mathlib.Core.Option.{Option, some, none}
 use mathlib.Core.List.{List}
 use Prim.Native.Nat.{ℕ, _+_, _-_, _*_, _≤_}
 use native.Mathlib.Omega.{arith}
 use lib.ListN.{length, take, drop, replicate}
 use lib.Seq.{length-take-le}
-use Rattle.meaning.specs.Layout.{base, nodeLength, edgeLength, fitsTable, readNode, readEdge}
+use Rattle.meaning.specs.Layout.{base, nodeLength, edgeLength, readNode, readEdge}
 use Rattle.meaning.specs.Numbers.{number}
 use Rattle.meaning.specs.declared.Layout.{Layout}
 use Rattle.meaning.specs.Image.{program}
 use Rattle.meaning.specs.Calls.{Left, run, runOn, runRefusal, refused, answerNumber, refusalNumber}
 use Rattle.meaning.specs.Laws.Numbers.{Bytes}
-use Rattle.meaning.specs.Laws.Pieces.{fits-length, length-read}
+use Rattle.meaning.specs.Laws.Pieces.{fits-length, fits-same, length-read}
 use Rattle.meaning.specs.Laws.Calls.{Accepted, accepted}
 use Rattle.meaning.specs.Laws.Undoing.{base-numbered, run-keeps}
 use Rattle.meaning.specs.declared.Refusal.{Refusal}
@@ -41,10 +40,6 @@ refusal-answers BadForm e = omega arith
 refusal-answers BadReferences e = omega arith
 refusal-answers BadPlacement e = omega arith
 refusal-answers BadRecords e = omega arith
-
-fits-same : (slot most : ℕ) (a b : List ℕ) → length b ≡ length a → fitsTable slot most a ≡ true → fitsTable slot most b ≡ true
-unfolding fitsTable
-fits-same slot most a b e h = rw e h
 
 module _ (nodes edges journal image : List ℕ) (fuel : ℕ) (report : List ℕ) (hn : Bytes nodes) (he : Bytes edges) (hi : Bytes image) where
   abbrev left : Left

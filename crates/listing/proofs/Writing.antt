@@ -6,24 +6,20 @@ use native.Mathlib.Numerals.{add-one}
 use native.Mathlib.Omega.{arith}
 use lib.ListN.{length, getD, set, take, replicate, length-replicate}
 use lib.Seq.{take-suc, take-suc-set, take-length, getD-take, length-take-le, ext-getD}
+use Rattle.meaning.specs.Laws.Tests.{zero-at}
 use Rattle.listing.specs.Listing.{space, onward}
 use Rattle.listing.specs.Text.{Adds, Zeros}
 
 -- Zeros.
 
-replicate-zero : (n i : ℕ) → _≡_ {A = ℕ} (getD (replicate n 0) i 0) 0
-replicate-zero zero i = refl
-replicate-zero (suc n) zero = refl
-replicate-zero (suc n) (suc i) = replicate-zero n i
-
 pub zeros-are : (n : ℕ) → Zeros n (replicate n 0)
-zeros-are n = record { long = length-replicate n 0; zero = replicate-zero n }
+zeros-are n = record { long = length-replicate n 0; zero = zero-at n }
 
 pub zeros-front : (n k : ℕ) (l : List ℕ) → Zeros n l → k ≤ n → take k l ≡ replicate k 0
 zeros-front n k l z h =
     let t : length (take k l) ≡ k = length-take-le k l (omega (arith, z .long)) in
     ext-getD 0 (take k l) (replicate k 0) (t ∙ sym (length-replicate k 0))
-    (λ i i<. getD-take k l i 0 (omega (arith, t)) ∙ z .zero i ∙ sym (replicate-zero k i))
+    (λ i i<. getD-take k l i 0 (omega (arith, t)) ∙ z .zero i ∙ sym (zero-at k i))
 
 -- One byte after the other.
 

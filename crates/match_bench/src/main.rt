@@ -6,21 +6,42 @@ ghost use lib.ListN.{length};
 ghost use Prim.Native.Nat.{_<_};
 ghost use Rattle.meaning.specs.Image.{program};
 ghost use Rattle.references.specs.Runs.{For};
+ghost use Rattle.values.specs.Values.{Stored};
 ghost use Rattle.pairs.specs.Pairs.{starts as doesStart, Answers};
 use matching::Matched;
 
 // The first match of the first rule, asked for n times, and at least once.
-fn repeated(nodes: &[u8], edges: &[u8], image: &[u8], n: u32) -> Matched
+fn repeated(
+    nodes: &[u8],
+    edges: &[u8],
+    image: &[u8],
+    n: u32,
+    plan: &mut [usize; 102],
+    lens: &mut [usize; 6],
+    atoms: &mut [u32; 48],
+) -> Matched
     requires { ⌜ doesStart (now nodes) (now edges) (now image) ≡ true ⌝ }
     requires { ⌜ For (program (now image)) (λ p. 0 < length (p .rules)) ⌝ }
-    ensures { λ x. ⌜ Answers (now (nodes .entry)) (now (edges .entry)) (now (image .entry)) 0 x ⌝ }
+    requires { ⌜ (length (now plan) ≡ 102) × Stored (now lens) (now atoms) ⌝ }
+    ensures { λ x. ⌜ Answers (now (nodes .entry)) (now (edges .entry)) (now (image .entry)) 0 x (now (lens .exit)) (now (atoms .exit)) ⌝ }
 {
     let mut left = n;
     while left > 1 {
-        pairs::rule_match(nodes, edges, image, 0);
+        pairs::rule_match(nodes, edges, image, 0, plan, lens, atoms);
         left -= 1;
     }
-    pairs::rule_match(nodes, edges, image, 0)
+    pairs::rule_match(nodes, edges, image, 0, plan, lens, atoms)
+}
+
+fn match_first(nodes: &[u8], edges: &[u8], image: &[u8], n: u32)
+    requires { ⌜ doesStart (now nodes) (now edges) (now image) ≡ true ⌝ }
+    requires { ⌜ For (program (now image)) (λ p. 0 < length (p .rules)) ⌝ }
+{
+    let mut plan = [0usize; 102];
+    let mut lens = [0usize; 6];
+    let mut atoms = [0u32; 48];
+    let found = repeated(nodes, edges, image, n, &mut plan, &mut lens, &mut atoms);
+    pairs::write_match(references::parts::rule_part(image, 0), found, lens, atoms);
 }
 
 fn match_case(case: &[u8]) {
@@ -29,8 +50,7 @@ fn match_case(case: &[u8]) {
     let image = cases::part(case, 2);
     if pairs::starts(nodes, edges, image) {
         if references::parts::rule_count(image) > 0 {
-            let found = repeated(nodes, edges, image, cases::word(case, 3));
-            pairs::write_match(references::parts::rule_part(image, 0), found);
+            match_first(nodes, edges, image, cases::word(case, 3));
         }
     }
 }

@@ -2,7 +2,22 @@
 // or that a run would be refused. A case holds nodes, edges and program.
 ghost use mathlib.Core.Path.{_≡_};
 ghost use mathlib.Core.Bool.{true};
+ghost use lib.ListN.{length};
+ghost use Prim.Native.Nat.{_<_};
+ghost use Rattle.meaning.specs.Image.{program};
+ghost use Rattle.references.specs.Runs.{For};
 ghost use Rattle.pairs.specs.Pairs.{starts as doesStart};
+
+fn match_rule(nodes: &[u8], edges: &[u8], image: &[u8], i: usize)
+    requires { ⌜ doesStart (now nodes) (now edges) (now image) ≡ true ⌝ }
+    requires { ⌜ For (program (now image)) (λ p. i < length (p .rules)) ⌝ }
+{
+    let mut plan = [0usize; 102];
+    let mut lens = [0usize; 6];
+    let mut atoms = [0u32; 48];
+    let found = pairs::rule_match(nodes, edges, image, i, &mut plan, &mut lens, &mut atoms);
+    pairs::write_match(references::parts::rule_part(image, i), found, lens, atoms);
+}
 
 fn match_rules(nodes: &[u8], edges: &[u8], image: &[u8])
     requires { ⌜ doesStart (now nodes) (now edges) (now image) ≡ true ⌝ }
@@ -10,8 +25,7 @@ fn match_rules(nodes: &[u8], edges: &[u8], image: &[u8])
     let n = references::parts::rule_count(image);
     let mut i: usize = 0;
     while i < n {
-        let found = pairs::rule_match(nodes, edges, image, i);
-        pairs::write_match(references::parts::rule_part(image, i), found);
+        match_rule(nodes, edges, image, i);
         i += 1;
     }
 }

@@ -1,22 +1,25 @@
--- Why a slot that no host edge links does not fit, and the next slot as the search has it.
-use Prim.Native.Nat.{ℕ, _+_, _-_, _≤_, _<_, max}
+-- Why a slot that no host edge links does not fit, and what there is to try.
+use Prim.Native.Nat.{ℕ, _+_, _≤_, _<_, max}
 use mathlib.Core.Path.{_≡_, refl, sym, _∙_, ap}
 use mathlib.Core.List.{List, [], _∷_, _++_}
 use mathlib.Core.Bool.{Bool, true, false, not}
 use native.Mathlib.Omega.{arith}
+use native.Mathlib.Nat.{div-le-self}
 use native.Mathlib.Decide.{ℕ-discrete, decLt}
 use borrow.Author.Tests.{eqb-true, not-true}
-use lib.ListN.{length, take, getD, List·getD-append}
+use lib.ListN.{length, take, getD, length-map, List·getD-append}
 use lib.Seq.{getD-at, length-take-le, getD-take}
-use Rattle.meaning.specs.Layout.{Host}
+use Rattle.meaning.specs.Layout.{Host, readNodes, readEdges}
 use Rattle.meaning.specs.Image.{Rule}
 use Rattle.meaning.specs.Matching.{leftNodes, leftEdges, leftEdge, nodeSlot, runs}
-use Rattle.meaning.specs.FirstMatch.{joins, linked, nodeFits, edgeFits, fits, candidates}
+use Rattle.meaning.specs.FirstMatch.{joins, linked, nodeFits, fits, candidates}
 use Rattle.meaning.specs.Laws.Tests.{both-true, any-no, all-no, choose-eq, choose-lt, choose-le}
+use Rattle.meaning.specs.Laws.Pieces.{length-pieces}
 use Rattle.meaning.specs.Laws.References.{clauses-true}
-use Rattle.matching.specs.Next.{Meets, IsNext, NextSlot}
-use Rattle.matching.specs.declared.Next.{Next}
-use Rattle.matching.specs.declared.Next.the-variants.{At, Nothing}
+use Rattle.meaning.specs.declared.Layout.{Layout}
+use Rattle.graph.specs.Graph.{hostOf}
+use Rattle.fitting.specs.Fitting.{slots}
+use Rattle.matching.specs.Next.{Meets}
 
 pub not-so : (b : Bool) → (b ≡ true → ⊥) → b ≡ false
 not-so true h = absurd (h refl)
@@ -121,23 +124,48 @@ none-join test c x z n m y h k = at (decLt y x)
     at (yes q) = n y h q
     at (no q) = m y (omega arith) k
 
-is-next : (f g : ℕ → Bool) (b d : ℕ) → ((x : ℕ) → f x ≡ g x) → b ≡ d → (c : ℕ) (x : Next) → IsNext g d c x → IsNext f b c x
-is-next f g b d e h c (At x) n = (n .0, omega (arith, n .1), e x ∙ n .2, λ y k l. e y ∙ n .3 y k l)
-is-next f g b d e h c Nothing n = λ y k l. e y ∙ n y k (omega arith)
-
-module _ (h : Host) (r : Rule) (at : List ℕ) (i c : ℕ) (x : Next) (room : i < length at) where
+-- what it is to fit behind the slots so far, and how many slots there are to try
+module _ (h : Host) (r : Rule) (at : List ℕ) (i : ℕ) (room : i < length at) where
   behind : length (take i at) ≡ i
   behind = length-take-le i at (omega arith)
 
-  pub node-slot : i < leftNodes r → IsNext (nodeFits h r (take i at) i) (length (h .nodes)) c x → NextSlot h r (take i at) c x
-  unfolding fits candidates
-  node-slot k n =
-      is-next _ _ _ _ (λ y. choose-lt (length (take i at)) (leftNodes r) _ _ (omega (arith, behind)) ∙ rw behind)
-      (choose-lt (length (take i at)) (leftNodes r) _ _ (omega (arith, behind))) c x n
+  pub slots-of : candidates h r (take i at) ≡ slots h (leftNodes r) i
+  unfolding candidates
+  slots-of = rw behind
 
-  pub edge-slot : leftNodes r ≤ i → IsNext (edgeFits h r (take i at) (i - leftNodes r)) (length (h .edges)) c x
-      → NextSlot h r (take i at) c x
-  unfolding fits candidates
-  edge-slot k n =
-      is-next _ _ _ _ (λ y. choose-le (length (take i at)) (leftNodes r) _ _ (omega (arith, behind)) ∙ rw behind)
-      (choose-le (length (take i at)) (leftNodes r) _ _ (omega (arith, behind))) c x n
+  pub node-slots : i < leftNodes r → candidates h r (take i at) ≡ length (h .nodes)
+  node-slots k = slots-of ∙ choose-lt i (leftNodes r) _ _ k
+
+  pub edge-slots : leftNodes r ≤ i → candidates h r (take i at) ≡ length (h .edges)
+  edge-slots k = slots-of ∙ choose-le i (leftNodes r) _ _ k
+
+  node-fits : i < leftNodes r → (y : ℕ) → fits h r (take i at) y ≡ nodeFits h r (take i at) i y
+  unfolding fits
+  node-fits k y = choose-lt (length (take i at)) (leftNodes r) _ _ (omega (arith, behind)) ∙ rw behind
+
+  -- nothing in c .. x fits, and no slot in x .. z fits as a node: nothing in c .. z fits
+  pub nodes-join : i < leftNodes r → (c x z : ℕ) → ((y : ℕ) → c ≤ y → y < x → fits h r (take i at) y ≡ false)
+      → ((y : ℕ) → x ≤ y → y < z → nodeFits h r (take i at) i y ≡ false)
+      → (y : ℕ) → c ≤ y → y < z → fits h r (take i at) y ≡ false
+  nodes-join k c x z n m = none-join (fits h r (take i at)) c x z n (λ y a b. node-fits k y ∙ m y a b)
+
+-- How large a slot number is.
+
+-- no item has more slots than the tables together
+pub slots-below : (h : Host) (n j : ℕ) → slots h n j ≤ length (h .nodes) + length (h .edges)
+slots-below h n j = by (decLt j n)
+  where
+    by : Dec (j < n) → slots h n j ≤ length (h .nodes) + length (h .edges)
+    by (yes k) = rw (choose-lt j n (length (h .nodes)) (length (h .edges)) k) (omega arith)
+    by (no k) = rw (choose-le j n (length (h .nodes)) (length (h .edges)) (omega arith)) (omega arith)
+
+-- and they have no more than bytes
+module _ (L : Layout) (nodes edges : List ℕ) where
+  few-nodes : length (readNodes L nodes) ≤ length nodes
+  few-nodes = rw (length-map, length-pieces) (div-le-self _ _)
+
+  few-edges : length (readEdges L edges) ≤ length edges
+  few-edges = rw (length-map, length-pieces) (div-le-self _ _)
+
+  pub slots-few : (n j : ℕ) → slots (hostOf L nodes edges) n j ≤ length nodes + length edges
+  slots-few n j = omega (arith, slots-below (hostOf L nodes edges) n j, few-nodes, few-edges)

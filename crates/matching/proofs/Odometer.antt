@@ -1,30 +1,26 @@
 -- The state of the search, and what each of its steps keeps.
 use Prim.Native.Nat.{ℕ, _+_, _-_, _<_, _≤_}
-use mathlib.Core.Path.{_≡_, refl, sym, _∙_}
+use mathlib.Core.Path.{_≡_, sym, _∙_}
 use mathlib.Core.Logic.{inl, inr}
 use mathlib.Core.List.{List}
 use mathlib.Core.Bool.{true}
 use mathlib.Core.Option.{Option, some, none}
 use native.Mathlib.Omega.{arith}
-use native.Mathlib.Nat.{div-le-self}
-use native.Mathlib.Decide.{ℕ-discrete, decLt}
-use lib.Dec.{ltb}
-use lib.ListN.{length, getD, take, set, length-set, length-map}
-use lib.Seq.{getD-set-same, getD-set-other, length-take-le}
-use Rattle.meaning.specs.Basics.{choose}
-use Rattle.meaning.specs.Layout.{Host, readNodes, readEdges}
+use native.Mathlib.Decide.{ℕ-discrete}
+use lib.ListN.{length, getD, take, set, length-set}
+use lib.Seq.{getD-set-same, getD-set-other}
+use Rattle.meaning.specs.Layout.{Host}
 use Rattle.meaning.specs.Image.{Rule}
 use Rattle.meaning.specs.Matching.{leftNodes}
 use Rattle.meaning.specs.FirstMatch.{fits, candidates, complete, firstMatch}
-use Rattle.meaning.specs.Laws.Tests.{choose-lt, choose-le}
-use Rattle.meaning.specs.Laws.Pieces.{length-pieces}
 use Rattle.meaning.specs.declared.Layout.{Layout}
 use Rattle.graph.specs.Graph.{hostOf}
-use Rattle.fitting.specs.Fitting.{Known, Inside}
+use Rattle.fitting.specs.Fitting.{Known, Inside, slots}
 use Rattle.matching.specs.Next.{Handed, Ready, total, NextSlot, IsStep}
 use Rattle.matching.specs.declared.Step.the-variants.{Back}
 use Rattle.matching.specs.declared.Next.the-variants.{At}
 use Rattle.matching.proofs.Plans.{nodes-of}
+use Rattle.matching.proofs.Links.{slots-of, slots-below, slots-few}
 use Rattle.matching.proofs.Steps as steps
 use Rattle.matching.proofs.Falls as falls
 
@@ -54,18 +50,6 @@ module _ (h : Host) (r : Rule) where
   begin at e = record { room = e; level = omega arith; inside = λ j k. absurd (omega arith); same = steps.start _ _ _ _ at }
 
   module _ (few : total r ≤ 12) (at : List ℕ) (i c : ℕ) (g : Going at i c) where
-    slots : (n : ℕ) → n ≡ i → candidates h r (take i at) ≡ choose (ltb n (leftNodes r)) (length (h .nodes)) (length (h .edges))
-    unfolding candidates
-    slots n e = rw (e, length-take-le i at (omega (arith, g .room, g .level)))
-
-    below-top : candidates h r (take i at) ≤ top h
-    unfolding candidates
-    below-top = by (decLt (length (take i at)) (leftNodes r))
-      where
-        by : Dec (length (take i at) < leftNodes r) → candidates h r (take i at) ≤ top h
-        by (yes k) = rw (choose-lt (length (take i at)) (leftNodes r) (length (h .nodes)) (length (h .edges)) k) (omega arith)
-        by (no k) = rw (choose-le (length (take i at)) (leftNodes r) (length (h .nodes)) (length (h .edges)) (omega arith)) (omega arith)
-
     module _ (under : i < total r) where
       module _ (x : ℕ) (n : NextSlot h r (take i at) c (At x)) where
         in-room : i < length at
@@ -79,14 +63,14 @@ module _ (h : Host) (r : Rule) where
           same = steps.push _ _ _ (total r) at i c x under in-room (n .0) (n .1) (n .2) (n .3) ∙ g .same;
         }
           where
-            slot : (j : ℕ) → j < i + 1 → Dec (j ≡ i)
-                → getD (set at i x) j 0 < choose (ltb j (leftNodes r)) (length (h .nodes)) (length (h .edges))
-            slot j k (yes e) = rw (e, getD-set-same at i x 0 in-room) (rw (slots i refl) at (n .1))
+            slot : (j : ℕ) → j < i + 1 → Dec (j ≡ i) → getD (set at i x) j 0 < slots h (leftNodes r) j
+            slot j k (yes e) = rw (e, getD-set-same at i x 0 in-room) (rw (slots-of h r at i in-room) at (n .1))
             slot j k (no e) = rw (getD-set-other at i j x 0 e) (g .inside j (omega arith))
 
         pub pushed-less : (m : ℕ) → m ≡ total r → work h m (set at i x) (i + 1) 0 < work h m at i c
         unfolding work
-        pushed-less m e = rw e (falls.push-falls (top h) (total r) at i c x under in-room (n .0) (omega (arith, n .1, below-top)))
+        pushed-less m e = rw e (falls.push-falls (top h) (total r) at i c x under in-room (n .0)
+            (omega (arith, n .1, slots-of h r at i in-room, slots-below h (leftNodes r) i)))
 
     module _ (n : IsStep h r (take i at) i c Back) where
       gone : behind at i ≡ firstMatch h r
@@ -123,23 +107,7 @@ module _ (L : Layout) (nodes edges bs plan at : List ℕ) (i c : ℕ) where
   ready p g =
       record { legal = p .legal; known = p .known; room = g .room; inside = rw (nodes-of _ _ (p .known)) (g .inside) }
 
-  few-nodes : length (readNodes L nodes) ≤ length nodes
-  few-nodes = rw (length-map, length-pieces) (div-le-self _ _)
-
-  few-edges : length (readEdges L edges) ≤ length edges
-  few-edges = rw (length-map, length-pieces) (div-le-self _ _)
-
   -- a slot number is below the tables' lengths in bytes
   pub small : (w : Known bs plan) → Going (hostOf L nodes edges) (w .rule) at i c → (j : ℕ) → j < i
       → getD at j 0 < length nodes + length edges
-  small w g j k = by (decLt j (leftNodes (w .rule))) (g .inside j k)
-    where
-      by : Dec (j < leftNodes (w .rule))
-          → getD at j 0 < choose (ltb j (leftNodes (w .rule))) (length (readNodes L nodes)) (length (readEdges L edges))
-          → getD at j 0 < length nodes + length edges
-      by (yes d) l =
-          let e = choose-lt j (leftNodes (w .rule)) (length (readNodes L nodes)) (length (readEdges L edges)) d in
-          omega (arith, few-nodes, rw e at l)
-      by (no d) l =
-          let e = choose-le j (leftNodes (w .rule)) (length (readNodes L nodes)) (length (readEdges L edges)) (omega arith) in
-          omega (arith, few-edges, rw e at l)
+  small w g j k = omega (arith, g .inside j k, slots-few L nodes edges (leftNodes (w .rule)) j)

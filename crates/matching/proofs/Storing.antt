@@ -1,5 +1,5 @@
 -- The values of the variables in arrays, one variable at a time.
-use Prim.Native.Nat.{ℕ, zero, suc, _+_, _-_, _*_, _≤_, _<_}
+use Prim.Native.Nat.{ℕ, _+_, _-_, _*_, _≤_, _<_}
 use mathlib.Core.Path.{_≡_, refl, sym, _∙_, ap}
 use mathlib.Core.Logic.{_⊎_, inl, inr, ⊎-map}
 use mathlib.Core.Bool.{Bool, true, false}
@@ -8,7 +8,7 @@ use native.Mathlib.Omega.{arith}
 use native.Mathlib.Decide.{ℕ-discrete, decLt}
 use borrow.Author.Tests.{ltb-true}
 use lib.Dec.{eqb, ltb}
-use lib.ListN.{length, getD, take, drop, set, replicate, length-set, length-drop}
+use lib.ListN.{length, getD, take, drop, set, length-set, length-drop}
 use lib.Seq.{ext-getD, getD-take, getD-drop, getD-set-same, getD-set-other, length-take-le}
 use Rattle.meaning.specs.Basics.{choose, absent}
 use Rattle.meaning.specs.Numbers.{whole}
@@ -25,7 +25,8 @@ use Rattle.labels.specs.Labels.{atomsIn, Held}
 use Rattle.labels.specs.declared.Label.{Label}
 use Rattle.fitting.specs.Fitting.{Known, Inside, Trial, HasValue}
 use Rattle.matching.specs.Next.{total}
-use Rattle.matching.specs.Values.{Copied, Arrays, valuesOf, HasValues}
+use Rattle.values.specs.Values.{valuesOf, Stored}
+use Rattle.matching.specs.Values.{Copied, HasValues}
 use Rattle.matching.proofs.Plans.{nodes-of, levels-of, few-levels}
 
 -- two parts of one size are the same where their elements are
@@ -74,23 +75,10 @@ copy-more start j new before after h s = record {
 
 -- The arrays, one variable at a time.
 
-none-at : (n v : ℕ) → _≡_ {A = ℕ} (getD (replicate n 0) v 0) 0
-none-at zero v = refl
-none-at (suc n) zero = refl
-none-at (suc n) (suc v) = none-at n v
-
-pub arrays-none : Arrays (replicate 6 0) (replicate 48 0)
-arrays-none = record {
-  variables = refl;
-  room = refl;
-  few = λ v. omega (arith, none-at 6 v);
-  words = λ i. omega (arith, none-at 48 i);
-}
-
 -- variable v gets the atoms of label a
-module _ (v : ℕ) (lens atoms after : List ℕ) (a : Label) (low : v < 6) (x : Arrays lens atoms)
+module _ (v : ℕ) (lens atoms after : List ℕ) (a : Label) (low : v < 6) (x : Stored lens atoms)
     (s : Copied (8 * v) (a .atoms) atoms after) (held : Held a) where
-  pub arrays-more : Arrays (set lens v (a .len)) after
+  pub arrays-more : Stored (set lens v (a .len)) after
   arrays-more = record {
     variables = length-set lens v (a .len) ∙ x .variables;
     room = s .room;
@@ -193,5 +181,5 @@ module _ (h : Host) (bs plan at : List ℕ) (w : Known bs plan) (room : length a
       → HasValue h bs plan at 12 0 v
   has-value v k l = record {
     trial = full-trial;
-    valued = (k, omega (arith, all-placed, w .planned .first v k, levels-of _ _ w));
+    valued = (k, omega (arith, all-placed, w .planned .first v k .item, levels-of _ _ w));
   }

@@ -5,21 +5,20 @@ use mathlib.Core.Logic.{_⊎_}
 use mathlib.Core.Bool.{Bool, true, false, not}
 use mathlib.Core.Option.{Option, some, none}
 use mathlib.Core.List.{List}
-use lib.ListN.{length, getD, take}
+use lib.ListN.{length, getD}
 use Rattle.meaning.specs.Layout.{Host, liveAt}
 use Rattle.meaning.specs.Image.{Rule}
 use Rattle.meaning.specs.Matching.{edgeAt, leftNodes, leftEdges}
-use Rattle.meaning.specs.FirstMatch.{marksAgree, fits, candidates, complete, firstMatch}
+use Rattle.meaning.specs.FirstMatch.{marksAgree, fits, candidates, complete}
 use Rattle.meaning.specs.declared.Layout.{Layout}
 use Rattle.graph.specs.Graph.{Legal, hostOf}
-use Rattle.fitting.specs.Fitting.{Known, Inside}
+use Rattle.fitting.specs.Fitting.{Known, Inside, Likely}
 use Rattle.matching.specs.declared.Next.{Next}
 use Rattle.matching.specs.declared.Next.the-variants.{At, Nothing}
 use Rattle.matching.specs.declared.Step.{Step}
 use Rattle.matching.specs.declared.Step.the-variants.{Full, Take, Back}
 use Rattle.matching.specs.declared.Outcome.{Outcome}
 use Rattle.matching.specs.declared.Outcome.the-variants.{Match, NoMatch}
-use Rattle.matching.specs.declared.Placed.{Placed}
 
 -- What is handed.
 
@@ -61,6 +60,12 @@ IsNext test b c Nothing = (y : ℕ) → c ≤ y → y < b → test y ≡ false
 abbrev pub NextSlot : Host → Rule → List ℕ → ℕ → Next → Type 0
 NextSlot h r p c x = IsNext (fits h r p) (candidates h r p) c x
 
+-- the lowest slot at c or above that is likely for item i behind the prefix p, or none: those passed over do not fit
+abbrev pub NextLikely : Host → Rule → ℕ → List ℕ → ℕ → ℕ → Next → Type 0
+NextLikely h r sort p i c (At x) =
+    (c ≤ x) × (x < candidates h r p) × Likely h r sort p i x true × ((y : ℕ) → c ≤ y → y < x → fits h r p y ≡ false)
+NextLikely h r sort p i c Nothing = (y : ℕ) → c ≤ y → y < candidates h r p → fits h r p y ≡ false
+
 abbrev pub total : Rule → ℕ
 total r = leftNodes r + leftEdges r
 
@@ -73,13 +78,3 @@ IsStep h r p i c Back = ((i < total r) × NextSlot h r p c Nothing) ⊎ ((i ≡ 
 abbrev pub slotsAt : List ℕ → Outcome → Option (List ℕ)
 slotsAt p Match = some p
 slotsAt p NoMatch = none
-
--- the slots of a placement, where there is one
-abbrev pub slotsOf : Rule → Placed → Option (List ℕ)
-slotsOf r x = slotsAt (take (total r) (x .slots)) (x .outcome)
-
--- the first placement, or none
-pub record Sought (L : Layout) (nodes edges bs plan : List ℕ) (x : Placed) : Type 0 where
-  pub room : length (x .slots) ≡ 12
-  pub inside : x .outcome ≡ Match → Inside (hostOf L nodes edges) (getD plan 0 0) (x .slots) (getD plan 0 0 + getD plan 1 0)
-  pub right : Of bs plan (λ r. slotsOf r x ≡ firstMatch (hostOf L nodes edges) r)

@@ -10,12 +10,11 @@ use Rattle.meaning.specs.Basics.{absent}
 use Rattle.meaning.specs.Layout.{Host}
 use Rattle.meaning.specs.Image.{Rule, rule}
 use Rattle.meaning.specs.References.{labels, names}
-use Rattle.meaning.specs.Matching.{Assignment}
 use Rattle.meaning.specs.FirstMatch.{firstWith, assigned, firstMatch}
-use Rattle.meaning.specs.Laws.Layout.{Words}
 use Rattle.meaning.specs.declared.Layout.{Layout}
 use Rattle.graph.specs.Graph.{hostOf}
-use Rattle.matching.specs.Next.{total, slotsAt}
+use Rattle.values.specs.Values.{valuesOf, Stored}
+use Rattle.matching.specs.Next.{Of, total, slotsAt}
 use Rattle.matching.specs.declared.Outcome.the-variants.{Match}
 use Rattle.matching.specs.declared.Matched.{Matched}
 
@@ -25,27 +24,25 @@ pub record Copied (start : ℕ) (new before after : List ℕ) : Type 0 where
   pub inside : (j : ℕ) → j < 8 → getD after (start + j) 0 ≡ getD new j 0
   pub outside : (x : ℕ) → (x < start) ⊎ (start + 8 ≤ x) → getD after x 0 ≡ getD before x 0
 
--- six variables of at most eight atoms each, all of them words
-pub record Arrays (lens atoms : List ℕ) : Type 0 where
-  pub variables : length lens ≡ 6
-  pub room : length atoms ≡ 48
-  pub few : (v : ℕ) → getD lens v 0 ≤ 8
-  pub words : Words atoms
-
--- variable v has as many atoms as `lens` says, from place 8 * v of `atoms` on
-abbrev pub valuesOf : List ℕ → List ℕ → Assignment
-valuesOf lens atoms v = take (getD lens v 0) (drop (8 * v) atoms)
-
 -- each of the first n variables that a left item has got the value that the placement p gives it
 abbrev pub HasValues : Host → Rule → List ℕ → ℕ → List ℕ → List ℕ → Type 0
 HasValues h r p n lens atoms =
     (v : ℕ) → v < n → firstWith v (labels (r .left)) < total r → valuesOf lens atoms v ≡ assigned h r p v
 
--- the first match of the rule that the bytes are, with the values of the variables that occur on the left
-pub record IsFirst (L : Layout) (nodes edges bs : List ℕ) (x : Matched) : Type 0 where
-  pub room : length (x .slots) ≡ 12
-  pub arrays : Arrays (x .lens) (x .atoms)
-  pub right : (r : Rule) → rule bs ≡ some r → slotsAt (take (total r) (x .slots)) (x .outcome) ≡ firstMatch
-      (hostOf L nodes edges) r
-  pub values : (r : Rule) → rule bs ≡ some r → x .outcome ≡ Match → (v : ℕ) → absent v (names (r .left)) ≡ false
-      → valuesOf (x .lens) (x .atoms) v ≡ assigned (hostOf L nodes edges) r (take (total r) (x .slots)) v
+module _ (L : Layout) (nodes edges bs : List ℕ) where
+  -- the first placement of the rule that the plan is of, or none, with the values that it gives
+  pub record Sought (plan : List ℕ) (x : Matched) (lens atoms : List ℕ) : Type 0 where
+    pub room : length (x .slots) ≡ 12
+    pub arrays : Stored lens atoms
+    pub right : Of bs plan (λ r. slotsAt (take (total r) (x .slots)) (x .outcome) ≡ firstMatch (hostOf L nodes edges) r)
+    pub values : Of bs plan (λ r. x .outcome ≡ Match
+        → HasValues (hostOf L nodes edges) r (take (total r) (x .slots)) (length (r .variables)) lens atoms)
+
+  -- the first match of the rule that the bytes are, with the values of the variables that occur on the left
+  pub record IsFirst (x : Matched) (lens atoms : List ℕ) : Type 0 where
+    pub room : length (x .slots) ≡ 12
+    pub arrays : Stored lens atoms
+    pub right : (r : Rule) → rule bs ≡ some r → slotsAt (take (total r) (x .slots)) (x .outcome) ≡ firstMatch
+        (hostOf L nodes edges) r
+    pub values : (r : Rule) → rule bs ≡ some r → x .outcome ≡ Match → (v : ℕ) → absent v (names (r .left)) ≡ false
+        → valuesOf lens atoms v ≡ assigned (hostOf L nodes edges) r (take (total r) (x .slots)) v

@@ -6,8 +6,9 @@ ghost use lib.ListN.{length, getD, take, replicate};
 ghost use Rattle.meaning.specs.FirstMatch.{nodeFits};
 ghost use Rattle.graph.specs.Graph.{Legal, hostOf};
 ghost use Rattle.plan.specs.Plan.{IsRule};
-ghost use Rattle.matching.specs.Next.{Handed, Ready, Of, endOf, Meets, NextSlot, total, IsStep, Sought};
-ghost use Rattle.matching.specs.Values.{Copied, Arrays, HasValues, IsFirst};
+ghost use Rattle.matching.specs.Next.{Handed, Ready, Of, endOf, Meets, NextSlot, NextLikely, total, IsStep};
+ghost use Rattle.values.specs.Values.{Stored};
+ghost use Rattle.matching.specs.Values.{Copied, HasValues, Sought, IsFirst};
 ghost use Rattle.matching.specs.declared.Outcome.the-variants.{Match, NoMatch};
 use labels::Label;
 use meaning::Layout;
@@ -31,50 +32,31 @@ pub enum Outcome {
 }
 
 // The slots stand beside the outcome, and mean something where it is Match: node slots in left order, then edge slots.
-pub struct Placed {
-    pub outcome: Outcome,
-    pub slots: [usize; 12],
-}
-
-// Whether there is a match; its slots as in Placed; and the values of the variables, variable v with lens[v] atoms from
-// atoms[8 * v] on.
 pub struct Matched {
     pub outcome: Outcome,
     pub slots: [usize; 12],
-    pub lens: [usize; 6],
-    pub atoms: [u32; 48],
 }
 
 impl Matched {
     // No match.
     pub fn none() -> Self
-        ensures { λ r. ⌜ r ≡ record { outcome = NoMatch; slots = replicate 12 0; lens = replicate 6 0; atoms = replicate 48 0 } ⌝ }
+        ensures { λ r. ⌜ r ≡ record { outcome = NoMatch; slots = replicate 12 0 } ⌝ }
     {
         Matched {
             outcome: Outcome::NoMatch,
             slots: [0; 12],
-            lens: [0; 6],
-            atoms: [0; 48],
         }
     }
 
-    // The match at these slots, with these values.
-    pub fn at(slots: [usize; 12], lens: [usize; 6], atoms: [u32; 48]) -> Self
-        ensures { λ r. ⌜ r ≡ record { outcome = Match; slots = slots; lens = lens; atoms = atoms } ⌝ }
+    // The match at these slots.
+    pub fn at(slots: [usize; 12]) -> Self
+        ensures { λ r. ⌜ r ≡ record { outcome = Match; slots = slots } ⌝ }
     {
         Matched {
             outcome: Outcome::Match,
             slots,
-            lens,
-            atoms,
         }
     }
-}
-
-// Those values by themselves.
-pub struct Values {
-    pub lens: [usize; 6],
-    pub atoms: [u32; 48],
 }
 
 // Candidates for a left node, from the edges that link it to an earlier one.
@@ -159,7 +141,7 @@ fn next_candidate(
     nodes: &[u8],
     edges: &[u8],
     rule: &[u8],
-    plan: &[usize; 42],
+    plan: &[usize; 102],
     at: &[usize; 12],
     i: usize,
     c: usize,
@@ -193,20 +175,20 @@ fn next_candidate(
 
 // The next slot.
 
-// The first slot at c or above that fits left node i.
+// The first slot at c or above that is likely for left node i.
 fn next_node(
     l: Layout,
     nodes: &[u8],
     edges: &[u8],
     rule: &[u8],
-    plan: &[usize; 42],
+    plan: &[usize; 102],
     at: &[usize; 12],
     i: usize,
     c: usize,
 ) -> Next
     requires { ⌜ Ready l (now nodes) (now edges) (now rule) (now plan) (now at) i ⌝ }
     requires { ⌜ i < getD (now plan) 0 0 ⌝ }
-    ensures { λ x. ⌜ Of (now (rule .entry)) (now (plan .entry)) (λ r. NextSlot (hostOf l (now (nodes .entry)) (now (edges .entry))) r (take i (now (at .entry))) c x) ⌝ }
+    ensures { λ x. ⌜ Of (now (rule .entry)) (now (plan .entry)) (λ r. NextLikely (hostOf l (now (nodes .entry)) (now (edges .entry))) r (getD (now (plan .entry)) (66 + i) 0) (take i (now (at .entry))) i c x) ⌝ }
 {
     let n = graph::node_slots(l, nodes);
     let mut x = c;
@@ -215,28 +197,36 @@ fn next_node(
         if y >= n {
             return Next::Nothing;
         }
-        if fitting::node_fits(l, nodes, edges, rule, plan, at, i, y) {
-            return Next::At(y);
+        let z = fitting::next_like(l, nodes, edges, rule, plan, i, y, n);
+        if z >= n {
+            return Next::Nothing;
         }
-        x = y + 1;
+        if z == y {
+            if fitting::node_likely(l, nodes, edges, rule, plan, at, i, z) {
+                return Next::At(z);
+            }
+            x = z + 1;
+        } else {
+            x = z;
+        }
     }
     Next::Nothing
 }
 
-// The first slot at c or above that fits the left edge that is item i.
+// The first slot at c or above that is likely for the left edge that is item i.
 fn next_edge(
     l: Layout,
     nodes: &[u8],
     edges: &[u8],
     rule: &[u8],
-    plan: &[usize; 42],
+    plan: &[usize; 102],
     at: &[usize; 12],
     i: usize,
     c: usize,
 ) -> Next
     requires { ⌜ Ready l (now nodes) (now edges) (now rule) (now plan) (now at) i ⌝ }
     requires { ⌜ (getD (now plan) 0 0 ≤ i) × (i < getD (now plan) 0 0 + getD (now plan) 1 0) ⌝ }
-    ensures { λ x. ⌜ Of (now (rule .entry)) (now (plan .entry)) (λ r. NextSlot (hostOf l (now (nodes .entry)) (now (edges .entry))) r (take i (now (at .entry))) c x) ⌝ }
+    ensures { λ x. ⌜ Of (now (rule .entry)) (now (plan .entry)) (λ r. NextLikely (hostOf l (now (nodes .entry)) (now (edges .entry))) r (getD (now (plan .entry)) (66 + i) 0) (take i (now (at .entry))) i c x) ⌝ }
 {
     let k = i - plan[0];
     let a = plan::source(rule, plan, k);
@@ -246,7 +236,7 @@ fn next_edge(
     let n = graph::edge_slots(l, edges);
     let mut x = c;
     while x < n {
-        if fitting::edge_fits(l, nodes, edges, rule, plan, at, i, s, t, x) {
+        if fitting::edge_likely(l, nodes, edges, rule, plan, at, i, s, t, x) {
             return Next::At(x);
         }
         x += 1;
@@ -254,13 +244,34 @@ fn next_edge(
     Next::Nothing
 }
 
-// The first slot at c or above that fits item i, behind at[..i].
+// The first slot at c or above that is likely for item i, behind at[..i].
+fn next_likely(
+    l: Layout,
+    nodes: &[u8],
+    edges: &[u8],
+    rule: &[u8],
+    plan: &[usize; 102],
+    at: &[usize; 12],
+    i: usize,
+    c: usize,
+) -> Next
+    requires { ⌜ Ready l (now nodes) (now edges) (now rule) (now plan) (now at) i ⌝ }
+    requires { ⌜ i < getD (now plan) 0 0 + getD (now plan) 1 0 ⌝ }
+    ensures { λ x. ⌜ Of (now (rule .entry)) (now (plan .entry)) (λ r. NextLikely (hostOf l (now (nodes .entry)) (now (edges .entry))) r (getD (now (plan .entry)) (66 + i) 0) (take i (now (at .entry))) i c x) ⌝ }
+{
+    if i < plan[0] {
+        return next_node(l, nodes, edges, rule, plan, at, i, c);
+    }
+    next_edge(l, nodes, edges, rule, plan, at, i, c)
+}
+
+// The first that fits.
 fn next_slot(
     l: Layout,
     nodes: &[u8],
     edges: &[u8],
     rule: &[u8],
-    plan: &[usize; 42],
+    plan: &[usize; 102],
     at: &[usize; 12],
     i: usize,
     c: usize,
@@ -269,13 +280,24 @@ fn next_slot(
     requires { ⌜ i < getD (now plan) 0 0 + getD (now plan) 1 0 ⌝ }
     ensures { λ x. ⌜ Of (now (rule .entry)) (now (plan .entry)) (λ r. NextSlot (hostOf l (now (nodes .entry)) (now (edges .entry))) r (take i (now (at .entry))) c x) ⌝ }
 {
-    if i < plan[0] {
-        return next_node(l, nodes, edges, rule, plan, at, i, c);
+    let mut x = c;
+    loop {
+        let next = next_likely(l, nodes, edges, rule, plan, at, i, x);
+        match next {
+            Next::At(y) => {
+                if fitting::rest_fits(l, nodes, edges, rule, plan, at, i, y) {
+                    return Next::At(y);
+                }
+                x = y + 1;
+            }
+            Next::Nothing => {
+                return Next::Nothing;
+            }
+        }
     }
-    next_edge(l, nodes, edges, rule, plan, at, i, c)
 }
 
-// The search.
+// The levels of the search.
 
 // What to do at level i, where the slots from c on are left to try.
 fn advance(
@@ -283,7 +305,7 @@ fn advance(
     nodes: &[u8],
     edges: &[u8],
     rule: &[u8],
-    plan: &[usize; 42],
+    plan: &[usize; 102],
     at: &[usize; 12],
     i: usize,
     c: usize,
@@ -305,10 +327,67 @@ fn advance(
     }
 }
 
-// The first placement of the left items.
-fn search(l: Layout, nodes: &[u8], edges: &[u8], rule: &[u8], plan: &[usize; 42]) -> Placed
+// The values of the variables.
+
+// Copies the atoms of label a to a place.
+fn put_atoms(atoms: &mut [u32; 48], start: usize, a: Label)
+    requires { ⌜ (start + 8 ≤ 48) × (length (now atoms) ≡ 48) ⌝ }
+    ensures { λ r. ⌜ Copied start (a .atoms) (now (atoms .entry)) (now (atoms .exit)) ⌝ }
+{
+    let from = a.atoms;
+    let mut j: usize = 0;
+    while j < 8 {
+        atoms[start + j] = from[j];
+        j += 1;
+    }
+}
+
+// Writes the values that a full placement gives the variables: variable v has lens[v] atoms, from atoms[8 * v] on.
+fn assign(
+    l: Layout,
+    nodes: &[u8],
+    edges: &[u8],
+    rule: &[u8],
+    plan: &[usize; 102],
+    at: &[usize; 12],
+    lens: &mut [usize; 6],
+    atoms: &mut [u32; 48],
+)
+    requires { ⌜ Ready l (now nodes) (now edges) (now rule) (now plan) (now at) (getD (now plan) 0 0 + getD (now plan) 1 0) ⌝ }
+    requires { ⌜ Stored (now lens) (now atoms) ⌝ }
+    ensures { λ _. ⌜ Stored (now (lens .exit)) (now (atoms .exit)) × Of (now (rule .entry)) (now (plan .entry)) (λ r. HasValues (hostOf l (now (nodes .entry)) (now (edges .entry))) r (take (total r) (now (at .entry))) (length (r .variables)) (now (lens .exit)) (now (atoms .exit))) ⌝ }
+{
+    let types = plan::types(rule, plan);
+    let n = types.len();
+    let m = plan[0] + plan[1];
+    let mut v: usize = 0;
+    while v < n {
+        if plan[28 + v] < m {
+            let a = fitting::value(l, nodes, edges, rule, plan, at, 12, 0, v);
+            lens[v] = a.len;
+            put_atoms(atoms, 8 * v, a);
+            v += 1;
+        } else {
+            v += 1;
+        }
+    }
+}
+
+// The search.
+
+// The first placement of the left items, with the values of the variables.
+fn search(
+    l: Layout,
+    nodes: &[u8],
+    edges: &[u8],
+    rule: &[u8],
+    plan: &[usize; 102],
+    lens: &mut [usize; 6],
+    atoms: &mut [u32; 48],
+) -> Matched
     requires { ⌜ Handed l (now nodes) (now edges) (now rule) (now plan) ⌝ }
-    ensures { λ x. ⌜ Sought l (now (nodes .entry)) (now (edges .entry)) (now (rule .entry)) (now (plan .entry)) x ⌝ }
+    requires { ⌜ Stored (now lens) (now atoms) ⌝ }
+    ensures { λ x. ⌜ Sought l (now (nodes .entry)) (now (edges .entry)) (now (rule .entry)) (now (plan .entry)) x (now (lens .exit)) (now (atoms .exit)) ⌝ }
 {
     let mut at = [0usize; 12];
     let mut i: usize = 0;
@@ -327,83 +406,31 @@ fn search(l: Layout, nodes: &[u8], edges: &[u8], rule: &[u8], plan: &[usize; 42]
             }
         }
         if i == 0 {
-            return Placed {
-                outcome: Outcome::NoMatch,
-                slots: at,
-            };
+            return Matched::none();
         }
         i -= 1;
         c = at[i] + 1;
     }
-    Placed {
-        outcome: Outcome::Match,
-        slots: at,
-    }
+    assign(l, nodes, edges, rule, plan, &at, lens, atoms);
+    Matched::at(at)
 }
 
-// The values of the variables.
-
-// Copies the atoms of label a to a place.
-fn put_atoms(atoms: &mut [u32; 48], start: usize, a: Label)
-    requires { ⌜ (start + 8 ≤ 48) × (length (now atoms) ≡ 48) ⌝ }
-    ensures { λ r. ⌜ Copied start (a .atoms) (now (atoms .entry)) (now (atoms .exit)) ⌝ }
-{
-    let from = a.atoms;
-    let mut j: usize = 0;
-    while j < 8 {
-        atoms[start + j] = from[j];
-        j += 1;
-    }
-}
-
-// The values that a full placement gives the variables.
-fn assign(
+// The first match of a rule, from its part of the image. The caller lends room for the rule's plan and for the values of its
+// variables.
+pub fn first_match(
     l: Layout,
     nodes: &[u8],
     edges: &[u8],
     rule: &[u8],
-    plan: &[usize; 42],
-    at: &[usize; 12],
-) -> Values
-    requires { ⌜ Ready l (now nodes) (now edges) (now rule) (now plan) (now at) (getD (now plan) 0 0 + getD (now plan) 1 0) ⌝ }
-    ensures { λ x. ⌜ Arrays (x .lens) (x .atoms) × Of (now (rule .entry)) (now (plan .entry)) (λ r. HasValues (hostOf l (now (nodes .entry)) (now (edges .entry))) r (take (total r) (now (at .entry))) (length (r .variables)) (x .lens) (x .atoms)) ⌝ }
-{
-    let mut lens = [0usize; 6];
-    let mut atoms = [0u32; 48];
-    let types = plan::types(rule, plan);
-    let n = types.len();
-    let m = plan[0] + plan[1];
-    let mut v: usize = 0;
-    while v < n {
-        if plan[28 + v] < m {
-            let a = fitting::value(l, nodes, edges, rule, plan, at, 12, 0, v);
-            lens[v] = a.len;
-            put_atoms(&mut atoms, 8 * v, a);
-            v += 1;
-        } else {
-            v += 1;
-        }
-    }
-    Values { lens, atoms }
-}
-
-// The first match of a rule, from its part of the image, with the values of its variables.
-pub fn first_match(l: Layout, nodes: &[u8], edges: &[u8], rule: &[u8]) -> Matched
+    plan: &mut [usize; 102],
+    lens: &mut [usize; 6],
+    atoms: &mut [u32; 48],
+) -> Matched
     requires { ⌜ Legal l (now nodes) (now edges) ⌝ }
     requires { ⌜ IsRule (now rule) ⌝ }
-    ensures { λ x. ⌜ IsFirst l (now (nodes .entry)) (now (edges .entry)) (now (rule .entry)) x ⌝ }
+    requires { ⌜ (length (now plan) ≡ 102) × Stored (now lens) (now atoms) ⌝ }
+    ensures { λ x. ⌜ (length (now (plan .exit)) ≡ 102) × IsFirst l (now (nodes .entry)) (now (edges .entry)) (now (rule .entry)) x (now (lens .exit)) (now (atoms .exit)) ⌝ }
 {
-    let plan = plan::make(rule);
-    let p = search(l, nodes, edges, rule, &plan);
-    let slots = p.slots;
-    let outcome = p.outcome;
-    match outcome {
-        Outcome::Match => {
-            let x = assign(l, nodes, edges, rule, &plan, &slots);
-            let lens = x.lens;
-            let atoms = x.atoms;
-            Matched::at(slots, lens, atoms)
-        }
-        Outcome::NoMatch => Matched::none(),
-    }
+    plan::make(rule, plan);
+    search(l, nodes, edges, rule, &*plan, lens, atoms)
 }

@@ -63,8 +63,9 @@ module _ (nodes edges image : List ℕ) where
             holds = every-true ruleHolds (p .rules) none-left (both-true _ _ (taken .references) .0) i below;
           }
 
-      pub answers : (l : Layout) → l ≡ base → (x : Matched) → IsFirst l nodes edges part x → Answers nodes edges image i x
-      answers l e x first = let w : IsFirst base nodes edges part x = rw e at first in record {
+      pub answers : (l : Layout) → l ≡ base → (x : Matched) (lens atoms : List ℕ) → IsFirst l nodes edges part x lens atoms
+          → Answers nodes edges image i x lens atoms
+      answers l e x lens atoms first = let w : IsFirst base nodes edges part x lens atoms = rw e at first in record {
         arrays = w .arrays;
         right = λ p h d. w .right (getD (p .rules) i d) (read p h (few p h) d);
         values = λ p h d. w .values (getD (p .rules) i d) (read p h (few p h) d);

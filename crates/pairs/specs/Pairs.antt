@@ -15,7 +15,7 @@ use Rattle.meaning.specs.declared.Refusal.{Refusal}
 use Rattle.references.specs.Runs.{For}
 use Rattle.graph.specs.Graph.{hostOf}
 use Rattle.matching.specs.Next.{total, slotsAt}
-use Rattle.matching.specs.Values.{Arrays, valuesOf}
+use Rattle.values.specs.Values.{valuesOf, Stored}
 use Rattle.matching.specs.declared.Outcome.{Outcome}
 use Rattle.matching.specs.declared.Outcome.the-variants.{Match, NoMatch}
 use Rattle.matching.specs.declared.Matched.{Matched}
@@ -33,12 +33,12 @@ unfoldable pub starts : List ℕ → List ℕ → List ℕ → Bool
 starts nodes edges image = isFine (runRefusal base nodes edges [] image 0 (reportOf 0 0))
 
 -- the first match of the rule of number i, with the values of the variables that occur on the left
-pub record Answers (nodes edges image : List ℕ) (i : ℕ) (x : Matched) : Type 0 where
-  pub arrays : Arrays (x .lens) (x .atoms)
+pub record Answers (nodes edges image : List ℕ) (i : ℕ) (x : Matched) (lens atoms : List ℕ) : Type 0 where
+  pub arrays : Stored lens atoms
   pub right : For (program image) (λ p. (d : Rule) → slotsAt (take (total (getD (p .rules) i d)) (x .slots)) (x .outcome)
       ≡ firstMatch (hostOf base nodes edges) (getD (p .rules) i d))
   pub values : For (program image) (λ p. (d : Rule) → x .outcome ≡ Match → (v : ℕ)
-      → absent v (names (getD (p .rules) i d .left)) ≡ false → valuesOf (x .lens) (x .atoms) v ≡ assigned
+      → absent v (names (getD (p .rules) i d .left)) ≡ false → valuesOf lens atoms v ≡ assigned
       (hostOf base nodes edges)
       (getD (p .rules) i d)
       (take (total (getD (p .rules) i d)) (x .slots))

@@ -5,6 +5,7 @@ ghost use lib.ListN.{length};
 ghost use Prim.Native.Nat.{_+_, _<_, _≤_};
 ghost use Rattle.meaning.specs.Image.{program};
 ghost use Rattle.references.specs.Runs.{For};
+ghost use Rattle.values.specs.Values.{Stored};
 ghost use Rattle.pairs.specs.Pairs.{isMatch, starts as doesStart, Answers};
 use host::Checked;
 use matching::Matched;
@@ -23,14 +24,23 @@ pub fn starts(nodes: &[u8], edges: &[u8], image: &[u8]) -> bool
     }
 }
 
-// The first match of the rule of number i.
-pub fn rule_match(nodes: &[u8], edges: &[u8], image: &[u8], i: usize) -> Matched
+// The first match of the rule of number i. Room is lent for the rule's plan and for the values of its variables.
+pub fn rule_match(
+    nodes: &[u8],
+    edges: &[u8],
+    image: &[u8],
+    i: usize,
+    plan: &mut [usize; 102],
+    lens: &mut [usize; 6],
+    atoms: &mut [u32; 48],
+) -> Matched
     requires { ⌜ doesStart (now nodes) (now edges) (now image) ≡ true ⌝ }
     requires { ⌜ For (program (now image)) (λ p. i < length (p .rules)) ⌝ }
-    ensures { λ x. ⌜ Answers (now (nodes .entry)) (now (edges .entry)) (now (image .entry)) i x ⌝ }
+    requires { ⌜ (length (now plan) ≡ 102) × Stored (now lens) (now atoms) ⌝ }
+    ensures { λ x. ⌜ (length (now (plan .exit)) ≡ 102) × Answers (now (nodes .entry)) (now (edges .entry)) (now (image .entry)) i x (now (lens .exit)) (now (atoms .exit)) ⌝ }
 {
     let rule = references::parts::rule_part(image, i);
-    matching::first_match(Layout::base(), nodes, edges, rule)
+    matching::first_match(Layout::base(), nodes, edges, rule, plan, lens, atoms)
 }
 
 // Writing.
@@ -84,7 +94,7 @@ fn write_values(lens: [usize; 6], atoms: [u32; 48], n: usize) {
 
 // Writes a rule's match on a line: the slots, node slots first, then behind a sign the atoms of each variable; or that there is
 // none. Says whether there is one.
-pub fn write_match(rule: &[u8], found: Matched) -> bool
+pub fn write_match(rule: &[u8], found: Matched, lens: [usize; 6], atoms: [u32; 48]) -> bool
     ensures { λ r. ⌜ r ≡ isMatch (found .outcome) ⌝ }
 {
     let items = references::parts::count_fields(references::parts::left_part(rule));
@@ -93,8 +103,6 @@ pub fn write_match(rule: &[u8], found: Matched) -> bool
     match outcome {
         Outcome::Match => {
             let slots = found.slots;
-            let lens = found.lens;
-            let atoms = found.atoms;
             io::write_all(1, b"match");
             write_slots(slots, items);
             write_values(lens, atoms, variables.len());

@@ -23,10 +23,10 @@ use Rattle.meaning.specs.declared.Condition.the-variants.{Edge, InDegree, OutDe
 use Rattle.meaning.specs.declared.Test.{Test}
 use Rattle.fields.specs.Laws.{Lies}
 use Rattle.references.specs.Runs.{Run, run-none, run-some, run-there}
-use Rattle.plan.specs.Plan.{testOf, Named, Planned, Valued, Decides, operandDecided, decidedBy}
+use Rattle.plan.specs.Plan.{testOf, Named, AllLabelled, Planned, Valued, Decides, operandDecided, decidedBy}
 use Rattle.plan.proofs.Places.{drop-head, tests-run}
 use Rattle.plan.proofs.Variables.{first-low}
-use Rattle.plan.proofs.Stores.{other, stored, named-kept}
+use Rattle.plan.proofs.Stores.{other, stored, all-kept}
 
 -- Operands.
 
@@ -149,7 +149,7 @@ module _ {bs : List ℕ} {r : Rule} {plan : List ℕ} (w : Named bs r plan (leng
       let few = w .laid .items .fewNodes in
       let fewer = w .laid .items .fewEdges in
       let low : (v : ℕ) → v < length (r .variables) → (v < 6) × (getD plan (28 + v) 0 ≤ 12) = λ v k.
-      (omega (arith, w .laid .fewVariables), omega (arith, w .first v k, first-low v (labels (r .left)), labels-length r))
+      (omega (arith, w .laid .fewVariables), omega (arith, w .first v k .item, first-low v (labels (r .left)), labels-length r))
       in
       record {
         nodes = Every-then (λ a. a < leftNodes r) (λ a. a < 6) (λ a k. omega arith) (conditionNodes c) (every-in (λ x. Every (λ a. a < leftNodes r) (conditionNodes (x .condition))) _ (r .tests) (nodes-exist r (w .laid .holds)) t h);
@@ -161,18 +161,18 @@ module _ {bs : List ℕ} {r : Rule} {plan : List ℕ} (w : Named bs r plan (leng
   decided-same =
       ap (λ (l : List ℕ). highest (map suc (conditionNodes c ++ l)))
       (map-same (λ v. getD plan (28 + v) 0) (λ v. firstWith v (labels (r .left))) (concat (map operandNames (conditionOperands c)))
-      (every-join _ (conditionOperands c) (Every-then _ _ (λ o. Every-then _ _ (λ v k. w .first v k) (operandNames o)) (conditionOperands c) exist)))
+      (every-join _ (conditionOperands c) (Every-then _ _ (λ o. Every-then _ _ (λ v k. w .first v k .item) (operandNames o)) (conditionOperands c) exist)))
 
 -- The loop over the tests, whose bytes are p: those before number t are decided, and those from it on stand at the place.
 
 pub record Deciding (bs : List ℕ) (r : Rule) (plan p : List ℕ) (at t : ℕ) : Type 0 where
-  pub named : Named bs r plan (length (r .variables))
+  pub labelled : AllLabelled bs r plan
   pub decided : (u : ℕ) → u < t → getD plan (34 + u) 0 ≡ decidedAt r (testOf r u)
   pub few : t ≤ length (r .tests)
   pub left : Run test (drop t (r .tests)) [] (drop at p)
 
-pub deciding-start : {bs : List ℕ} {r : Rule} {plan p : List ℕ} → Named bs r plan (length (r .variables)) → p ≡ take (getD plan 39 0 - getD plan 38 0) (drop (getD plan 38 0) bs) → Deciding bs r plan p 0 0
-deciding-start {p = p} w e = record { named = w; decided = λ u h. absurd (omega arith); few = omega arith; left = tests-run (w .laid) p e }
+pub deciding-start : {bs : List ℕ} {r : Rule} {plan p : List ℕ} → AllLabelled bs r plan → p ≡ take (getD plan 39 0 - getD plan 38 0) (drop (getD plan 38 0) bs) → Deciding bs r plan p 0 0
+deciding-start {p = p} w e = record { labelled = w; decided = λ u h. absurd (omega arith); few = omega arith; left = tests-run (w .named .laid) p e }
 
 module _ {bs : List ℕ} {r : Rule} {plan p : List ℕ} {at t : ℕ} (w : Deciding bs r plan p at t) where
   pub deciding-cut : at < length p → field (drop at p) ≡ none → ⊥
@@ -182,11 +182,12 @@ module _ {bs : List ℕ} {r : Rule} {plan p : List ℕ} {at t : ℕ} (w : Decidi
   deciding-done h =
       let e : length (drop t (r .tests)) ≡ 0 = ap length (run-none test p at (drop t (r .tests)) (w .left) h) in
       let z : t ≡ length (r .tests) = omega (arith, e, length-drop t (r .tests), w .few) in
-      let n = named-kept 3 t (λ k. refl) (omega arith) (λ k. omega arith) (w .named) in
+      let n = all-kept plan 3 t (λ k. absurd (k refl)) (w .labelled) in
       record {
-        laid = n .laid;
-        first = n .first;
-        tests = stored plan 3 t (w .named .laid .items .size) (omega arith) ∙ z;
+        laid = n .named .laid;
+        first = n .named .first;
+        labelled = n .labelled;
+        tests = stored plan 3 t (w .labelled .named .laid .items .size) (omega arith) ∙ z;
         decided = λ u k. other plan 3 t (34 + u) (λ q. omega arith) ∙ w .decided u (omega arith);
       }
 
@@ -198,21 +199,21 @@ module _ {bs : List ℕ} {r : Rule} {plan p : List ℕ} {at t : ℕ} (w : Decidi
         (d .0, q (n .first) (ap (test tag) is ∙ n .read) ∙ sym (d .1), rw (d .2) (n .run))
 
     pub next-low : t < 4
-    next-low = omega (arith, next .0, w .named .laid .fewTests)
+    next-low = omega (arith, next .0, w .labelled .named .laid .fewTests)
 
     pub next-decides : Decides plan (x .condition)
-    next-decides = rw (next .1) (decides (w .named) t (next .0))
+    next-decides = rw (next .1) (decides (w .labelled .named) t (next .0))
 
     pub deciding-next : {n : ℕ} → n ≡ decidedBy plan (x .condition) → Deciding bs r (set plan (34 + t) n) p end (t + 1)
     deciding-next {n} e =
         let low = next-low in
         record {
-          named = named-kept (34 + t) n (λ i. absurd (omega arith)) (omega arith) (λ i. omega (arith, w .named .laid .fewVariables)) (w .named);
+          labelled = all-kept plan (34 + t) n (λ i. (omega arith, omega arith)) (w .labelled);
           decided = λ u i. go u i (ℕ-discrete u t);
           few = omega (arith, next .0);
           left = next .2;
         }
       where
         go : (u : ℕ) → u < t + 1 → Dec (u ≡ t) → getD (set plan (34 + t) n) (34 + u) 0 ≡ decidedAt r (testOf r u)
-        go u i (yes z) = rw z (stored plan (34 + t) n (w .named .laid .items .size) (omega (arith, next-low)) ∙ e ∙ ap (λ (y : Test). decidedBy plan (y .condition)) (next .1) ∙ decided-same (w .named) t (next .0))
+        go u i (yes z) = rw z (stored plan (34 + t) n (w .labelled .named .laid .items .size) (omega (arith, next-low)) ∙ e ∙ ap (λ (y : Test). decidedBy plan (y .condition)) (next .1) ∙ decided-same (w .labelled .named) t (next .0))
         go u i (no z) = other plan (34 + t) n (34 + u) (λ y. z (omega arith)) ∙ w .decided u (omega arith)

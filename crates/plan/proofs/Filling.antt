@@ -82,11 +82,11 @@ as-edge tag bs (edgeItem n) e h = (n, refl, item-is tag bs (edgeItem n) e .1)
 
 -- Two stores.
 
-module _ (plan : List ℕ) (j a b : ℕ) (size : length plan ≡ 42) (low : j < 12) where
+module _ (plan : List ℕ) (j a b : ℕ) (size : length plan ≡ 102) (low : j < 12) where
   abbrev both : List ℕ
   both = set (set plan (4 + j) a) (16 + j) b
 
-  both-size : length both ≡ 42
+  both-size : length both ≡ 102
   both-size = length-set (set plan (4 + j) a) (16 + j) b ∙ length-set plan (4 + j) a ∙ size
 
   new-start : getD both (4 + j) 0 ≡ a
@@ -105,7 +105,7 @@ module _ (plan : List ℕ) (j a b : ℕ) (size : length plan ≡ 42) (low : j < 
 -- those from it on stand at the place.
 
 pub record Filling (bs : List ℕ) (g : RuleGraph) (p plan : List ℕ) (at j nodes : ℕ) : Type 0 where
-  pub size : length plan ≡ 42
+  pub size : length plan ≡ 102
   pub few : j ≤ length (itemsOf g)
   pub counted : nodes ≡ min j (length (g .nodes))
   pub left : Run graphItem (drop j (itemsOf g)) [] (drop at p)
@@ -117,7 +117,7 @@ module _ {bs : List ℕ} {g : RuleGraph} {p : List ℕ} {start end : ℕ} (is : 
   few-items : length (itemsOf g) ≤ 12
   few-items = let f = ruleGraph-is _ g (lies .is) in omega (arith, items-length g, f .fewNodes, f .fewEdges)
 
-  pub filling-start : (plan : List ℕ) → length plan ≡ 42 → Filling bs g p plan 0 0 0
+  pub filling-start : (plan : List ℕ) → length plan ≡ 102 → Filling bs g p plan 0 0 0
   filling-start plan e =
       record {
         size = e;
@@ -138,7 +138,7 @@ module _ {bs : List ℕ} {g : RuleGraph} {p : List ℕ} {start end : ℕ} (is : 
         let z : j ≡ length (g .nodes) + length (g .edges) = omega (arith, e, length-drop j (itemsOf g), w .few, items-length g) in
         let f = ruleGraph-is _ g (lies .is) in
         let n : List ℕ = set plan 0 nodes in
-        let s : length n ≡ 42 = length-set plan 0 nodes ∙ w .size in
+        let s : length n ≡ 102 = length-set plan 0 nodes ∙ w .size in
         let same : (i : ℕ) → 2 ≤ i → getD (set n 1 (j - nodes)) i 0 ≡ getD plan i 0 = λ i q. other n 1 (j - nodes) i (λ y. omega arith) ∙ other plan 0 nodes i (λ y. omega arith) in
         record {
           size = length-set n 1 (j - nodes) ∙ s;

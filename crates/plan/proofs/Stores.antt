@@ -7,77 +7,131 @@ use native.Mathlib.Decide.{ℕ-discrete}
 use lib.ListN.{length, getD, set, length-set}
 use lib.Seq.{getD-set-same, getD-set-other}
 use Rattle.meaning.specs.Image.{RuleGraph, Rule}
-use Rattle.meaning.specs.References.{labels}
-use Rattle.meaning.specs.FirstMatch.{firstWith}
 use Rattle.meaning.specs.Laws.Image.Parsed.{types-is}
-use Rattle.plan.specs.Plan.{Items, Laid, Named}
+use Rattle.plan.specs.Plan.{Items, Laid, FirstAt, Named, Labelled, AllLabelled}
 use Rattle.plan.proofs.Places.{part-length}
 
 module _ (plan : List ℕ) (j x : ℕ) where
   pub other : (i : ℕ) → (i ≡ j → ⊥) → getD (set plan j x) i 0 ≡ getD plan i 0
   other i h = getD-set-other plan j i x 0 h
 
-  pub stored : length plan ≡ 42 → j < 42 → getD (set plan j x) j 0 ≡ x
+  pub stored : length plan ≡ 102 → j < 102 → getD (set plan j x) j 0 ≡ x
   stored e h = getD-set-same plan j x 0 (omega arith)
 
-  -- a place that is none of the items' own
-  module _ (apart : j < 28 → (2 ≤ j) × (j < 4)) where
-    outside : (i : ℕ) → i < 28 → (2 ≤ i → i < 4 → ⊥) → i ≡ j → ⊥
-    outside i h k e = let a = apart (omega arith) in k (omega arith) (omega arith)
+-- A plan that says the same as another in the places that matter.
 
-    pub items-kept : {bs : List ℕ} {g : RuleGraph} → Items bs g plan → Items bs g (set plan j x)
-    items-kept {bs} {g} l =
-        record {
-          size = length-set plan j x ∙ l .size;
-          nodes = other 0 (outside 0 (omega arith) (λ a b. omega arith)) ∙ l .nodes;
-          edges = other 1 (outside 1 (omega arith) (λ a b. omega arith)) ∙ l .edges;
-          fewNodes = l .fewNodes;
-          fewEdges = l .fewEdges;
-          node = λ i h.
-              let f = l .fewNodes in
-              rw (other (4 + i) (outside (4 + i) (omega arith) (λ a b. omega arith)), other (16 + i) (outside (16 + i) (omega arith) (λ a b. omega arith)))
-              (l .node i h);
-          edge = λ k h.
-              let f = l .fewNodes in
-              let e = l .fewEdges in
-              let i : ℕ = length (g .nodes) + k in
-              rw (other (4 + i) (outside (4 + i) (omega arith) (λ a b. omega arith)), other (16 + i) (outside (16 + i) (omega arith) (λ a b. omega arith)))
-              (l .edge k h);
-        }
+module _ {plan after : List ℕ} (size : length after ≡ length plan) where
+  items-same : ((x : ℕ) → x < 28 → (2 ≤ x → 4 ≤ x) → getD after x 0 ≡ getD plan x 0) → {bs : List ℕ} {g : RuleGraph} → Items bs g plan → Items bs g after
+  items-same same {bs} {g} l =
+      record {
+        size = size ∙ l .size;
+        nodes = same 0 (omega arith) (λ h. omega arith) ∙ l .nodes;
+        edges = same 1 (omega arith) (λ h. omega arith) ∙ l .edges;
+        fewNodes = l .fewNodes;
+        fewEdges = l .fewEdges;
+        node = λ i h.
+            let f = l .fewNodes in
+            rw (same (4 + i) (omega arith) (λ k. omega arith), same (16 + i) (omega arith) (λ k. omega arith)) (l .node i h);
+        edge = λ k h.
+            let f = l .fewNodes in
+            let e = l .fewEdges in
+            let i : ℕ = length (g .nodes) + k in
+            rw (same (4 + i) (omega arith) (λ q. omega arith), same (16 + i) (omega arith) (λ q. omega arith)) (l .edge k h);
+      }
 
-  -- a place of the variables, the tests' decisions or the number of tests
-  pub laid-kept : (j < 28 → j ≡ 3) → j < 38 → {bs : List ℕ} {r : Rule} → Laid bs r plan → Laid bs r (set plan j x)
-  laid-kept apart low l =
+  laid-same : ((x : ℕ) → (x ≡ 3 → ⊥) → (28 ≤ x → 38 ≤ x) → x < 42 → getD after x 0 ≡ getD plan x 0) → {bs : List ℕ} {r : Rule} → Laid bs r plan → Laid bs r after
+  laid-same same l =
       record {
         is = l .is;
         holds = l .holds;
-        items = items-kept (λ h. let e = apart h in omega arith) (l .items);
-        interface = other 2 (λ e. let a = apart (omega arith) in omega arith) ∙ l .interface;
+        items = items-same (λ x h k. same x (λ e. let a = k (omega arith) in omega arith) (λ q. omega arith) (omega arith)) (l .items);
+        interface = same 2 (λ e. omega arith) (λ h. omega arith) (omega arith) ∙ l .interface;
         fewVariables = l .fewVariables;
-        types = rw (other 40 (λ e. omega arith), other 41 (λ e. omega arith)) (l .types);
+        types = rw (same 40 (λ e. omega arith) (λ h. omega arith) (omega arith), same 41 (λ e. omega arith) (λ h. omega arith) (omega arith)) (l .types);
         fewTests = l .fewTests;
-        tests = rw (other 38 (λ e. omega arith), other 39 (λ e. omega arith)) (l .tests);
+        tests = rw (same 38 (λ e. omega arith) (λ h. omega arith) (omega arith), same 39 (λ e. omega arith) (λ h. omega arith) (omega arith)) (l .tests);
       }
+
+  pub named-same : ((x : ℕ) → (x ≡ 3 → ⊥) → (34 ≤ x → 38 ≤ x) → (42 ≤ x → 90 ≤ x) → getD after x 0 ≡ getD plan x 0) → {bs : List ℕ} {r : Rule} → Named bs r plan (length (r .variables)) → Named bs r after (length (r .variables))
+  named-same same w =
+      let f = w .laid .fewVariables in
+      record {
+        laid = laid-same (λ x h k q. same x h (λ y. k (omega arith)) (λ y. omega arith)) (w .laid);
+        first = λ v h.
+            rw (same (28 + v) (λ e. omega arith) (λ k. omega arith) (λ k. omega arith), same (90 + v) (λ e. omega arith) (λ k. omega arith) (λ k. omega arith), same (96 + v) (λ e. omega arith) (λ k. omega arith) (λ k. omega arith))
+            (w .first v h);
+      }
+
+  pub labelled-same : {r : Rule} {j : ℕ} → getD after (42 + j) 0 ≡ getD plan (42 + j) 0 → getD after (54 + j) 0 ≡ getD plan (54 + j) 0 → getD after (66 + j) 0 ≡ getD plan (66 + j) 0 → getD after (78 + j) 0 ≡ getD plan (78 + j) 0
+      → Labelled r plan j → Labelled r after j
+  labelled-same e l s k w =
+      record {
+        elements = e ∙ w .elements;
+        lists = l ∙ w .lists;
+        alone = λ q. w .alone (sym s ∙ q);
+        constant = λ q. rw k (w .constant (sym s ∙ q));
+      }
+
+  all-same : ((x : ℕ) → (x ≡ 3 → ⊥) → (34 ≤ x → 38 ≤ x) → getD after x 0 ≡ getD plan x 0) → {bs : List ℕ} {r : Rule} → AllLabelled bs r plan → AllLabelled bs r after
+  all-same same w =
+      let at : (x : ℕ) → 42 ≤ x → getD after x 0 ≡ getD plan x 0 = λ x h. same x (λ e. omega arith) (λ k. omega arith) in
+      record {
+        named = named-same (λ x h k q. same x h k) (w .named);
+        labelled = λ j h. labelled-same (at (42 + j) (omega arith)) (at (54 + j) (omega arith)) (at (66 + j) (omega arith)) (at (78 + j) (omega arith)) (w .labelled j h);
+      }
+
+-- One store.
+
+module _ (plan : List ℕ) (j x : ℕ) where
+  -- at a place that is none of the items' own
+  pub items-kept : (j < 28 → (2 ≤ j) × (j < 4)) → {bs : List ℕ} {g : RuleGraph} → Items bs g plan → Items bs g (set plan j x)
+  items-kept apart =
+      items-same (length-set plan j x) (λ i h k.
+      other plan j x i (λ e. let a = apart (omega arith) in let b = k (omega arith) in omega arith))
+
+  -- at a place of the tests' decisions, or that of the number of tests
+  pub all-kept : ((j ≡ 3 → ⊥) → (34 ≤ j) × (j < 38)) → {bs : List ℕ} {r : Rule} → AllLabelled bs r plan → AllLabelled bs r (set plan j x)
+  all-kept apart =
+      all-same (length-set plan j x) (λ i h k.
+      other plan j x i (λ e. let a = apart (λ q. h (e ∙ q)) in let b = k (omega arith) in omega arith))
 
 -- as many types as variables
 pub types-count : {bs : List ℕ} {r : Rule} {plan : List ℕ} → Laid bs r plan → getD plan 41 0 - getD plan 40 0 ≡ length (r .variables)
 types-count {bs} {r} {plan} l =
     sym (part-length bs (getD plan 40 0) (getD plan 41 0) (l .types .ordered) (l .types .inside)) ∙ ap length (sym (types-is _ _ (l .types .is) .0))
 
-pub named-kept : {bs : List ℕ} {r : Rule} {plan : List ℕ} {n : ℕ} (j x : ℕ) → (j < 28 → j ≡ 3) → j < 38 → (j < 28 + n → j < 28) → Named bs r plan n → Named bs r (set plan j x) n
-named-kept {bs} {r} {plan} {n} j x apart low clear w =
-    record {
-      laid = laid-kept plan j x apart low (w .laid);
-      first = λ v h. other plan j x (28 + v) (λ e. let a = clear (omega arith) in omega arith) ∙ w .first v h;
-    }
+-- What is said of one variable: three stores.
 
-pub named-more : {bs : List ℕ} {r : Rule} {plan : List ℕ} {v : ℕ} (x : ℕ) → v < 6 → Named bs r plan v → x ≡ firstWith v (labels (r .left)) → Named bs r (set plan (28 + v) x) (v + 1)
-named-more {bs} {r} {plan} {v} x low w e =
-    record {
-      laid = laid-kept plan (28 + v) x (λ h. absurd (omega arith)) (omega arith) (w .laid);
-      first = λ u h. at u h (ℕ-discrete u v);
-    }
-  where
-    at : (u : ℕ) → u < v + 1 → Dec (u ≡ v) → getD (set plan (28 + v) x) (28 + u) 0 ≡ firstWith u (labels (r .left))
-    at u h (yes q) = rw q (stored plan (28 + v) x (w .laid .items .size) (omega arith) ∙ e)
-    at u h (no q) = other plan (28 + v) x (28 + u) (λ z. q (omega arith)) ∙ w .first u (omega arith)
+module _ {bs : List ℕ} {r : Rule} {plan : List ℕ} {v j s q : ℕ} (low : v < 6) (w : Named bs r plan v) (f : FirstAt r v j s q) where
+  abbrev one : List ℕ
+  one = set plan (28 + v) j
+
+  abbrev two : List ℕ
+  two = set one (90 + v) s
+
+  abbrev three : List ℕ
+  three = set two (96 + v) q
+
+  kept : (x : ℕ) → (x ≡ 28 + v → ⊥) → (x ≡ 90 + v → ⊥) → (x ≡ 96 + v → ⊥) → getD three x 0 ≡ getD plan x 0
+  kept x a b c = other two (96 + v) q x c ∙ other one (90 + v) s x b ∙ other plan (28 + v) j x a
+
+  named-at : (u : ℕ) → u < v + 1 → Dec (u ≡ v) → FirstAt r u (getD three (28 + u) 0) (getD three (90 + u) 0) (getD three (96 + u) 0)
+  named-at u h (yes e) =
+      let n = w .laid .items .size in
+      let n1 : length one ≡ 102 = length-set plan (28 + v) j ∙ n in
+      let n2 : length two ≡ 102 = length-set one (90 + v) s ∙ n1 in
+      let a : getD three (28 + v) 0 ≡ j = other two (96 + v) q (28 + v) (λ z. omega arith) ∙ other one (90 + v) s (28 + v) (λ z. omega arith) ∙ stored plan (28 + v) j n (omega arith) in
+      let b : getD three (90 + v) 0 ≡ s = other two (96 + v) q (90 + v) (λ z. omega arith) ∙ stored one (90 + v) s n1 (omega arith) in
+      let c : getD three (96 + v) 0 ≡ q = stored two (96 + v) q n2 (omega arith) in
+      rw (e, a, b, c) f
+  named-at u h (no e) =
+      rw (kept (28 + u) (λ z. e (omega arith)) (λ z. omega arith) (λ z. omega arith), kept (90 + u) (λ z. omega arith) (λ z. e (omega arith)) (λ z. omega arith), kept (96 + u) (λ z. omega arith) (λ z. omega arith) (λ z. e (omega arith)))
+      (w .first u (omega arith))
+
+  pub named-more : Named bs r three (v + 1)
+  named-more =
+      record {
+        laid = laid-same (length-set two (96 + v) q ∙ length-set one (90 + v) s ∙ length-set plan (28 + v) j) (λ x a b c.
+            kept x (λ e. let k = b (omega arith) in omega arith) (λ e. omega arith) (λ e. omega arith)) (w .laid);
+        first = λ u h. named-at u h (ℕ-discrete u v);
+      }

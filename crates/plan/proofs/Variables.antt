@@ -1,5 +1,5 @@
--- Which element is a variable, which label has it, and which label is the first that does. Rests on the meaning's
--- FirstMatch and on rows of fields.
+-- Which element is a variable and which takes a list, where a label has a variable, and which label is the first that
+-- does. Rests on Plan, on the meaning's FirstMatch and on rows of fields.
 use mathlib.Core.Path.{_≡_, refl, sym, _∙_, ap}
 use mathlib.Core.Option.{some, none}
 use mathlib.Core.List.{List, [], _∷_}
@@ -10,78 +10,138 @@ use native.Mathlib.Decide.{ℕ-discrete}
 use lib.Dec.{eqb}
 use lib.ListN.{length, getD, take, drop}
 use Rattle.meaning.specs.Basics.{choose, either}
-use Rattle.meaning.specs.Image.{field, element, anyTag, label}
+use Rattle.meaning.specs.Image.{Rule, field, element, anyTag, label}
+use Rattle.meaning.specs.References.{isList, takesList}
 use Rattle.meaning.specs.FirstMatch.{isVariable, has, firstWith}
 use Rattle.meaning.specs.Laws.Tests.{choose-true, choose-false}
 use Rattle.meaning.specs.Laws.Image.{element-other}
 use Rattle.meaning.specs.Laws.Image.Parsed.{element-30, element-31, element-32, element-33}
 use Rattle.meaning.specs.declared.Element.{Element}
+use Rattle.meaning.specs.declared.Element.the-variants.{Constant, Sum, Difference}
+use Rattle.meaning.specs.declared.Operand.{Operand}
 use Rattle.fields.specs.Laws.{Lies}
 use Rattle.references.specs.Runs.{Run, only-run, run-none, run-some, run-there}
+use Rattle.plan.specs.Plan.{singlesBefore, listsBefore, Occurring}
+use Rattle.plan.specs.declared.Occurs.{Occurs}
+use Rattle.plan.specs.declared.Occurs.the-variants.{Behind, Nowhere}
 
 -- Elements.
 
-module _ (tag v : ℕ) (bs : List ℕ) (e : Element) (q : element tag bs ≡ some e) where
-  pub variable-yes : tag ≡ 0x31 → (length bs ≡ 1) × (eqb (getD bs 0 0) v ≡ isVariable v e)
-  unfolding isVariable
-  variable-yes h = let t = element-31 tag bs e h q in (t .0, rw (t .1))
-
-  pub variable-no : (tag ≡ 0x31 → ⊥) → false ≡ isVariable v e
-  unfolding isVariable
-  variable-no h = at (ℕ-discrete tag 0x30) (ℕ-discrete tag 0x32) (ℕ-discrete tag 0x33)
+module _ (tag : ℕ) (bs : List ℕ) (e : Element) (q : element tag bs ≡ some e) where
+  -- what holds of all but variables, by the tag
+  tagged-other : (f : Element → Bool) → ((c : ℕ) → false ≡ f (Constant c)) → ((a b : Operand) → false ≡ f (Sum a b)) → ((a b : Operand) → false ≡ f (Difference a b)) → (tag ≡ 0x31 → ⊥) → false ≡ f e
+  tagged-other f constant sum difference h = at (ℕ-discrete tag 0x30) (ℕ-discrete tag 0x32) (ℕ-discrete tag 0x33)
     where
-      at : Dec (tag ≡ 0x30) → Dec (tag ≡ 0x32) → Dec (tag ≡ 0x33) → false ≡ isVariable v e
-      at (yes a) b c = rw (element-30 tag bs e a q .1)
-      at (no a) (yes b) c = rw (element-32 tag bs e b q .2)
-      at (no a) (no b) (yes c) = rw (element-33 tag bs e c q .2)
+      at : Dec (tag ≡ 0x30) → Dec (tag ≡ 0x32) → Dec (tag ≡ 0x33) → false ≡ f e
+      at (yes a) b c = rw (element-30 tag bs e a q .1) (constant _)
+      at (no a) (yes b) c = rw (element-32 tag bs e b q .2) (sum _ _)
+      at (no a) (no b) (yes c) = rw (element-33 tag bs e c q .2) (difference _ _)
       at (no a) (no b) (no c) =
           let n = element-other tag bs a h b c in
           let z : _≡_ {A = ℕ} 0 1 = cc in
           absurd (omega arith)
 
--- Labels. A loop that looks for the variable: what is left of the label has it where the label has.
+  module _ (v : ℕ) where
+    pub variable-yes : tag ≡ 0x31 → (length bs ≡ 1) × (eqb (getD bs 0 0) v ≡ isVariable v e)
+    unfolding isVariable
+    variable-yes h = let t = element-31 tag bs e h q in (t .0, rw (t .1))
 
-pub record Left (v : ℕ) (p : List ℕ) (at : ℕ) (l : List Element) : Type 0 where
+    pub variable-no : (tag ≡ 0x31 → ⊥) → false ≡ isVariable v e
+    unfolding isVariable
+    variable-no h = tagged-other (isVariable v) (λ c. refl) (λ a b. refl) (λ a b. refl) h
+
+  module _ (r : Rule) where
+    pub list-yes : tag ≡ 0x31 → (length bs ≡ 1) × (isList r (getD bs 0 0) ≡ takesList r e)
+    unfolding takesList
+    list-yes h = let t = element-31 tag bs e h q in (t .0, rw (t .1))
+
+    pub list-no : (tag ≡ 0x31 → ⊥) → false ≡ takesList r e
+    unfolding takesList
+    list-no h = tagged-other (takesList r) (λ c. refl) (λ a b. refl) (λ a b. refl) h
+
+-- Labels. A loop that looks for the variable, behind s elements of one atom and q lists: what is left of the label has it
+-- where the label has.
+
+pub record Left (r : Rule) (v : ℕ) (p : List ℕ) (at s q : ℕ) (l : List Element) : Type 0 where
   pub elements : List Element
   pub run : Run element elements [] (drop at p)
   pub same : has v l ≡ has v elements
+  pub singles : singlesBefore r v l ≡ s + singlesBefore r v elements
+  pub lists : listsBefore r v l ≡ q + listsBefore r v elements
 
-pub record Seeking (v : ℕ) (p : List ℕ) (at : ℕ) : Type 0 where
-  pub left : (l : List Element) → label p ≡ some l → Left v p at l
+pub record Seeking (types : List ℕ) (v : ℕ) (p : List ℕ) (at s q : ℕ) : Type 0 where
+  pub few : s + q ≤ at
+  pub left : (r : Rule) → r .variables ≡ types → (l : List Element) → label p ≡ some l → Left r v p at s q l
 
-pub seeking-start : (v : ℕ) (p : List ℕ) → Seeking v p 0
+pub seeking-start : (types : List ℕ) (v : ℕ) (p : List ℕ) → Seeking types v p 0 0 0
 unfolding label
-seeking-start v p = record { left = λ l e. record { elements = l; run = only-run anyTag element element (λ tag bs a h q. q) 4 p l e; same = refl } }
+seeking-start types v p =
+    record {
+      few = omega arith;
+      left = λ r k l e. record { elements = l; run = only-run anyTag element element (λ tag bs a h q. q) 4 p l e; same = refl; singles = omega arith; lists = omega arith };
+    }
 
-module _ {v : ℕ} {p : List ℕ} {at : ℕ} (w : Seeking v p at) where
-  pub seeking-done : length p ≤ at → (l : List Element) → label p ≡ some l → false ≡ has v l
+module _ {types : List ℕ} {v : ℕ} {p : List ℕ} {at s q : ℕ} (w : Seeking types v p at s q) where
+  pub seeking-done : length p ≤ at → (r : Rule) → r .variables ≡ types → (l : List Element) → label p ≡ some l → has v l ≡ false
   unfolding has
-  seeking-done h l e =
-      let x = w .left l e in
-      sym (x .same ∙ ap (has v) (run-none element p at (x .elements) (x .run) h))
+  seeking-done h r k l e =
+      let x = w .left r k l e in
+      x .same ∙ ap (has v) (run-none element p at (x .elements) (x .run) h)
 
-  pub seeking-cut : at < length p → field (drop at p) ≡ none → (l : List Element) → label p ≡ some l → false ≡ has v l
-  seeking-cut h k l e = let x = w .left l e in absurd (run-there element p at (x .elements) (x .run) h k)
+  module _ {tag start end : ℕ} {part : List ℕ} {b : Bool} (h : at < length p) (k : Lies p at tag start end) (is : part ≡ take (end - start) (drop start p)) (t : (e : Element) → element tag part ≡ some e → b ≡ isVariable v e) where
+    pub seeking-found : b ≡ true → (r : Rule) → r .variables ≡ types → (l : List Element) → label p ≡ some l → Occurring r v l (Behind s q)
+    unfolding has either singlesBefore listsBefore choose
+    seeking-found g r i l e =
+        let x = w .left r i l e in
+        let n = run-some element p at (x .elements) (x .run) h tag start end k in
+        let y : isVariable v (n .first) ≡ true = sym (t (n .first) (ap (element tag) is ∙ n .read)) ∙ g in (
+          x .same ∙ ap (has v) (n .parts) ∙ rw y,
+          sym (x .singles ∙ ap (λ (m : List Element). s + singlesBefore r v m) (n .parts) ∙ rw y (omega arith)),
+          sym (x .lists ∙ ap (λ (m : List Element). q + listsBefore r v m) (n .parts) ∙ rw y (omega arith)),
+        )
 
-  module _ {tag start end : ℕ} {part : List ℕ} {b : Bool} (h : at < length p) (k : Lies p at tag start end) (is : part ≡ take (end - start) (drop start p)) (q : (e : Element) → element tag part ≡ some e → b ≡ isVariable v e) where
-    pub seeking-found : b ≡ true → (l : List Element) → label p ≡ some l → true ≡ has v l
+    -- a turn that does not find it
+    seeking-turn : b ≡ false → (s' q' : ℕ) → s' + q' ≡ s + q + 1
+        → ((r : Rule) → r .variables ≡ types → (e : Element) → element tag part ≡ some e → isVariable v e ≡ false → (m : List Element) → (s + singlesBefore r v (e ∷ m) ≡ s' + singlesBefore r v m) × (q + listsBefore r v (e ∷ m) ≡ q' + listsBefore r v m))
+        → Seeking types v p end s' q'
     unfolding has either
-    seeking-found g l e =
-        let x = w .left l e in
-        let t = run-some element p at (x .elements) (x .run) h tag start end k in
-        let i : isVariable v (t .first) ≡ true = sym (q (t .first) (ap (element tag) is ∙ t .read)) ∙ g in
-        sym (x .same ∙ ap (has v) (t .parts) ∙ rw i)
-
-    pub seeking-next : b ≡ false → Seeking v p end
-    unfolding has either
-    seeking-next g =
+    seeking-turn g s' q' z f =
         record {
-          left = λ l e.
-              let x = w .left l e in
-              let t = run-some element p at (x .elements) (x .run) h tag start end k in
-              let i : isVariable v (t .first) ≡ false = sym (q (t .first) (ap (element tag) is ∙ t .read)) ∙ g in
-              record { elements = t .others; run = t .run; same = x .same ∙ ap (has v) (t .parts) ∙ rw i };
+          few = omega (arith, w .few, k .starts, k .ends);
+          left = λ r i l e.
+              let x = w .left r i l e in
+              let n = run-some element p at (x .elements) (x .run) h tag start end k in
+              let d = ap (element tag) is ∙ n .read in
+              let y : isVariable v (n .first) ≡ false = sym (t (n .first) d) ∙ g in
+              let c = f r i (n .first) d y (n .others) in
+              record {
+                elements = n .others;
+                run = n .run;
+                same = x .same ∙ ap (has v) (n .parts) ∙ rw y;
+                singles = x .singles ∙ ap (λ (m : List Element). s + singlesBefore r v m) (n .parts) ∙ c .0;
+                lists = x .lists ∙ ap (λ (m : List Element). q + listsBefore r v m) (n .parts) ∙ c .1;
+              };
         }
+
+    module _ {c : Bool} (g : b ≡ false) (u : (r : Rule) → r .variables ≡ types → (e : Element) → element tag part ≡ some e → c ≡ takesList r e) where
+      pub seeking-list : c ≡ true → Seeking types v p end s (q + 1)
+      unfolding singlesBefore listsBefore choose
+      seeking-list f = seeking-turn g s (q + 1) (omega arith) (λ r i e d y m. let z = sym (u r i e d) ∙ f in (rw (y, z), rw (y, z) (omega arith)))
+
+      pub seeking-single : c ≡ false → Seeking types v p end (s + 1) q
+      unfolding singlesBefore listsBefore choose
+      seeking-single f = seeking-turn g (s + 1) q (omega arith) (λ r i e d y m. let z = sym (u r i e d) ∙ f in (rw (y, z) (omega arith), rw (y, z)))
+
+  pub seeking-cut : at < length p → field (drop at p) ≡ none → (r : Rule) → r .variables ≡ types → (l : List Element) → label p ≡ some l → has v l ≡ false
+  seeking-cut h k r i l e = let x = w .left r i l e in absurd (run-there element p at (x .elements) (x .run) h k)
+
+-- what the loop answers, by cases
+module _ (r : Rule) (v : ℕ) (l : List Element) (o : Occurs) (w : Occurring r v l o) where
+  pub occurs-behind : {s q : ℕ} → o ≡ Behind s q → Occurring r v l (Behind s q)
+  occurs-behind e = rw e at w
+
+  pub occurs-nowhere : o ≡ Nowhere → has v l ≡ false
+  occurs-nowhere e = rw e at w
 
 -- The first label.
 

@@ -14,8 +14,7 @@ use Rattle.meaning.specs.Demands.Ours.{ours}
 use Rattle.meaning.specs.Demands.{Lent, Interpreter, Bytewise, Demand1, Demand2}
 use Rattle.meaning.specs.Laws.Hosts.{LegalHost}
 use Rattle.meaning.specs.Laws.Legality.{LegalLedger}
-use Rattle.meaning.specs.Laws.LegalCommands.{LegalRules, legal-rule}
-use Rattle.meaning.specs.Laws.FurtherCommands.{Sound}
+use Rattle.meaning.specs.Laws.LegalCommands.{LegalRules, legal-rule, legal-sound}
 use Rattle.meaning.specs.Laws.Undoing.{Numbered, base-numbered}
 use Rattle.meaning.specs.declared.Layout.{Layout}
 use Rattle.published.specs.Graphs.{Graph, HostGraph, graphOf, Iso}
@@ -29,9 +28,6 @@ use Rattle.published.specs.Results.{CanComeTo, held}
 use Rattle.published.specs.Alike as Likeness
 use Rattle.published.specs.Alike.{Calls, Same}
 
-rules-sound : (rules : List Rule) → LegalRules rules → (i : ℕ) → Sound (ruleAt rules i)
-rules-sound rules legal i = let k = legal-rule rules legal i in record { holds = k .holds; types = k .types }
-
 -- The answers.
 
 module _ (L : Layout) where
@@ -39,11 +35,11 @@ module _ (L : Layout) where
       → (l : List ℕ) (r : Rule) (p : List ℕ) (g g′ : Ledger) → LegalLedger L m n g → FirstCalled rules (g .host) l r p
       → apply (L .atoms) room r p g ≡ applied g′ → Applied (map (ruleAt rules) l) (graphOf (g .host)) (graphOf (g′ .host))
   hit m n few few′ room rules legal l r p g g′ k f a =
-      first-applies rules (rules-sound rules legal) L (L .atoms) room l r p g g′ (k .host) f a
+      first-applies rules (legal-sound rules legal) L (L .atoms) room l r p g g′ (k .host) f a
 
   miss : (rules : List Rule) → LegalRules rules → (l : List ℕ) (h : Host) → LegalHost L h → NoMatch rules h l → (H : Graph)
       → Applied (map (ruleAt rules) l) (graphOf h) H → ⊥
-  miss rules legal l h k n H a = no-call rules (rules-sound rules legal) h l n H a
+  miss rules legal l h k n H a = no-call rules (legal-sound rules legal) h l n H a
 
   -- executing the image's program on the graph that the tables hold can come to X
   abbrev pub Comes : Lent → Outcome Graph → Type 0

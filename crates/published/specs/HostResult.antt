@@ -3,26 +3,25 @@
 use Prim.Native.Nat.{ℕ, zero, suc, _+_, _<_, _≤_, max}
 use mathlib.Core.Path.{_≡_, refl, ap}
 use mathlib.Core.Logic.{_⊎_, inl, inr}
-use mathlib.Core.Bool.{Bool, true, false}
+use mathlib.Core.Bool.{true, false}
 use mathlib.Core.List.{List, [], _∷_}
 use native.Mathlib.Omega.{arith}
 use native.Mathlib.Decide.{decLt}
 use lib.Dec.{eqb}
 use lib.ListN.{length}
-use Rattle.meaning.specs.Basics.{choose, either}
+use Rattle.meaning.specs.Basics.{either}
 use Rattle.meaning.specs.Layout.{isNodeMark, isEdgeMark}
 use Rattle.meaning.specs.Image.{Rule, anyMark}
 use Rattle.meaning.specs.References.{ruleHolds}
-use Rattle.meaning.specs.Laws.Tests.{choose-lt, choose-le, either-true}
+use Rattle.meaning.specs.Laws.Tests.{choose-lt, choose-le, either-not}
 use Rattle.meaning.specs.Laws.Every.{Every, Every-at}
 use Rattle.meaning.specs.Laws.Numbers.{sum-some, difference-some}
 use Rattle.meaning.specs.Laws.Layout.{Words}
-use Rattle.meaning.specs.Laws.Values.{LegalElement, LegalRuleNode, LegalRuleEdge, LegalRule, Words-one, Words-append, interface-left, right-marked}
+use Rattle.meaning.specs.Laws.Values.{LegalElement, LegalRuleNode, LegalRuleEdge, LegalRule, Words-one, Words-append, interface-left, right-marked, new-marked, node-mark}
 use Rattle.meaning.specs.declared.Element.{Element}
 use Rattle.meaning.specs.declared.Element.the-variants.{Constant, Variable, Sum, Difference}
 use Rattle.published.specs.Graphs.{NodeLabel, EdgeLabel, Graph, Node, Edge, HostGraph}
-use Rattle.published.specs.RuleApplication.{nodeOf, edgeOf, Evaluates, Instance, StaysNode, StaysEdge, NodeInstance, markFrom, placed, Constructed, Matches, Applies}
-use Rattle.published.specs.Application.Values.{new-marked}
+use Rattle.published.specs.RuleApplication.{nodeOf, edgeOf, Evaluates, Instance, StaysNode, StaysEdge, NodeInstance, placed, Constructed, Matches, Applies}
 use Rattle.published.specs.Isomorphism.{interface-stays}
 use Rattle.published.specs.OneResult.{on-union, value-of, source-stays, target-stays, right-end}
 
@@ -49,22 +48,6 @@ record HostNodeLabel (l : NodeLabel) : Type 0 where
 record HostEdgeLabel (l : EdgeLabel) : Type 0 where
   mark : isEdgeMark (l .mark) ≡ true
   words : Words (l .list)
-
-mark-from : (m k : ℕ) → either (isNodeMark m) (eqb m anyMark) ≡ true → isNodeMark k ≡ true → isNodeMark (markFrom k m) ≡ true
-unfolding choose
-mark-from m k h l = at (eqb m anyMark) (either-true _ _ h)
-  where
-    at : (b : Bool) → (isNodeMark m ≡ true) ⊎ (b ≡ true) → isNodeMark (choose b k m) ≡ true
-    at true q = l
-    at false (inl q) = q
-    at false (inr q) = let z : _≡_ {A = ℕ} 0 1 = cc in absurd (omega arith)
-
-mark-not : (a b : Bool) → either a b ≡ true → b ≡ false → a ≡ true
-mark-not a b h e = at (either-true a b h)
-  where
-    at : (a ≡ true) ⊎ (b ≡ true) → a ≡ true
-    at (inl q) = q
-    at (inr q) = let z : _≡_ {A = ℕ} 0 1 = cc in absurd (omega arith)
 
 -- Finitely many.
 
@@ -142,7 +125,7 @@ module _ (r : Rule) (rule : LegalRule r) (G : Graph) (host : HostGraph G) (m : M
     node-label =
         on-nodes (λ v. HostNodeLabel (H .nodeLabel v)) (λ v s. kept v s (value-of (m .g .node) (r .interface) v))
         (λ j n.
-        node-host j _ _ (mark-not _ _ (right-node j .mark) (new-marked r holds j (n .0) (n .1))) (c .newLabels j (n .0) (n .1)))
+        node-host j _ _ (either-not _ _ (right-node j .mark) (new-marked r holds j (n .0) (n .1) _)) (c .newLabels j (n .0) (n .1)))
       where
         kept : (v : ℕ) → StaysNode r G (m .g) v
             → ((i : ℕ) × (i < r .interface) × (m .g .node i ≡ v)) ⊎ ((i : ℕ) → i < r .interface → m .g .node i ≡ v → ⊥)
@@ -151,7 +134,7 @@ module _ (r : Rule) (rule : LegalRule r) (G : Graph) (host : HostGraph G) (m : M
             let a = interface-left r holds in
             rw (← (t .2))
             (node-host (t .0) _ _
-            (mark-from _ _ (right-node (t .0) .mark) (host .nodeMarks _ (m .g .nodes (t .0) (omega (arith, t .1)))))
+            (node-mark _ _ (right-node (t .0) .mark) (host .nodeMarks _ (m .g .nodes (t .0) (omega (arith, t .1)))))
             (c .interfaceLabels (t .0) (t .1)))
         kept v s (inr f) =
             rw (c .keptLabels v s f)
@@ -164,7 +147,7 @@ module _ (r : Rule) (rule : LegalRule r) (G : Graph) (host : HostGraph G) (m : M
         (λ k l.
         let i = c .newEdgeLabels k l in
         record {
-          mark = rw (i .mark) (mark-not _ _ (right-edge k .mark) (unmarked k));
+          mark = rw (i .mark) (either-not _ _ (right-edge k .mark) (unmarked k));
           words = instance-words (m .α .of) (m .α .words) (edgeOf (r .right) k .label) _ (right-edge k .label) (i .list);
         })
       where

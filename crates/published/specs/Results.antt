@@ -22,9 +22,8 @@ use Rattle.meaning.specs.Laws.Hosts.{LegalHost, read-write-nodes, read-write-ed
 use Rattle.meaning.specs.Laws.Commands.{exec-unbroken}
 use Rattle.meaning.specs.Laws.Values.{LegalRule}
 use Rattle.meaning.specs.Laws.Legality.{LegalLedger, apply-legal}
-use Rattle.meaning.specs.Laws.LegalCommands.{LegalRules, legal-rule}
+use Rattle.meaning.specs.Laws.LegalCommands.{LegalRules, legal-rule, legal-sound}
 use Rattle.meaning.specs.Laws.LegalImage.{program-legal}
-use Rattle.meaning.specs.Laws.FurtherCommands.{Sound}
 use Rattle.meaning.specs.Laws.Inference.{exec-runs, runs-exec}
 use Rattle.meaning.specs.Laws.Undoing.{Numbered, start-legal}
 use Rattle.meaning.specs.declared.Layout.{Layout}
@@ -87,17 +86,14 @@ module _ {ℓ κ} (L : Layout) (Graph : Type ℓ) (Applied : List Rule → Graph
             → LegalLedger L m n (t .ledger) × Ending Graph Applied read (comSeq rules c) s e t
         runs-published r q = runs-ending Graph Applied read (L .atoms) room rules (LegalLedger L m n) hits misses r q
 
-        rules-sound : (i : ℕ) → Sound (ruleAt rules i)
-        rules-sound i = let k = legal-rule rules legal i in record { holds = k .holds; types = k .types }
-
         -- and so what it is computed to do
         pub exec-published : (c : Command) (s : State) → breaksLie c false ≡ true → LegalLedger L m n (s .ledger)
             → Ending Graph Applied read (comSeq rules c) s (exec (L .atoms) room rules c s .end) (exec (L .atoms) room rules c s .state)
-        exec-published c s b q = runs-published (exec-runs (L .atoms) room rules rules-sound c s b) q .1
+        exec-published c s b q = runs-published (exec-runs (L .atoms) room rules (legal-sound rules legal) c s b) q .1
 
         unbroken : (c : Command) (s t : State) → breaksLie c false ≡ true → Runs (L .atoms) room rules c s Broke t → ⊥
         unbroken c s t b r =
-            exec-unbroken (L .atoms) room rules c s b (ap (λ (o : Out). o .end) (runs-exec (L .atoms) room rules rules-sound r))
+            exec-unbroken (L .atoms) room rules c s b (ap (λ (o : Out). o .end) (runs-exec (L .atoms) room rules (legal-sound rules legal) r))
 
     -- Every interpreter that meets demands 1 and 2.
 

@@ -9,16 +9,16 @@ use native.Mathlib.Omega.{arith}
 use native.Mathlib.Decide.{decLt}
 use borrow.Author.Tests.{not-true}
 use lib.ListN.{length, getD}
-use Rattle.meaning.specs.Basics.{every, absent}
-use Rattle.meaning.specs.Image.{RuleNode, RuleEdge, Rule, isType}
-use Rattle.meaning.specs.References.{operandNames, elementNames, labels, elements, names, testNames, isInt, isList, isPlain, takesList, variablesOnLeft, ruleHolds}
-use Rattle.meaning.specs.Matching.{leftNode, leftEdge, leftNodes, leftEdges, atomsOf, instance}
+use Rattle.meaning.specs.Basics.{absent}
+use Rattle.meaning.specs.Image.{RuleNode, RuleEdge, Rule}
+use Rattle.meaning.specs.References.{operandNames, elementNames, labels, elements, names, testNames, isInt, variablesOnLeft, ruleHolds}
+use Rattle.meaning.specs.Matching.{leftNode, leftEdge, leftNodes, leftEdges, instance}
 use Rattle.meaning.specs.FirstMatch.{firstWith}
-use Rattle.meaning.specs.Laws.Tests.{choose-le, either-true, every-true, some-inj}
+use Rattle.meaning.specs.Laws.Tests.{choose-le, some-inj}
 use Rattle.meaning.specs.Laws.Every.{Every, Every-true, Every-at, Every-parts, Every-concat, Every-map, Every-then, Every-with}
 use Rattle.meaning.specs.Laws.References.{clauses-true, left-plain, label-plain, label-simple, label-variables}
 use Rattle.meaning.specs.Laws.Labels.{Singles, taken-instance}
-use Rattle.meaning.specs.Laws.Assignment.{labels-length, label-node, label-edge}
+use Rattle.meaning.specs.Laws.Assignment.{labels-length, label-node, label-edge, single}
 use Rattle.meaning.specs.Laws.Decided.{first-with}
 use Rattle.meaning.specs.Laws.Values.{interface-left}
 use Rattle.meaning.specs.Laws.FurtherCommands.{Sound}
@@ -32,20 +32,6 @@ use Rattle.published.specs.Application.Conditions.{instance-plain}
 use Rattle.published.specs.OneResult.{one-result}
 
 -- The values of the variables of L.
-
--- a plain element but a list variable stands for one atom, where its variables exist
-single : (r : Rule) (β : ℕ → List ℕ) → every isType (r .variables) ≡ true → ((v : ℕ) → isInt r v ≡ true → length (β v) ≡ 1)
-    → (x : Element) → isPlain x ≡ true → Every (λ v. v < length (r .variables)) (elementNames x) → takesList r x ≡ false
-    → length (atomsOf β x) ≡ 1
-unfolding isPlain elementNames takesList atomsOf isType
-single r β types ints (Constant c) p e q = refl
-single r β types ints (Variable v) p e q = ints v (int (either-true _ _ (every-true isType (r .variables) 0 types v (e .0))))
-  where
-    int : (isInt r v ≡ true) ⊎ (isList r v ≡ true) → isInt r v ≡ true
-    int (inl i) = i
-    int (inr i) = let z : _≡_ {A = ℕ} 0 1 = cc in absurd (omega arith)
-single r β types ints (Sum a b) p e q = let z : _≡_ {A = ℕ} 0 1 = cc in absurd (omega arith)
-single r β types ints (Difference a b) p e q = let z : _≡_ {A = ℕ} 0 1 = cc in absurd (omega arith)
 
 -- the premorphisms g and f agree on L
 pub record Agree (r : Rule) (G : Graph) (g f : Premorphism (r .left) G) : Type 0 where

@@ -12,7 +12,7 @@ use Rattle.meaning.specs.Basics.{choose, both, every, absent}
 use Rattle.meaning.specs.Image.{label, element}
 use Rattle.meaning.specs.Image.{field, anyTag}
 use Rattle.meaning.specs.References.{operandNames, elementOperands, elementNames, conditionOperands, conditionNodes, isPlain}
-use Rattle.meaning.specs.Laws.Tests.{every-append, both-yes, both-no, choose-eq, choose-ne}
+use Rattle.meaning.specs.Laws.Tests.{every-append, both-yes, both-no, both-last, choose-eq, choose-ne}
 use Rattle.meaning.specs.declared.Operand.{Operand}
 use Rattle.meaning.specs.declared.Operand.the-variants.{Constant as constantOperand, Variable as variableOperand}
 use Rattle.meaning.specs.declared.Element.{Element}
@@ -27,11 +27,6 @@ use Rattle.references.specs.declared.Check.the-variants.{Elements, Lists
 use Rattle.references.specs.Runs.{For, Run, only-run, run-none, run-some, run-there}
 use Rattle.references.specs.Rows.{Item, node, edge, graphItem, item-is, node-is, edge-is}
 use Rattle.references.specs.Asked.{intOperand, operandAsked, elementAsked, listOf, listsIn, itemLabel, endsBelow, edgeMarked, itemAsked, conditionAsked}
-
-pub both-unit : (b : Bool) → b ≡ both b true
-unfolding both
-both-unit true = refl
-both-unit false = refl
 
 pub both-below : (a b n : ℕ) → a < n → ltb b n ≡ both (ltb a n) (ltb b n)
 both-below a b n h = sym (both-yes _ _ (lt-ltb a n h))
@@ -61,7 +56,7 @@ module _ (ask : Ask) (ts : List ℕ) where
   module _ (v : ℕ) where
     pub variable-named : ask ≡ Named → ltb v (length ts) ≡ elementAsked ask ts (Variable v)
     unfolding elementAsked elementNames every
-    variable-named e = rw e (both-unit _)
+    variable-named e = rw e (both-last _)
 
     pub variable-int : ask ≡ Int → true ≡ elementAsked ask ts (Variable v)
     unfolding elementAsked elementOperands every
@@ -69,7 +64,7 @@ module _ (ask : Ask) (ts : List ℕ) where
 
     pub variable-lacks : (u : ℕ) → ask ≡ Lacks u → not (eqb v u) ≡ elementAsked ask ts (Variable v)
     unfolding elementAsked elementNames absent
-    variable-lacks u e = rw e (both-unit _)
+    variable-lacks u e = rw e (both-last _)
 
     pub variable-plain : ask ≡ Plain → true ≡ elementAsked ask ts (Variable v)
     unfolding elementAsked isPlain
@@ -77,7 +72,7 @@ module _ (ask : Ask) (ts : List ℕ) where
 
     pub operand-named : ask ≡ Named → ltb v (length ts) ≡ operandAsked ask ts (variableOperand v)
     unfolding operandAsked operandNames every
-    operand-named e = rw e (both-unit _)
+    operand-named e = rw e (both-last _)
 
     pub operand-int : (t : ℕ) → t ≡ getD ts v 0 → ask ≡ Int → eqb t 1 ≡ operandAsked ask ts (variableOperand v)
     unfolding operandAsked intOperand
@@ -85,7 +80,7 @@ module _ (ask : Ask) (ts : List ℕ) where
 
     pub operand-lacks : (u : ℕ) → ask ≡ Lacks u → not (eqb v u) ≡ operandAsked ask ts (variableOperand v)
     unfolding operandAsked operandNames absent
-    operand-lacks u e = rw e (both-unit _)
+    operand-lacks u e = rw e (both-last _)
 
     pub operand-plain : ask ≡ Plain → false ≡ operandAsked ask ts (variableOperand v)
     unfolding operandAsked
@@ -123,14 +118,14 @@ constant-holds Plain ts c = refl
 sum-holds : (ask : Ask) (ts : List ℕ) (a b : Operand) → both (operandAsked ask ts a) (operandAsked ask ts b) ≡ elementAsked ask ts (Sum a b)
 unfolding elementAsked operandAsked elementNames elementOperands every isPlain both
 sum-holds Named ts a b = sym (every-append _ (operandNames a) (operandNames b))
-sum-holds Int ts a b = ap (both (intOperand ts a)) (both-unit _)
+sum-holds Int ts a b = ap (both (intOperand ts a)) (both-last _)
 sum-holds (Lacks u) ts a b = sym (absent-append u (operandNames a) (operandNames b))
 sum-holds Plain ts a b = refl
 
 difference-holds : (ask : Ask) (ts : List ℕ) (a b : Operand) → both (operandAsked ask ts a) (operandAsked ask ts b) ≡ elementAsked ask ts (Difference a b)
 unfolding elementAsked operandAsked elementNames elementOperands every isPlain both
 difference-holds Named ts a b = sym (every-append _ (operandNames a) (operandNames b))
-difference-holds Int ts a b = ap (both (intOperand ts a)) (both-unit _)
+difference-holds Int ts a b = ap (both (intOperand ts a)) (both-last _)
 difference-holds (Lacks u) ts a b = sym (absent-append u (operandNames a) (operandNames b))
 difference-holds Plain ts a b = refl
 
@@ -166,24 +161,24 @@ module _ (ask : Ask) (ts : List ℕ) (c : Condition) where
   module _ (r : Bool) (a b : Operand) (q : r ≡ both (operandAsked ask ts a) (operandAsked ask ts b)) where
     pub operands-equal : c ≡ Equal a b → r ≡ conditionAsked (Elements ask) ts c
     unfolding conditionAsked conditionOperands every
-    operands-equal h = rw h (q ∙ ap (both (operandAsked ask ts a)) (both-unit _))
+    operands-equal h = rw h (q ∙ ap (both (operandAsked ask ts a)) (both-last _))
 
     pub operands-less : c ≡ Less a b → r ≡ conditionAsked (Elements ask) ts c
     unfolding conditionAsked conditionOperands every
-    operands-less h = rw h (q ∙ ap (both (operandAsked ask ts a)) (both-unit _))
+    operands-less h = rw h (q ∙ ap (both (operandAsked ask ts a)) (both-last _))
 
 module _ (n : ℕ) (c : Condition) (ts : List ℕ) where
   pub nodes-edge : (r : Bool) (a b : ℕ) → r ≡ both (ltb a n) (ltb b n) → c ≡ Edge a b → r ≡ conditionAsked (Nodes n) ts c
   unfolding conditionAsked conditionNodes every
-  nodes-edge r a b q h = rw h (q ∙ ap (both (ltb a n)) (both-unit _))
+  nodes-edge r a b q h = rw h (q ∙ ap (both (ltb a n)) (both-last _))
 
   pub nodes-in : (a b : ℕ) → c ≡ InDegree a b → ltb a n ≡ conditionAsked (Nodes n) ts c
   unfolding conditionAsked conditionNodes every
-  nodes-in a b h = rw h (both-unit _)
+  nodes-in a b h = rw h (both-last _)
 
   pub nodes-out : (a b : ℕ) → c ≡ OutDegree a b → ltb a n ≡ conditionAsked (Nodes n) ts c
   unfolding conditionAsked conditionNodes every
-  nodes-out a b h = rw h (both-unit _)
+  nodes-out a b h = rw h (both-last _)
 
   pub nodes-equal : (a b : Operand) → c ≡ Equal a b → true ≡ conditionAsked (Nodes n) ts c
   unfolding conditionAsked conditionNodes every

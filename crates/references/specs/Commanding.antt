@@ -15,14 +15,13 @@ use Rattle.meaning.specs.Basics.{both, every, isEmpty, ensure, _>>_, _>>=_}
 use Rattle.meaning.specs.Image.{Command, ruleSet, sequence, guarded, loop, skip, fail, break, Commands, stop, then, field, leading, only, anyTag, inOrder, command, Program}
 use Rattle.meaning.specs.References.{ruleHolds, rulesExist, allRulesExist, references}
 use Rattle.meaning.specs.Placement.{breaksLie, allBreaksLie, placement}
-use Rattle.meaning.specs.Laws.Tests.{both-yes, both-no, choose-eq, choose-ne}
+use Rattle.meaning.specs.Laws.Tests.{both-yes, both-no, both-last, choose-eq, choose-ne}
 use Rattle.meaning.specs.Laws.Image.Parsed.{command-tag, command-50, command-51, command-52, command-53, command-54, command-55, command-56, command-57}
 use Rattle.fields.specs.Laws.{Lies}
 use Rattle.references.specs.declared.Demand.{Demand}
 use Rattle.references.specs.declared.Demand.the-variants.{Rules, Breaks}
 use Rattle.references.specs.Runs.{For, Run, only-run, run-none, run-some, run-there}
 use Rattle.references.specs.Asked.{numbersAsked, breakAsked, inBody, inGuard, commandAsked, commandsAsked, partsAsked, ofFirst}
-use Rattle.references.specs.Asking.{both-unit}
 
 -- The two demands.
 
@@ -70,7 +69,7 @@ unfolding only leading _>>=_ ensure _>>_ isEmpty
 empty-parts n = refl
 
 -- a number that is none of four in a row lies behind them
-past : (low t : ℕ) → (t ≡ low → ⊥) → (t ≡ low + 1 → ⊥) → (t ≡ low + 2 → ⊥) → (t ≡ low + 3 → ⊥) → low ≤ t → low + 4 ≤ t
+pub past : (low t : ℕ) → (t ≡ low → ⊥) → (t ≡ low + 1 → ⊥) → (t ≡ low + 2 → ⊥) → (t ≡ low + 3 → ⊥) → low ≤ t → low + 4 ≤ t
 past low t h0 h1 h2 h3 k = omega arith
 
 behind-all : {t : ℕ} → t ≤ 0x57 → 0x58 ≤ t → ⊥
@@ -109,13 +108,13 @@ module _ (d : Demand) (n tag : ℕ) (bs : List ℕ) where
       unfolding commandAsked partsAsked ofFirst
       of-guarded keep h k s =
           let f = choose-ne tag 0x54 _ _ k ∙ choose-ne tag 0x51 _ _ h in
-          rw (s .4) (of-parts (inGuard d) f _ (s .3) ∙ rw (← (both-unit (commandAsked d (s .2)))))
+          rw (s .4) (of-parts (inGuard d) f _ (s .3) ∙ rw (← (both-last (commandAsked d (s .2)))))
 
       of-loop : tag ≡ 0x54 → r ≡ commandAsked d c
       unfolding commandAsked partsAsked ofFirst
       of-loop h =
           let s = command-54 n tag bs c e h in
-          rw (s .2) (of-parts (inBody d) (choose-eq tag 0x54 _ _ h) _ (s .1) ∙ sym (both-unit _))
+          rw (s .2) (of-parts (inBody d) (choose-eq tag 0x54 _ _ h) _ (s .1) ∙ sym (both-last _))
 
     parts-is : (tag ≡ 0x50 → ⊥) → (tag ≡ 0x57 → ⊥) → For (command (suc n) tag bs) (λ c. r ≡ commandAsked d c)
     unfolding commandAsked

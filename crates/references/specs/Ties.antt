@@ -11,7 +11,7 @@ use lib.Dec.{eqb, leb, ltb}
 use Rattle.meaning.specs.Basics.{choose, both, either, clauses, all, every, absent, concat}
 use Rattle.meaning.specs.Image.{RuleGraph, Rule, Program, rule, anyMark}
 use Rattle.meaning.specs.References.{operandNames, elementOperands, elementNames, conditionOperands, labels, elements, names, testOperands, testNames, takesList, lists, operandInt, variablesExist, endsExist, testNodesExist, interfaceFits, leftPlain, leftSimple, operandsInt, variablesOnLeft, anyKept, anyPlaced, ruleHolds}
-use Rattle.meaning.specs.Laws.Tests.{both-true, both-yes, both-no, either-left, either-right, every-append, every-true, absent-true, absent-false, all-of, all-no}
+use Rattle.meaning.specs.Laws.Tests.{both-true, both-yes, both-no, both-last, either-left, either-right, every-append, every-map, every-true, absent-true, absent-false, all-of, all-no}
 use Rattle.meaning.specs.declared.Operand.{Operand}
 use Rattle.meaning.specs.declared.Operand.the-variants.{Constant as constantOperand, Variable as variableOperand}
 use Rattle.meaning.specs.declared.Element.{Element}
@@ -22,7 +22,7 @@ use Rattle.references.specs.declared.Check.the-variants.{Elements, Lists
 use Rattle.references.specs.Runs.{For}
 use Rattle.references.specs.Rows.{Item, node, edge, items, markAt, ruleOf, mainOf, imagePart, imageParts, part-is, no-command}
 use Rattle.references.specs.Asked.{intOperand, operandAsked, elementAsked, listOf, listsIn, itemLabel, endsBelow, edgeMarked, itemAsked, graphAsked, conditionAsked, testAsked, rightAsked, keptOnLeft, nodesAsked, labelsAsked, partHolds}
-use Rattle.references.specs.Asking.{both-unit, absent-append}
+use Rattle.references.specs.Asking.{absent-append}
 
 -- Tests over lists.
 
@@ -30,11 +30,6 @@ every-same : {A : Type 0} (f g : A → Bool) → ((a : A) → f a ≡ g a) → (
 unfolding every
 every-same f g h [] = refl
 every-same f g h (a ∷ l) = rw (h a, every-same f g h l)
-
-every-map : {A B : Type 0} (f : B → Bool) (h : A → B) (l : List A) → every f (map h l) ≡ every (λ x. f (h x)) l
-unfolding every
-every-map f h [] = refl
-every-map f h (a ∷ l) = ap (both (f (h a))) (every-map f h l)
 
 every-concat : {A : Type 0} (f : A → Bool) (ls : List (List A)) → every f (concat ls) ≡ every (every f) ls
 unfolding every concat
@@ -308,13 +303,13 @@ rule-is x =
     (both-assoc (endsExist (x .right)) _ _
     ∙ ap (both (endsExist (x .right)))
     (both-assoc (testNodesExist x) _ _
-    ∙ ap (both (testNodesExist x)) (ap (both (interfaceFits x)) (ap (both (leftPlain x)) (ap (both (leftSimple x)) (ap (both (operandsInt x)) (ap (both (variablesOnLeft x)) (both-unit (anyPlaced x))))))))))
+    ∙ ap (both (testNodesExist x)) (ap (both (interfaceFits x)) (ap (both (leftPlain x)) (ap (both (leftSimple x)) (ap (both (operandsInt x)) (ap (both (variablesOnLeft x)) (both-last (anyPlaced x))))))))))
 
 -- the rules of an image
 pub parts-hold : (t : ℕ) (p : Program) → every ruleHolds (p .rules) ≡ every partHolds (imageParts t p)
 unfolding partHolds every both
 parts-hold t p =
-    sym (every-append partHolds (map ruleOf (p .rules)) (mainOf t (p .main) ∷ []) ∙ sym (both-unit _) ∙ every-map partHolds ruleOf (p .rules))
+    sym (every-append partHolds (map ruleOf (p .rules)) (mainOf t (p .main) ∷ []) ∙ sym (both-last _) ∙ every-map partHolds ruleOf (p .rules))
 
 pub part-rule : (tag : ℕ) (bs : List ℕ) (r : Bool) → tag ≡ 0x10 → For (rule bs) (λ x. r ≡ ruleHolds x) → For (imagePart tag bs) (λ i. r ≡ partHolds i)
 unfolding partHolds

@@ -1,7 +1,7 @@
 // A run: what is refused before it starts, and what a started one leaves, by its end.
 ghost use mathlib.Core.Path.{_≡_};
 ghost use mathlib.Core.Option.{none};
-ghost use lib.ListN.{length, replicate};
+ghost use lib.ListN.{length};
 ghost use Rattle.meaning.specs.Calls.{answerNumber, reportOf, runRefusal, run};
 ghost use Rattle.host.specs.Host.{Leaves};
 ghost use Rattle.ledger.specs.Running.{Running};
@@ -12,17 +12,6 @@ use meaning::Answer;
 use meaning::End;
 use meaning::Layout;
 use meaning::Tally;
-
-// Zeros a journal.
-fn clear(journal: &mut [u8])
-    ensures { λ _. ⌜ now (journal .exit) ≡ replicate (length (now (journal .entry))) 0 ⌝ }
-{
-    let mut i: usize = 0;
-    while i < journal.len() {
-        journal[i] = 0;
-        i += 1;
-    }
-}
 
 // Gives the graph back as it came, with the steps in the report: every record is put back and cleared.
 fn give_back(
@@ -91,7 +80,7 @@ fn start(
     requires { ⌜ runRefusal l (now nodes) (now edges) (now journal) (now image) fuel (now report) ≡ none ⌝ }
     ensures { λ r. ⌜ Leaves (run l (now (nodes .entry)) (now (edges .entry)) (now (journal .entry)) (now (image .entry)) fuel (now (report .entry))) (answerNumber r) (now (nodes .exit)) (now (edges .exit)) (now (journal .exit)) (now (report .exit)) ⌝ }
 {
-    clear(journal);
+    host::clear(journal);
     let ran = commands::run_program(l, image, nodes, edges, journal, Tally::new(fuel as usize));
     let end = ran.end;
     let steps = ran.tally.steps;

@@ -12,10 +12,10 @@ use Rattle.meaning.specs.Layout.{Slot, Node, Edge, Host, Change, undone, nodeLe
 use Rattle.meaning.specs.Applying.{Ledger}
 use Rattle.meaning.specs.Calls.{keepsRecord}
 use Rattle.meaning.specs.Laws.Every.{Every, Every-parts}
-use Rattle.meaning.specs.Laws.Pieces.{fits-length}
+use Rattle.meaning.specs.Laws.Pieces.{fits-length, fits-same}
 use Rattle.meaning.specs.Laws.Layout.{length-padded}
 use Rattle.meaning.specs.Laws.Hosts.{LegalHost, read-write-nodes, read-write-edges}
-use Rattle.meaning.specs.Laws.Records.{LegalChange, Within}
+use Rattle.meaning.specs.Laws.Records.{LegalChange, Within, length-written}
 use Rattle.meaning.specs.Laws.Restoring.{From, from-host}
 use Rattle.meaning.specs.declared.Layout.{Layout}
 use Rattle.host.specs.Host.{tablesOf, recordsFrom, putBack, clearedFrom}
@@ -23,11 +23,7 @@ use Rattle.host.specs.Restores.{restores-bytes}
 use Rattle.ledger.specs.Running.{journalOf, ledgerOf, Held, Running}
 use Rattle.ledger.specs.Whole.{records-count, running-legal}
 use Rattle.undoing.specs.Undone.{Undone}
-use Rattle.undoing.proofs.Records.{length-records, journal-written, kept-records, cleared-records}
-
-fits-same : (w most : ℕ) (a b : List ℕ) → length b ≡ length a → fitsTable w most a ≡ true → fitsTable w most b ≡ true
-unfolding fitsTable
-fits-same w most a b e h = rw e h
+use Rattle.undoing.proofs.Records.{journal-written, kept-records, cleared-records}
 
 from-less : {A : Type 0} (l m : List A) → length m ≤ length (l ++ m)
 from-less l m = omega (arith, length-append l m)
@@ -115,7 +111,7 @@ module _ (L : Layout) (nodes edges journal : List ℕ) (used mark : ℕ) (run : 
         journalLong : length journal′ ≡ length journal
         journalLong =
             let k : length (concat (map (writeRecord L) (reverse (g .journal)))) ≤ length journal =
-            rw (length-records L narrow (g .journal) earlier)
+            rw (length-written L narrow (g .journal) earlier)
             (omega (arith, fits, mul-le-mul-right (recordLength L) (from-less (from .new) (g .journal)))) in
             ap length journalIs ∙ length-padded (length journal) (concat (map (writeRecord L) (reverse (g .journal)))) k
 

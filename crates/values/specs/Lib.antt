@@ -2,3 +2,4 @@ pub mod Values
 pub mod Laws
 pub mod Right
 pub mod Items
+pub mod Zeros

@@ -4,8 +4,7 @@ use mathlib.Core.Path.{_≡_, refl, sym, _∙_, ap}
 use mathlib.Core.Bool.{Bool}
 use mathlib.Core.Option.{Option, some}
 use mathlib.Core.List.{List, [], _∷_, _++_, map}
-use Prim.Native.Nat.{ℕ, zero, suc, _+_, _<_}
-use native.Mathlib.Omega.{arith}
+use Prim.Native.Nat.{ℕ, suc, _+_, _<_}
 use lib.ListN.{length, getD}
 use Rattle.meaning.specs.Basics.{choose, both, every, concat, isSome, each, _>>=_}
 use Rattle.meaning.specs.Numbers.{sum, difference}
@@ -15,8 +14,8 @@ use Rattle.meaning.specs.References.{operandNames, elementNames, labels, names}
 use Rattle.meaning.specs.Matching.{Assignment, atomOf}
 use Rattle.meaning.specs.FirstMatch.{assigned}
 use Rattle.meaning.specs.Applying.{elementValue, labelValue, rightNode, rightNodes, rightEdge, rightSide}
-use Rattle.meaning.specs.Laws.Tests.{every-append}
-use Rattle.meaning.specs.Laws.Every.{Every, Every-parts, Every-map}
+use Rattle.meaning.specs.Laws.Tests.{every-append, every-map}
+use Rattle.meaning.specs.Laws.Every.{Every, Every-in, Every-parts, Every-map}
 use Rattle.meaning.specs.Laws.Records.{Every-append}
 use Rattle.meaning.specs.Laws.Image.{isSome-map, isSome-then, bind-yes}
 use Rattle.meaning.specs.declared.Operand.{Operand}
@@ -74,21 +73,16 @@ module _ (P : ℕ → Type 0) where
   names-labels [] h = tt
   names-labels (l ∷ ls) h = let t = names-parts l (concat ls) h in (t .0, names-labels ls (t .1))
 
-  below : {A : Type 0} (Q : A → Type 0) (l : List A) → Every Q l → (i : ℕ) → i < length l → (d : A) → Q (getD l i d)
-  below Q [] h i k d = absurd (omega arith)
-  below Q (a ∷ l) h zero k d = h .0
-  below Q (a ∷ l) h (suc i) k d = below Q l (h .1) i (omega arith) d
-
   module _ (g : RuleGraph) (h : Every P (names g)) where
     parts : Every (λ l. Every P (labelNames l)) (map (λ n. n .label) (g .nodes)) × Every (λ l. Every P (labelNames l)) (map (λ e. e .label) (g .edges))
     parts = Every-parts (λ l. Every P (labelNames l)) (map (λ n. n .label) (g .nodes)) (map (λ e. e .label) (g .edges)) (names-labels (labels g) h)
 
     -- of the names of a node, and of an edge
     pub node-names : (j : ℕ) → j < length (g .nodes) → (d : RuleNode) → Every P (labelNames (getD (g .nodes) j d .label))
-    node-names j k d = below (λ n. Every P (labelNames (n .label))) (g .nodes) (Every-map _ (λ n. n .label) (g .nodes) (parts .0)) j k d
+    node-names j k d = Every-in (λ n. Every P (labelNames (n .label))) (g .nodes) (Every-map _ (λ n. n .label) (g .nodes) (parts .0)) j k d
 
     pub edge-names : (j : ℕ) → j < length (g .edges) → (d : RuleEdge) → Every P (labelNames (getD (g .edges) j d .label))
-    edge-names j k d = below (λ e. Every P (labelNames (e .label))) (g .edges) (Every-map _ (λ e. e .label) (g .edges) (parts .1)) j k d
+    edge-names j k d = Every-in (λ e. Every P (labelNames (e .label))) (g .edges) (Every-map _ (λ e. e .label) (g .edges) (parts .1)) j k d
 
 -- Which labels can be held.
 
@@ -96,11 +90,6 @@ every-agree : {A : Type 0} (f g : A → Bool) (l : List A) → Every (λ a. f a 
 unfolding every
 every-agree f g [] h = refl
 every-agree f g (a ∷ l) h = rw (h .0, every-agree f g l (h .1))
-
-every-map : {A B : Type 0} (f : B → Bool) (h : A → B) (l : List A) → every f (map h l) ≡ every (λ a. f (h a)) l
-unfolding every
-every-map f h [] = refl
-every-map f h (a ∷ l) = rw (every-map f h l)
 
 each-held : {A B : Type 0} (f : A → Option B) (l : List A) → isSome (each f l) ≡ every (λ a. isSome (f a)) l
 unfolding each every isSome

@@ -1,7 +1,6 @@
--- `applying::apply` meets its contract. The test after the changes finds nothing.
+-- `applying::apply` meets its contract.
 use borrow.Author.Needs.{needs}
-use mathlib.Core.Path.{sym, _∙_}
-use Rattle.applying.specs.Answers.{stops, unhindered-here, does, none-free}
+use Rattle.applying.specs.Answers.{stops, unhindered-here}
 use Rattle.applying.proofs.apply.Statement.{statement}
 use Rattle.applying.proofs.apply.Tie as tie
 
@@ -26,11 +25,8 @@ returns c = stops (c .before .before .before .before .before .before .before .be
 enum-told : tie.Need-enum-told
 enum-told c = search needs
 
-change-requires : tie.Need-change-requires
-change-requires c κs = unhindered-here (c .before .before .before .before .before .before .before .before .before .before .before .before .before .pre .0) (c .before .before .before .before .before .before .before .before .before .before .before .before .before .pre .1) (rw (c .before .before .before .enum-told .given .1) at (c .before .before .before .before .before .hindrance .ensures (c .before .before .before .before .before .before .before .before .before .before .before .before .before .pre .1)))
-
-edge-on-free-node-requires : tie.Need-edge-on-free-node-requires
-edge-on-free-node-requires c κs = c .before .before .before .before .before .before .before .before .before .before .before .before .before .before .before .before .before .before .before .before .before .before .pre .0 .held .sized
+change-and-test-requires : tie.Need-change-and-test-requires
+change-and-test-requires c κs = unhindered-here (c .before .before .before .before .before .before .before .before .before .before .before .before .before .pre .0) (c .before .before .before .before .before .before .before .before .before .before .before .before .before .pre .1) (rw (c .before .before .before .enum-told .given .1) at (c .before .before .before .before .before .hindrance .ensures (c .before .before .before .before .before .before .before .before .before .before .before .before .before .pre .1)))
 
 same-length-4 : tie.Need-same-length-4
 same-length-4 c = search needs
@@ -42,19 +38,7 @@ same-length-6 : tie.Need-same-length-6
 same-length-6 c = search needs
 
 returns-2 : tie.Need-returns-2
-returns-2 c = absurd (none-free (c .before .before .before .before .before .before .before .before .before .before .before .before .before .before .before .before .before .before .before .before .before .before .before .before .pre .0) (c .before .before .before .before .before .before .before .before .before .before .before .before .before .before .before .before .before .before .before .before .before .before .before .before .pre .1) (rw (c .before .before .before .before .before .before .before .before .before .before .before .before .before .before .enum-told .given .1) at (c .before .before .before .before .before .before .before .before .before .before .before .before .before .before .before .before .hindrance .ensures (c .before .before .before .before .before .before .before .before .before .before .before .before .before .before .before .before .before .before .before .before .before .before .before .before .pre .1))) (c .before .before .before .before .before .before .before .before .before .before .change .ensures) (sym (c .before .edge-on-free-node .ensures) ∙ c .if1 .taken))
-
-same-length-7 : tie.Need-same-length-7
-same-length-7 c = search needs
-
-same-length-8 : tie.Need-same-length-8
-same-length-8 c = search needs
-
-same-length-9 : tie.Need-same-length-9
-same-length-9 c = search needs
-
-returns-3 : tie.Need-returns-3
-returns-3 c = does (c .before .before .before .before .before .before .before .before .before .before .before .before .before .before .before .before .before .before .before .before .before .before .before .before .pre .0) (c .before .before .before .before .before .before .before .before .before .before .before .before .before .before .before .before .before .before .before .before .before .before .before .before .pre .1) (rw (c .before .before .before .before .before .before .before .before .before .before .before .before .before .before .enum-told .given .1) at (c .before .before .before .before .before .before .before .before .before .before .before .before .before .before .before .before .hindrance .ensures (c .before .before .before .before .before .before .before .before .before .before .before .before .before .before .before .before .before .before .before .before .before .before .before .before .pre .1))) (c .before .before .before .before .before .before .before .before .before .before .change .ensures)
+returns-2 c = search needs
 
 pub apply-spec : {M : Type 1} → statement M
 apply-spec =
@@ -67,13 +51,8 @@ apply-spec =
     same-length-3
     returns
     enum-told
-    change-requires
-    edge-on-free-node-requires
+    change-and-test-requires
     same-length-4
     same-length-5
     same-length-6
-    returns-2
-    same-length-7
-    same-length-8
-    same-length-9
-    returns-3)
+    returns-2)

@@ -1,4 +1,5 @@
 -- `run_program` meets its contract.
+use mathlib.Core.Path.{sym}
 use borrow.Author.Needs.{needs}
 use Rattle.commands.specs.Parts.{main-known}
 use Rattle.commands.specs.Turns.{runs-main}
@@ -11,9 +12,8 @@ main-tag-requires c κs = search needs
 main-part-requires : tie.Need-main-part-requires
 main-part-requires c κs = search needs
 
-run-command-requires : tie.Need-run-command-requires
-run-command-requires c κs =
-    (record { running = c .before .before .before .before .before .before .before .before .before .pre .0; sum = c .before .before .before .before .before .before .before .before .before .pre .1 .1 }, main-known (c .before .before .before .before .before .before .before .before .before .pre .1 .0) (c .before .before .before .before .main-tag .ensures _ (c .before .before .before .before .before .before .before .before .before .pre .1 .0 .programmed .is)) (c .before .before .before .main-part .ensures _ (c .before .before .before .before .before .before .before .before .before .pre .1 .0 .programmed .is)))
+run-set-requires : tie.Need-run-set-requires
+run-set-requires c κs = (record { running = c .before .before .before .before .before .before .before .before .before .before .pre .0; sum = c .before .before .before .before .before .before .before .before .before .before .pre .1 .1 }, rw (c .before .before .before .if1 .taken) at (main-known (c .before .before .before .before .before .before .before .before .before .before .pre .1 .0) (c .before .before .before .before .before .main-tag .ensures _ (c .before .before .before .before .before .before .before .before .before .before .pre .1 .0 .programmed .is)) (c .before .before .before .before .main-part .ensures _ (c .before .before .before .before .before .before .before .before .before .before .pre .1 .0 .programmed .is))))
 
 same-length : tie.Need-same-length
 same-length c = search needs
@@ -25,7 +25,22 @@ same-length-3 : tie.Need-same-length-3
 same-length-3 c = search needs
 
 returns : tie.Need-returns
-returns c = runs-main _ (c .before .before .before .before .before .before .before .before .before .before .before .before .before .before .before .before .pre .1 .0) (c .before .before .before .before .before .before .before .before .before .before .before .main-tag .ensures _ (c .before .before .before .before .before .before .before .before .before .before .before .before .before .before .before .before .pre .1 .0 .programmed .is)) (c .before .before .before .before .before .before .before .before .before .before .main-part .ensures _ (c .before .before .before .before .before .before .before .before .before .before .before .before .before .before .before .before .pre .1 .0 .programmed .is)) (c .before .before .before .before .before .before .run-command .ensures)
+returns c = runs-main _ (c .before .before .before .before .before .before .before .before .before .before .before .before .before .before .before .before .before .pre .1 .0) (c .before .before .before .before .before .before .before .before .before .before .before .before .main-tag .ensures _ (c .before .before .before .before .before .before .before .before .before .before .before .before .before .before .before .before .before .pre .1 .0 .programmed .is)) (c .before .before .before .before .before .before .before .before .before .before .before .main-part .ensures _ (c .before .before .before .before .before .before .before .before .before .before .before .before .before .before .before .before .before .pre .1 .0 .programmed .is)) (rw (sym (c .before .before .before .before .before .before .before .before .before .before .if1 .taken)) at (c .before .before .before .before .before .before .run-set .ensures))
+
+run-command-requires : tie.Need-run-command-requires
+run-command-requires c κs = (record { running = c .before .before .before .before .before .before .before .before .before .before .pre .0; sum = c .before .before .before .before .before .before .before .before .before .before .pre .1 .1 }, main-known (c .before .before .before .before .before .before .before .before .before .before .pre .1 .0) (c .before .before .before .before .before .main-tag .ensures _ (c .before .before .before .before .before .before .before .before .before .before .pre .1 .0 .programmed .is)) (c .before .before .before .before .main-part .ensures _ (c .before .before .before .before .before .before .before .before .before .before .pre .1 .0 .programmed .is)))
+
+same-length-4 : tie.Need-same-length-4
+same-length-4 c = search needs
+
+same-length-5 : tie.Need-same-length-5
+same-length-5 c = search needs
+
+same-length-6 : tie.Need-same-length-6
+same-length-6 c = search needs
+
+returns-2 : tie.Need-returns-2
+returns-2 c = runs-main _ (c .before .before .before .before .before .before .before .before .before .before .before .before .before .before .before .before .before .pre .1 .0) (c .before .before .before .before .before .before .before .before .before .before .before .before .main-tag .ensures _ (c .before .before .before .before .before .before .before .before .before .before .before .before .before .before .before .before .before .pre .1 .0 .programmed .is)) (c .before .before .before .before .before .before .before .before .before .before .before .main-part .ensures _ (c .before .before .before .before .before .before .before .before .before .before .before .before .before .before .before .before .before .pre .1 .0 .programmed .is)) (c .before .before .before .before .before .before .run-command .ensures)
 
 pub run-program-spec : {M : Type 1} → statement M
 run-program-spec =
@@ -33,8 +48,13 @@ run-program-spec =
     (tie.spec
     main-tag-requires
     main-part-requires
-    run-command-requires
+    run-set-requires
     same-length
     same-length-2
     same-length-3
-    returns)
+    returns
+    run-command-requires
+    same-length-4
+    same-length-5
+    same-length-6
+    returns-2)

@@ -3,13 +3,12 @@
 use Prim.Native.Nat.{_≤_}
 use lib.ListN.{length}
 use mathlib.Core.Path.{sym}
-use borrow.Author.Tests.{not-true, not-false}
 use Rattle.labels.specs.Labels.{atomsIn}
 use Rattle.labels.specs.Laws.{held-length}
 use Rattle.labels.specs.Walks.{opens-first, opens-nothing, shorter}
 use Rattle.graph.specs.Graph.{hostOf}
 use Rattle.fitting.specs.Fitting.{HasElements}
-use Rattle.fitting.proofs.Agreeing.{Comparing, comparing-start, comparing-element, comparing-fails, comparing-next, comparing-end}
+use Rattle.fitting.proofs.Agreeing.{upto-within, Comparing, comparing-start, comparing-element, comparing-fails, comparing-next, comparing-end}
 use borrow.Author.Needs.{needs}
 use native.Mathlib.Omega.{arith}
 use Rattle.fitting.proofs.elements_agree.Statement.{statement}
@@ -22,9 +21,7 @@ abbrev μ-loop : tie.MeasureT-loop
 μ-loop l nodes edges rule plan at i c p a rest₀ from₀ rest from = length rest
 
 loop-holds : tie.Need-loop-holds Inv-loop μ-loop
-loop-holds c =
-    let start = c .before .before .before .before in
-    (omega arith, λ w. comparing-start w _)
+loop-holds c = (omega arith, λ w. comparing-start w _)
 
 first-element-requires : tie.Need-first-element-requires Inv-loop μ-loop
 first-element-requires c κs = search needs
@@ -32,27 +29,14 @@ first-element-requires c κs = search needs
 enum-known-front : tie.Need-enum-known-front Inv-loop μ-loop
 enum-known-front c = search needs
 
-element-value-requires : tie.Need-element-value-requires Inv-loop μ-loop
-element-value-requires c κs =
+element-agrees-requires : tie.Need-element-agrees-requires Inv-loop μ-loop
+element-agrees-requires c κs =
     let start = c .before .before .before .before .before .before .before .before .before in
     let b = opens-first _ _ _ _ (c .before .before .before .first-element .ensures) (c .before .front .given .1) in
-    (start .pre .0, comparing-element (c .before .before .before .before .loop .inv .1 (start .pre .1 .0)) b)
+    (start .pre .0, (comparing-element (c .before .before .before .before .loop .inv .1 (start .pre .1 .0)) b, (start .pre .1 .1, c .before .before .before .before .loop .inv .0)))
 
-has-at-requires : tie.Need-has-at-requires Inv-loop μ-loop
-has-at-requires c κs =
-    let start = c .before .before .before .before .before .before .before .before .before .before in
-    let b = opens-first _ _ _ _ (c .before .before .before .before .first-element .ensures) (c .before .before .front .given .1) in
-    (start .pre .1 .1, c .element-value .ensures (comparing-element (c .before .before .before .before .before .loop .inv .1 (start .pre .1 .0)) b) .held, c .before .before .before .before .before .loop .inv .0)
-
-returns : tie.Need-returns Inv-loop μ-loop
-returns c =
-    λ w.
-    let b = opens-first _ _ _ _ (c .before .before .before .before .before .before .first-element .ensures) (c .before .before .before .before .front .given .1) in
-    let t = c .before .before .before .before .before .before .before .loop .inv .1 w in
-    comparing-fails t b (c .before .before .element-value .ensures (comparing-element t b)) (c .before .has-at .ensures .0) (not-true _ (c .if1 .taken))
-
-add-from : tie.Need-add-from Inv-loop μ-loop
-add-from c = omega (arith, c .before .before .has-at .ensures .1 (not-false _ (c .before .if1 .left)), c .before .before .before .before .before .before .before .before .before .before .before .before .before .pre .1 .1 .few)
+enum-known-next : tie.Need-enum-known-next Inv-loop μ-loop
+enum-known-next c = search needs
 
 sub-rest : tie.Need-sub-rest Inv-loop μ-loop
 sub-rest c = opens-first _ _ _ _ (c .before .before .before .before .before .before .before .first-element .ensures) (c .before .before .before .before .before .front .given .1) .inside
@@ -70,20 +54,29 @@ loop-less c =
 
 loop-again : tie.Need-loop-again Inv-loop μ-loop
 loop-again c =
+    let start = c .before .before .before .before .before .before .before .before .before .before .before .before .before .before in
     let b = opens-first _ _ _ _ (c .before .before .before .before .before .before .before .before .first-element .ensures) (c .before .before .before .before .before .before .front .given .1) in (
-      c .before .before .before .has-at .ensures .1 (not-false _ (c .before .before .if1 .left)),
-      λ w.
-          let t = c .before .before .before .before .before .before .before .before .before .loop .inv .1 w in
-          comparing-next t b (c .before .before .before .before .element-value .ensures (comparing-element t b)) (c .before .before .before .has-at .ensures .0) (not-false _ (c .before .before .if1 .left)),
+      rw (held-length _ (start .pre .1 .1)) at (upto-within _ _ _ _ _ (c .before .before .before .before .element-agrees .ensures (comparing-element (c .before .before .before .before .before .before .before .before .before .loop .inv .1 (start .pre .1 .0)) b)) (c .before .before .next .given .1)),
+      λ w. let t = c .before .before .before .before .before .before .before .before .before .loop .inv .1 w in comparing-next t b (c .before .before .before .before .element-agrees .ensures (comparing-element t b)) (c .before .before .next .given .1),
     )
 
 enum-told : tie.Need-enum-told Inv-loop μ-loop
 enum-told c = search needs
 
+returns : tie.Need-returns Inv-loop μ-loop
+returns c =
+    λ w.
+    let b = opens-first _ _ _ _ (c .before .before .before .before .before .before .first-element .ensures) (c .before .before .before .before .front .given .1) in
+    let t = c .before .before .before .before .before .before .before .loop .inv .1 w in
+    comparing-fails t b (c .before .before .element-agrees .ensures (comparing-element t b)) (c .enum-told .given .1)
+
+enum-told-2 : tie.Need-enum-told-2 Inv-loop μ-loop
+enum-told-2 c = search needs
+
 returns-2 : tie.Need-returns-2 Inv-loop μ-loop
 returns-2 c =
     λ w.
-    comparing-end (c .before .before .before .before .loop .inv .1 w) (opens-nothing _ _ (c .before .before .before .first-element .ensures) (c .before .enum-told .given .1)) _ (sym (held-length _ (c .before .before .before .before .before .before .before .before .before .pre .1 .1))) (c .before .before .before .before .loop .inv .0)
+    comparing-end (c .before .before .before .before .loop .inv .1 w) (opens-nothing _ _ (c .before .before .before .first-element .ensures) (c .before .enum-told2 .given .1)) _ (sym (held-length _ (c .before .before .before .before .before .before .before .before .before .pre .1 .1))) (c .before .before .before .before .loop .inv .0)
 
 pub elements-agree-spec : {M : Type 1} → statement M
 elements-agree-spec =
@@ -94,14 +87,14 @@ elements-agree-spec =
     loop-holds
     first-element-requires
     enum-known-front
-    element-value-requires
-    has-at-requires
-    returns
-    add-from
+    element-agrees-requires
+    enum-known-next
     sub-rest
     part-rest-start
     part-rest-end
     loop-less
     loop-again
     enum-told
+    returns
+    enum-told-2
     returns-2)

@@ -1,54 +1,37 @@
 -- `value` meets its contract: the first item that has the variable gives it its value.
-use mathlib.Core.Path.{refl, sym}
-use Rattle.fitting.proofs.Values.{first-there, first-low, first-inside, value-holds}
+use Rattle.labels.specs.Laws.{held-length}
+use Rattle.fitting.proofs.Parts.{item-low}
+use Rattle.fitting.proofs.Values.{on-left, first-inside, part-value}
+use borrow.Author.Needs.{needs}
 use native.Mathlib.Omega.{arith}
 use Rattle.fitting.proofs.value.Statement.{statement}
 use Rattle.fitting.proofs.value.Tie as tie
 
 add-j : tie.Need-add-j
-add-j c =
-    let start = c .before .before .before in
-    omega (arith, start .pre .1 .valued .0, start .pre .1 .trial .planned .laid .fewVariables, start .pre .1 .trial .planned .laid .items .size)
+add-j c = search needs
 
 mul-j : tie.Need-mul-j
-mul-j c =
-    let start = c .before .before .before in
-    omega (arith, start .pre .1 .valued .0, start .pre .1 .trial .planned .laid .fewVariables, start .pre .1 .trial .planned .laid .items .size)
+mul-j c = search needs
 
 element-copy-out-j : tie.Need-element-copy-out-j
-element-copy-out-j c =
-    let start = c .before .before .before in
-    omega (arith, start .pre .1 .valued .0, start .pre .1 .trial .planned .laid .fewVariables, start .pre .1 .trial .planned .laid .items .size)
+element-copy-out-j c = search needs
 
 slot-of-requires : tie.Need-slot-of-requires
-slot-of-requires c κs =
-    let start = c .before .before .before .before in
-    (start .pre .1 .trial .room, first-low (start .pre .1) _ refl)
+slot-of-requires c κs = (c .before .before .before .before .pre .1 .trial .room, item-low (on-left (c .before .before .before .before .pre .1)))
 
 item-label-requires : tie.Need-item-label-requires
 item-label-requires c κs =
     let start = c .before .before .before .before .before in
-    (start .pre .0, (omega (arith, start .pre .1 .trial .planned .laid .items .size), first-inside (start .pre .1) _ _ refl (c .slot-of .ensures)))
+    (start .pre .0, (omega (arith, start .pre .1 .trial .planned .laid .items .size), first-inside (start .pre .1) _ (c .slot-of .ensures)))
 
-types-requires : tie.Need-types-requires
-types-requires c κs =
-    let start = c .before .before .before .before .before .before in
-    record { tree = start .pre .1 .trial .rule; laid = start .pre .1 .trial .planned .laid }
+part-of-requires : tie.Need-part-of-requires
+part-of-requires c κs = (on-left (c .before .before .before .before .before .before .pre .1), c .item-label .ensures .held .few)
 
-pattern-requires : tie.Need-pattern-requires
-pattern-requires c κs =
-    let start = c .before .before .before .before .before .before .before in
-    record { tree = start .pre .1 .trial .rule; laid = start .pre .1 .trial .planned .laid; there = first-there (start .pre .1) _ refl }
-
-taken-requires : tie.Need-taken-requires
-taken-requires c κs = c .before .before .item-label .ensures .held
+cut-requires : tie.Need-cut-requires
+cut-requires c κs = c .before .item-label .ensures .held
 
 returns : tie.Need-returns
-returns c =
-    λ w.
-    let q = w .trial .planned .laid in
-    value-holds w _ _ _ _ refl (c .before .before .before .before .slot-of .ensures) (c .before .before .before .item-label .ensures) (c .taken .ensures .0)
-    (c .taken .ensures .1 (w .trial .rule) (sym (c .before .before .types .ensures (w .trial .rule) q)) _ (c .before .pattern .ensures (w .trial .rule) q))
+returns c = λ w. rw (part-value w _ (c .before .before .before .slot-of .ensures) _ _ (c .before .part-of .result .from) (c .before .part-of .result .n) (c .before .before .item-label .ensures .atoms) (held-length _ (c .before .before .item-label .ensures .held)) (c .before .part-of .ensures .1 (on-left w))) at (c .cut .ensures)
 
 pub value-spec : {M : Type 1} → statement M
 value-spec =
@@ -59,7 +42,6 @@ value-spec =
     element-copy-out-j
     slot-of-requires
     item-label-requires
-    types-requires
-    pattern-requires
-    taken-requires
+    part-of-requires
+    cut-requires
     returns)

@@ -5,8 +5,8 @@ use native.Mathlib.Omega.{arith}
 use borrow.Rule.Slice.PartMut.{putMid}
 use borrow.Author.Needs.{needs}
 use lib.ListN.{length, replicate}
-use Rattle.meaning.specs.Laws.Pieces.{length-slot}
-use Rattle.host.proofs.Slots.{slot-within, slot-back, slot-part}
+use Rattle.meaning.specs.Laws.Pieces.{length-slot, slot-within}
+use Rattle.host.proofs.Slots.{slot-back, slot-part}
 use Rattle.host.proofs.free_slot.Statement.{statement}
 use Rattle.host.proofs.free_slot.Tie as tie
 

@@ -3,7 +3,8 @@ use mathlib.Core.Path.{sym}
 use native.Mathlib.Omega.{arith}
 use borrow.Author.Needs.{needs}
 use lib.ListN.{length}
-use Rattle.host.proofs.Slots.{slot-within, live-there, live-outside}
+use Rattle.meaning.specs.Laws.Pieces.{slot-within}
+use Rattle.host.proofs.Slots.{live-there, live-outside}
 use Rattle.host.proofs.live_slot.Statement.{statement}
 use Rattle.host.proofs.live_slot.Tie as tie
 

@@ -6,8 +6,8 @@ use borrow.Rule.Slice.PartMut.{putMid}
 use borrow.Author.Needs.{needs}
 use lib.ListN.{length}
 use Rattle.meaning.specs.Layout.{cut}
-use Rattle.meaning.specs.Laws.Pieces.{cut-stored, stored}
-use Rattle.host.proofs.Slots.{slot-within, slot-back}
+use Rattle.meaning.specs.Laws.Pieces.{cut-stored, stored, slot-within}
+use Rattle.host.proofs.Slots.{slot-back}
 use Rattle.host.proofs.put_slot.Statement.{statement}
 use Rattle.host.proofs.put_slot.Tie as tie
 

@@ -3,8 +3,8 @@ use mathlib.Core.Path.{ap, _∙_}
 use native.Mathlib.Omega.{arith}
 use borrow.Author.Needs.{needs}
 use lib.ListN.{length}
-use Rattle.meaning.specs.Laws.Pieces.{length-slot}
-use Rattle.host.proofs.Slots.{slot-within, slot-part}
+use Rattle.meaning.specs.Laws.Pieces.{length-slot, slot-within}
+use Rattle.host.proofs.Slots.{slot-part}
 use Rattle.host.proofs.slot.Statement.{statement}
 use Rattle.host.proofs.slot.Tie as tie
 

@@ -23,14 +23,8 @@ rule-count-requires c κs = search needs
 word-requires : tie.Need-word-requires
 word-requires c κs = search needs
 
-repeated-requires : tie.Need-repeated-requires
-repeated-requires c κs = (sym (c .before .before .before .before .starts .ensures) ∙ c .before .before .before .if1 .taken, λ p e. omega (arith, c .before .before .rule-count .ensures p e))
-
-rule-part-requires : tie.Need-rule-part-requires
-rule-part-requires c κs = search needs
-
-write-match-requires : tie.Need-write-match-requires
-write-match-requires c κs = search needs
+match-first-requires : tie.Need-match-first-requires
+match-first-requires c κs = (sym (c .before .before .before .before .starts .ensures) ∙ c .before .before .before .if1 .taken, λ p e. omega (arith, c .before .before .rule-count .ensures p e))
 
 returns : tie.Need-returns
 returns c = search needs
@@ -51,9 +45,7 @@ match-case-spec =
     starts-requires
     rule-count-requires
     word-requires
-    repeated-requires
-    rule-part-requires
-    write-match-requires
+    match-first-requires
     returns
     returns-2
     returns-3)

@@ -1,17 +1,20 @@
--- `repeated` ends: the rounds that are left fall. Its answer is that of the last round.
+-- `repeated` ends: the rounds that are left fall. Its answer is that of the last round. The loop's invariant: what was lent is room.
+use mathlib.Core.Path.{_≡_}
 use native.Mathlib.Omega.{arith}
 use borrow.Author.Needs.{needs}
+use lib.ListN.{length}
+use Rattle.values.specs.Values.{Stored}
 use Rattle.match_bench.proofs.repeated.Statement.{statement}
 use Rattle.match_bench.proofs.repeated.Tie as tie
 
 abbrev Inv-loop : tie.InvT-loop
-Inv-loop nodes edges image n left₀ left = Unit {0}
+Inv-loop nodes edges image n plan₀ lens₀ atoms₀ left₀ plan lens atoms left = (length plan ≡ 102) × Stored lens atoms
 
 abbrev μ-loop : tie.MeasureT-loop
-μ-loop nodes edges image n left₀ left = left
+μ-loop nodes edges image n plan₀ lens₀ atoms₀ left₀ plan lens atoms left = left
 
 loop-holds : tie.Need-loop-holds Inv-loop μ-loop
-loop-holds c = tt
+loop-holds c = c .before .before .before .pre .1 .1
 
 rule-match-requires : tie.Need-rule-match-requires Inv-loop μ-loop
 rule-match-requires c κs = search needs
@@ -23,7 +26,7 @@ loop-less : tie.Need-loop-less Inv-loop μ-loop
 loop-less c = omega arith
 
 loop-again : tie.Need-loop-again Inv-loop μ-loop
-loop-again c = tt
+loop-again c = (c .rule-match .ensures .0, c .rule-match .ensures .1 .arrays)
 
 rule-match-requires-2 : tie.Need-rule-match-requires-2 Inv-loop μ-loop
 rule-match-requires-2 c κs = search needs

@@ -17,14 +17,8 @@ rule-count-requires c κs = search needs
 loop-holds : tie.Need-loop-holds Inv-loop μ-loop
 loop-holds c = tt
 
-rule-match-requires : tie.Need-rule-match-requires Inv-loop μ-loop
-rule-match-requires c κs = (c .before .before .before .before .before .before .pre, λ p e. omega (arith, c .before .before .rule-count .ensures p e))
-
-rule-part-requires : tie.Need-rule-part-requires Inv-loop μ-loop
-rule-part-requires c κs = search needs
-
-write-match-requires : tie.Need-write-match-requires Inv-loop μ-loop
-write-match-requires c κs = search needs
+match-rule-requires : tie.Need-match-rule-requires Inv-loop μ-loop
+match-rule-requires c κs = (c .before .before .before .before .before .before .pre, λ p e. omega (arith, c .before .before .rule-count .ensures p e))
 
 add-i : tie.Need-add-i Inv-loop μ-loop
 add-i c = search needs
@@ -46,9 +40,7 @@ match-rules-spec =
     μ-loop
     rule-count-requires
     loop-holds
-    rule-match-requires
-    rule-part-requires
-    write-match-requires
+    match-rule-requires
     add-i
     loop-less
     loop-again

@@ -9,15 +9,16 @@ use Rattle.labels.specs.Labels.{Holds}
 use Rattle.graph.specs.Graph.{hostOf}
 use Rattle.fitting.specs.Fitting.{Known}
 use Rattle.matching.specs.Next.{Of, total}
-use Rattle.matching.specs.Values.{Arrays, HasValues}
+use Rattle.values.specs.Values.{Stored}
+use Rattle.matching.specs.Values.{HasValues}
 use Rattle.matching.proofs.Plans.{levels-of}
-use Rattle.matching.proofs.Storing.{arrays-none, arrays-more, values-more, values-skip, has-value}
+use Rattle.matching.proofs.Storing.{arrays-more, values-more, values-skip, has-value}
 use Rattle.matching.proofs.assign.Statement.{statement}
 use Rattle.matching.proofs.assign.Tie as tie
 
 abbrev Inv-loop : tie.InvT-loop
 Inv-loop l nodes edges rule plan at lens₀ atoms₀ n m v₀ lens atoms v =
-    Arrays lens atoms × (v ≤ n) × Of rule plan (λ r. n ≡ length (r .variables))
+    Stored lens atoms × (v ≤ n) × Of rule plan (λ r. n ≡ length (r .variables))
     × Of rule plan (λ r. HasValues (hostOf l nodes edges) r (take (total r) at) v lens atoms)
 
 abbrev μ-loop : tie.MeasureT-loop
@@ -37,7 +38,7 @@ add-m c = search needs
 
 loop-holds : tie.Need-loop-holds Inv-loop μ-loop
 loop-holds c = (
-  arrays-none,
+  c .before .before .before .before .before .before .pre .1,
   omega arith,
   λ w. ap length
       (c .before .before .types .ensures (w .rule) (w .planned .laid)),
@@ -50,21 +51,21 @@ add-if1 c = search needs
 mul-if1 : tie.Need-mul-if1 Inv-loop μ-loop
 mul-if1 c =
     let s = c .before .before .before .before .before .before .before .before in
-    omega (arith, c .before .loop .inv .2 (s .pre .known), s .pre .known .planned .laid .fewVariables)
+    omega (arith, c .before .loop .inv .2 (s .pre .0 .known), s .pre .0 .known .planned .laid .fewVariables)
 
 element-copy-out-if1 : tie.Need-element-copy-out-if1 Inv-loop μ-loop
 element-copy-out-if1 c =
     let s = c .before .before .before .before .before .before .before .before in
-    omega (arith, c .before .loop .inv .2 (s .pre .known), s .pre .known .planned .laid .fewVariables)
+    omega (arith, c .before .loop .inv .2 (s .pre .0 .known), s .pre .0 .known .planned .laid .fewVariables)
 
 value-requires : tie.Need-value-requires Inv-loop μ-loop
 value-requires c κs =
     let l = c .before .before .before in
     let s = l .before .before .before .before .before .before .before in
     let a = s .args in (
-      s .pre .legal,
-      (has-value (hostOf (a .l) (a .nodes .now) (a .edges .now)) _ _ (a .at .now) (s .pre .known) (s .pre .room)
-          (s .pre .inside) (l .loop .v) (omega (arith, c .before .before .loop-test .taken, l .loop .inv .2 (s .pre .known)))
+      s .pre .0 .legal,
+      (has-value (hostOf (a .l) (a .nodes .now) (a .edges .now)) _ _ (a .at .now) (s .pre .0 .known) (s .pre .0 .room)
+          (s .pre .0 .inside) (l .loop .v) (omega (arith, c .before .before .loop-test .taken, l .loop .inv .2 (s .pre .0 .known)))
           (c .if1 .taken)),
     )
 
@@ -72,25 +73,25 @@ mul-lens : tie.Need-mul-lens Inv-loop μ-loop
 mul-lens c =
     let s = c .before .before .before .before .before .before .before .before .before .before .before in
     let loop = c .before .before .before .before .loop in
-    omega (arith, loop .inv .2 (s .pre .known), s .pre .known .planned .laid .fewVariables)
+    omega (arith, loop .inv .2 (s .pre .0 .known), s .pre .0 .known .planned .laid .fewVariables)
 
-array-write-lens : tie.Need-array-write-lens Inv-loop μ-loop
-array-write-lens c =
+element-write-lens : tie.Need-element-write-lens Inv-loop μ-loop
+element-write-lens c =
     let s = c .before .before .before .before .before .before .before .before .before .before .before in
     let loop = c .before .before .before .before .loop in
-    omega (arith, loop .inv .2 (s .pre .known), s .pre .known .planned .laid .fewVariables)
+    omega (arith, loop .inv .2 (s .pre .0 .known), s .pre .0 .known .planned .laid .fewVariables)
 
 mul-put-atoms : tie.Need-mul-put-atoms Inv-loop μ-loop
 mul-put-atoms c =
     let s = c .before .before .before .before .before .before .before .before .before .before .before .before in
     let loop = c .before .before .before .before .before .loop in
-    omega (arith, loop .inv .2 (s .pre .known), s .pre .known .planned .laid .fewVariables)
+    omega (arith, loop .inv .2 (s .pre .0 .known), s .pre .0 .known .planned .laid .fewVariables)
 
 put-atoms-requires : tie.Need-put-atoms-requires Inv-loop μ-loop
 put-atoms-requires c κs =
     let l = c .before .before .before .before .before in
     let s = l .before .before .before .before .before .before .before in
-    (omega (arith, l .loop .inv .2 (s .pre .known), s .pre .known .planned .laid .fewVariables), l .loop .inv .0 .room)
+    (omega (arith, l .loop .inv .2 (s .pre .0 .known), s .pre .0 .known .planned .laid .fewVariables), l .loop .inv .0 .room)
 
 add-v : tie.Need-add-v Inv-loop μ-loop
 add-v c = search needs
@@ -106,15 +107,15 @@ loop-again c =
     let put = c .put-atoms in
     let got = c .before .before .value in
     let test = c .before .before .before .before .before .loop-test in
-    let low : l .loop .v < 6 = omega (arith, l .loop .inv .2 (s .pre .known), s .pre .known .planned .laid .fewVariables) in
+    let low : l .loop .v < 6 = omega (arith, l .loop .inv .2 (s .pre .0 .known), s .pre .0 .known .planned .laid .fewVariables) in
     let held : (w : Known (a .rule .now) (a .plan .now)) → Holds
     (assigned (hostOf (a .l) (a .nodes .now) (a .edges .now)) (w .rule) (take (total (w .rule)) (a .at .now)) (l .loop .v))
     (got .result) =
-    λ w. got .ensures (has-value (hostOf (a .l) (a .nodes .now) (a .edges .now)) _ _ (a .at .now) w (s .pre .room)
-    (s .pre .inside) (l .loop .v) (omega (arith, test .taken, l .loop .inv .2 w)) (c .before .before .before .if1 .taken))
+    λ w. got .ensures (has-value (hostOf (a .l) (a .nodes .now) (a .edges .now)) _ _ (a .at .now) w (s .pre .0 .room)
+    (s .pre .0 .inside) (l .loop .v) (omega (arith, test .taken, l .loop .inv .2 w)) (c .before .before .before .if1 .taken))
     in (
       arrays-more (l .loop .v) (l .loop .lens) (l .loop .atoms) (put .last .0) (got .result) low (l .loop .inv .0) (put .ensures)
-          (held (s .pre .known) .held),
+          (held (s .pre .0 .known) .held),
       omega (arith, test .taken),
       l .loop .inv .2,
       λ w.
@@ -145,8 +146,7 @@ loop-again-2 c =
             arith,
             c .if1 .left,
             levels-of _ _ w,
-            w .planned .first (l .loop .v)
-                (omega (arith, test .taken, l .loop .inv .2 w)),
+            w .planned .first (l .loop .v) (omega (arith, test .taken, l .loop .inv .2 w)) .item,
           ))
           (l .loop .inv .3 w),
     )
@@ -172,7 +172,7 @@ assign-spec =
     element-copy-out-if1
     value-requires
     mul-lens
-    array-write-lens
+    element-write-lens
     mul-put-atoms
     put-atoms-requires
     add-v

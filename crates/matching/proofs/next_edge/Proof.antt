@@ -5,23 +5,34 @@ use mathlib.Core.Bool.{false}
 use native.Mathlib.Omega.{arith}
 use borrow.Author.Needs.{needs}
 use lib.ListN.{length, take, getD}
-use Rattle.meaning.specs.Matching.{leftNodes}
-use Rattle.meaning.specs.FirstMatch.{edgeFits}
+use Rattle.meaning.specs.FirstMatch.{fits, candidates}
 use Rattle.graph.specs.Graph.{hostOf}
+use Rattle.fitting.specs.Fitting.{Known}
 use Rattle.matching.specs.Next.{Of}
-use Rattle.matching.specs.declared.Next.the-variants.{At, Nothing}
 use Rattle.matching.proofs.Plans.{nodes-of, few-items, few-ends, has-edge, source-slot, target-slot, level-room}
-use Rattle.matching.proofs.Links.{none-more, edge-slot}
+use Rattle.matching.proofs.Links.{none-more, edge-slots}
 use Rattle.matching.proofs.next_edge.Statement.{statement}
 use Rattle.matching.proofs.next_edge.Tie as tie
 
 abbrev Inv-loop : tie.InvT-loop
 Inv-loop l nodes edges rule plan at i c k a b s t n x₀ x =
     (c ≤ x) × (n ≡ length (hostOf l nodes edges .edges))
-    × Of rule plan (λ r. (y : ℕ) → c ≤ y → y < x → edgeFits (hostOf l nodes edges) r (take i at) (i - leftNodes r) y ≡ false)
+    × Of rule plan (λ r. (y : ℕ) → c ≤ y → y < x → fits (hostOf l nodes edges) r (take i at) y ≡ false)
 
 abbrev μ-loop : tie.MeasureT-loop
 μ-loop l nodes edges rule plan at i c k a b s t n x₀ x = n - x
+
+-- the slots to try
+bound : (c : tie.At-loop Inv-loop μ-loop)
+    → let a = c .before .before .before .before .before .before .before .before .before .before .args in
+    (w : Known (a .rule .now) (a .plan .now))
+    → candidates (hostOf (a .l) (a .nodes .now) (a .edges .now)) (w .rule) (take (a .i) (a .at .now)) ≡ c .before .edge-slots .result
+bound c w =
+    let s = c .before .before .before .before .before .before .before .before .before .before in
+    let a = s .args in
+    edge-slots (hostOf (a .l) (a .nodes .now) (a .edges .now)) (w .rule) (a .at .now) (a .i) (level-room (s .pre .0) (s .pre .1 .1))
+    (omega (arith, nodes-of _ _ w))
+    ∙ sym (c .loop .inv .1)
 
 element-copy-out-k : tie.Need-element-copy-out-k Inv-loop μ-loop
 element-copy-out-k c = search needs
@@ -85,8 +96,8 @@ edge-slots-requires c κs = search needs
 loop-holds : tie.Need-loop-holds Inv-loop μ-loop
 loop-holds c = (omega arith, c .edge-slots .ensures, λ w y h k. absurd (omega arith))
 
-edge-fits-requires : tie.Need-edge-fits-requires Inv-loop μ-loop
-edge-fits-requires c κs =
+edge-likely-requires : tie.Need-edge-likely-requires Inv-loop μ-loop
+edge-likely-requires c κs =
     let s = c .before .before .before .before .before .before .before .before .before .before .before in
     let a = s .args in
     let target = c .before .before .before .before .before .target in
@@ -113,15 +124,10 @@ edge-fits-requires c κs =
 returns : tie.Need-returns Inv-loop μ-loop
 returns c =
     let l = c .before .before .before in
-    let s = l .before .before .before .before .before .before .before .before .before .before in
-    let a = s .args in
-    λ w.
-    edge-slot (hostOf (a .l) (a .nodes .now) (a .edges .now)) (w .rule) (a .at .now) (a .i) (a .c) (At (l .loop .x))
-    (level-room (s .pre .0) (s .pre .1 .1)) (omega (arith, nodes-of _ _ w)) (
+    λ w. (
       l .loop .inv .0,
-      omega (arith, c .before .before .loop-test .taken, l .loop .inv .1),
-      sym (c .before .edge-fits .ensures w)
-          ∙ c .if1 .taken,
+      omega (arith, c .before .before .loop-test .taken, bound l w),
+      rw (c .if1 .taken) at (c .before .edge-likely .ensures w),
       l .loop .inv .2 w,
     )
 
@@ -134,23 +140,16 @@ loop-less c = omega arith
 loop-again : tie.Need-loop-again Inv-loop μ-loop
 loop-again c =
     let l = c .before .before .before in
-    let a = c .before .before .before .before .before .before .before .before .before .before .before .before .before .args in (
+    let a = l .before .before .before .before .before .before .before .before .before .before .args in (
       omega arith,
       l .loop .inv .1,
       λ w.
-          none-more (edgeFits (hostOf (a .l) (a .nodes .now) (a .edges .now)) (w .rule) (take (a .i) (a .at .now))
-          (a .i - leftNodes (w .rule)))
-          (a .c) (l .loop .x) (l .loop .inv .2 w) (sym (c .before .edge-fits .ensures w) ∙ c .if1 .left),
+          none-more (fits (hostOf (a .l) (a .nodes .now) (a .edges .now)) (w .rule) (take (a .i) (a .at .now))) (a .c) (l .loop .x)
+          (l .loop .inv .2 w) (c .before .edge-likely .ensures w .no (c .if1 .left)),
     )
 
 returns-2 : tie.Need-returns-2 Inv-loop μ-loop
-returns-2 c =
-    let s = c .before .before .before .before .before .before .before .before .before .before .before in
-    let a = s .args in
-    λ w.
-    edge-slot (hostOf (a .l) (a .nodes .now) (a .edges .now)) (w .rule) (a .at .now) (a .i) (a .c) Nothing
-    (level-room (s .pre .0) (s .pre .1 .1)) (omega (arith, nodes-of _ _ w))
-    (λ y h k. c .before .loop .inv .2 w y h (omega (arith, c .loop-test .left, c .before .loop .inv .1)))
+returns-2 c = λ w y h k. c .before .loop .inv .2 w y h (omega (arith, c .loop-test .left, bound (c .before) w))
 
 pub next-edge-spec : {M : Type 1} → statement M
 next-edge-spec =
@@ -168,7 +167,7 @@ next-edge-spec =
     element-copy-out-t
     edge-slots-requires
     loop-holds
-    edge-fits-requires
+    edge-likely-requires
     returns
     add-x
     loop-less

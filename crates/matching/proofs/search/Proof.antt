@@ -16,19 +16,19 @@ use Rattle.matching.proofs.search.Statement.{statement}
 use Rattle.matching.proofs.search.Tie as tie
 
 abbrev Inv-loop : tie.InvT-loop
-Inv-loop l nodes edges rule plan at₀ i₀ c₀ at i c =
+Inv-loop l nodes edges rule plan lens atoms at₀ i₀ c₀ at i c =
     Of rule plan (λ r. Going (hostOf l nodes edges) r at i c)
     × (work (hostOf l nodes edges) (getD plan 0 0 + getD plan 1 0) at i c
     ≤ work (hostOf l nodes edges) (getD plan 0 0 + getD plan 1 0) at₀ i₀ c₀)
 
 abbrev μ-loop : tie.MeasureT-loop
-μ-loop l nodes edges rule plan at₀ i₀ c₀ at i c = work (hostOf l nodes edges) (getD plan 0 0 + getD plan 1 0) at i c
+μ-loop l nodes edges rule plan lens atoms at₀ i₀ c₀ at i c = work (hostOf l nodes edges) (getD plan 0 0 + getD plan 1 0) at i c
 
 abbrev Inv-found : tie.InvT-found
-Inv-found l nodes edges rule plan at₀ i₀ c₀ at i c = Of rule plan (λ r. Going (hostOf l nodes edges) r at i c)
+Inv-found l nodes edges rule plan lens atoms at₀ i₀ c₀ at i c = Of rule plan (λ r. Going (hostOf l nodes edges) r at i c)
 
 abbrev μ-found : tie.MeasureT-found
-μ-found l nodes edges rule plan at₀ i₀ c₀ at i c = work (hostOf l nodes edges) (getD plan 0 0 + getD plan 1 0) at i c
+μ-found l nodes edges rule plan lens atoms at₀ i₀ c₀ at i c = work (hostOf l nodes edges) (getD plan 0 0 + getD plan 1 0) at i c
 
 found-holds : tie.Need-found-holds Inv-loop μ-loop Inv-found μ-found
 found-holds c = λ w. begin _ _ _ refl
@@ -40,9 +40,9 @@ advance-requires : tie.Need-advance-requires Inv-loop μ-loop Inv-found μ-found
 advance-requires c κs =
     let s = c .before .before .before .before .before .before in
     let loop = c .before .loop in (
-      ready _ _ _ _ _ _ _ _ (s .pre) (loop .inv .0 (s .pre .known)),
+      ready _ _ _ _ _ _ _ _ (s .pre .0) (loop .inv .0 (s .pre .0 .known)),
       omega
-          (arith, levels-of _ _ (s .pre .known), loop .inv .0 (s .pre .known) .level),
+          (arith, levels-of _ _ (s .pre .0 .known), loop .inv .0 (s .pre .0 .known) .level),
     )
 
 enum-told : tie.Need-enum-told Inv-loop μ-loop Inv-found μ-found
@@ -63,27 +63,27 @@ took c w = rw (c .before .s .given .1) at (c .before .before .before .advance .e
 mul-at : tie.Need-mul-at Inv-loop μ-loop Inv-found μ-found
 mul-at c =
     let s = c .before .before .before .before .before .before .before .before .before .before in
-    omega (arith, took c (s .pre .known) .0, few-levels _ _ (s .pre .known))
+    omega (arith, took c (s .pre .0 .known) .0, few-levels _ _ (s .pre .0 .known))
 
 array-write-at : tie.Need-array-write-at Inv-loop μ-loop Inv-found μ-found
 array-write-at c =
     let s = c .before .before .before .before .before .before .before .before .before .before in
-    omega (arith, took c (s .pre .known) .0, few-levels _ _ (s .pre .known))
+    omega (arith, took c (s .pre .0 .known) .0, few-levels _ _ (s .pre .0 .known))
 
 add-i : tie.Need-add-i Inv-loop μ-loop Inv-found μ-found
 add-i c =
     let s = c .before .before .before .before .before .before .before .before .before .before in
-    omega (arith, took c (s .pre .known) .0, few-levels _ _ (s .pre .known))
+    omega (arith, took c (s .pre .0 .known) .0, few-levels _ _ (s .pre .0 .known))
 
 loop-less : tie.Need-loop-less Inv-loop μ-loop Inv-found μ-found
 loop-less c =
     let l = c .before .before .before .before .before in
     let s = l .before .before .before .before .before in
     let a = s .args in
-    let n = took c (s .pre .known) in
-    pushed-less (hostOf (a .l) (a .nodes .now) (a .edges .now)) ((s .pre .known) .rule) (few-levels _ _ (s .pre .known))
-    (l .loop .at) (l .loop .i) (l .loop .c) (l .loop .inv .0 (s .pre .known)) (n .0) (c .before .s .given .0 .0) (n .1)
-    (getD (a .plan .now) 0 0 + getD (a .plan .now) 1 0) (levels-of _ _ (s .pre .known))
+    let n = took c (s .pre .0 .known) in
+    pushed-less (hostOf (a .l) (a .nodes .now) (a .edges .now)) ((s .pre .0 .known) .rule) (few-levels _ _ (s .pre .0 .known))
+    (l .loop .at) (l .loop .i) (l .loop .c) (l .loop .inv .0 (s .pre .0 .known)) (n .0) (c .before .s .given .0 .0) (n .1)
+    (getD (a .plan .now) 0 0 + getD (a .plan .now) 1 0) (levels-of _ _ (s .pre .0 .known))
 
 loop-again : tie.Need-loop-again Inv-loop μ-loop Inv-found μ-found
 loop-again c =
@@ -97,18 +97,24 @@ loop-again c =
 enum-told-2 : tie.Need-enum-told-2 Inv-loop μ-loop Inv-found μ-found
 enum-told-2 c = search needs
 
+none-requires : tie.Need-none-requires Inv-loop μ-loop Inv-found μ-found
+none-requires c κs = search needs
+
 returns : tie.Need-returns Inv-loop μ-loop Inv-found μ-found
 returns c =
-    let l = c .before .before .before .before .before in
+    let l = c .before .before .before .before .before .before in
     let s = l .before .before .before .before .before in
     let a = s .args in
-    record {
-      room = l .loop .inv .0 (s .pre .known) .room;
-      inside = λ e. let z : _≡_ {A = ℕ} 0 1 = cc in absurd (omega arith);
+    rw (c .none .ensures)
+    (record {
+      room = refl;
+      arrays = s .pre .1;
       right = λ w. ended (hostOf (a .l) (a .nodes .now) (a .edges .now)) (w .rule) (few-levels _ _ w) (l .loop .at) (l .loop .i)
           (l .loop .c) (l .loop .inv .0 w)
-          (rw (c .before .enum-told2 .given .1) at (c .before .before .before .advance .ensures w)) (c .if1 .taken);
-    }
+          (rw (c .before .before .enum-told2 .given .1) at (c .before .before .before .before .advance .ensures w))
+          (c .before .if1 .taken);
+      values = λ w e. let z : _≡_ {A = ℕ} 0 1 = cc in absurd (omega arith);
+    })
 
 sub-i : tie.Need-sub-i Inv-loop μ-loop Inv-found μ-found
 sub-i c = search needs
@@ -117,13 +123,13 @@ mul-c : tie.Need-mul-c Inv-loop μ-loop Inv-found μ-found
 mul-c c =
     let s = c .before .before .before .before .before .before .before .before .before .before in
     let loop = c .before .before .before .before .before .loop in
-    omega (arith, loop .inv .0 (s .pre .known) .level, few-levels _ _ (s .pre .known))
+    omega (arith, loop .inv .0 (s .pre .0 .known) .level, few-levels _ _ (s .pre .0 .known))
 
 array-read-c : tie.Need-array-read-c Inv-loop μ-loop Inv-found μ-found
 array-read-c c =
     let s = c .before .before .before .before .before .before .before .before .before .before in
     let loop = c .before .before .before .before .before .loop in
-    omega (arith, loop .inv .0 (s .pre .known) .level, few-levels _ _ (s .pre .known))
+    omega (arith, loop .inv .0 (s .pre .0 .known) .level, few-levels _ _ (s .pre .0 .known))
 
 add-c : tie.Need-add-c Inv-loop μ-loop Inv-found μ-found
 add-c c =
@@ -132,8 +138,8 @@ add-c c =
     let a = s .args in
     omega (
       arith,
-      small (a .l) (a .nodes .now) (a .edges .now) _ _ (l .loop .at) (l .loop .i) (l .loop .c) (s .pre .known)
-          (l .loop .inv .0 (s .pre .known)) (l .loop .i - 1) (omega arith),
+      small (a .l) (a .nodes .now) (a .edges .now) _ _ (l .loop .at) (l .loop .i) (l .loop .c) (s .pre .0 .known)
+          (l .loop .inv .0 (s .pre .0 .known)) (l .loop .i - 1) (omega arith),
       s .good .1 .0 .1,
       s .good .1 .1 .0 .1,
     )
@@ -146,9 +152,9 @@ found-less c =
     omega (
       arith,
       l .loop .inv .1,
-      popped-less (hostOf (a .l) (a .nodes .now) (a .edges .now)) ((s .pre .known) .rule)
-          (few-levels _ _ (s .pre .known)) (l .loop .at) (l .loop .i) (l .loop .c) (l .loop .inv .0 (s .pre .known))
-          (getD (a .plan .now) 0 0 + getD (a .plan .now) 1 0) (levels-of _ _ (s .pre .known)) (omega arith),
+      popped-less (hostOf (a .l) (a .nodes .now) (a .edges .now)) ((s .pre .0 .known) .rule)
+          (few-levels _ _ (s .pre .0 .known)) (l .loop .at) (l .loop .i) (l .loop .c) (l .loop .inv .0 (s .pre .0 .known))
+          (getD (a .plan .now) 0 0 + getD (a .plan .now) 1 0) (levels-of _ _ (s .pre .0 .known)) (omega arith),
     )
 
 found-again : tie.Need-found-again Inv-loop μ-loop Inv-found μ-found
@@ -159,23 +165,47 @@ found-again c =
     (l .loop .c) (l .loop .inv .0 w) (rw (c .before .enum-told2 .given .1) at (c .before .before .before .advance .ensures w))
     (omega arith)
 
+-- what the step told, at a full match
+stopped : (c : tie.After-enum-told Inv-loop μ-loop Inv-found μ-found)
+    → let l = c .before .before .before .before in
+    let a = l .before .before .before .before .before .args in
+    (w : Known (a .rule .now) (a .plan .now))
+    → IsStep (hostOf (a .l) (a .nodes .now) (a .edges .now)) (w .rule) (take (l .loop .i) (l .loop .at)) (l .loop .i) (l .loop .c)
+    Full
+stopped c w = rw (c .enum-told .given .1) at (c .before .before .advance .ensures w)
+
+assign-requires : tie.Need-assign-requires Inv-loop μ-loop Inv-found μ-found
+assign-requires c κs =
+    let t = c .before .before .before in
+    let l = t .before .before .before .before in
+    let p = l .before .before .before .before .before .pre in
+    let w = p .0 .known in (
+      record {
+        legal = p .0 .legal;
+        known = w;
+        room = l .loop .inv .0 w .room;
+        inside = rw (levels-of _ _ w, sym (stopped t w .0), nodes-of _ _ w) (l .loop .inv .0 w .inside);
+      },
+      p .1,
+    )
+
+at-requires : tie.Need-at-requires Inv-loop μ-loop Inv-found μ-found
+at-requires c κs = search needs
+
 returns-2 : tie.Need-returns-2 Inv-loop μ-loop Inv-found μ-found
 returns-2 c =
-    let l = c .before .before .before .before in
+    let t = c .before .before .before .before .before in
+    let l = t .before .before .before .before in
     let s = l .before .before .before .before .before in
     let a = s .args in
-    let n : (w : Known (a .rule .now) (a .plan .now)) → IsStep (hostOf (a .l) (a .nodes .now) (a .edges .now)) (w .rule)
-    (take (l .loop .i) (l .loop .at)) (l .loop .i) (l .loop .c) Full =
-    λ w. rw (c .enum-told .given .1) at (c .before .before .advance .ensures w)
-    in
-    record {
-      room = l .loop .inv .0 (s .pre .known) .room;
-      inside = λ e.
-          let w = s .pre .known in
-          rw (levels-of _ _ w, sym (n w .0), nodes-of _ _ w) (l .loop .inv .0 w .inside);
+    rw (c .at3 .ensures)
+    (record {
+      room = l .loop .inv .0 (s .pre .0 .known) .room;
+      arrays = c .before .assign .ensures .0;
       right = λ w. found-first (hostOf (a .l) (a .nodes .now) (a .edges .now)) (w .rule) (few-levels _ _ w) (l .loop .at)
-          (l .loop .i) (l .loop .c) (l .loop .inv .0 w) (n w .0) (n w .1);
-    }
+          (l .loop .i) (l .loop .c) (l .loop .inv .0 w) (stopped t w .0) (stopped t w .1);
+      values = λ w e. c .before .assign .ensures .1 w;
+    })
 
 pub search-spec : {M : Type 1} → statement M
 search-spec =
@@ -196,6 +226,7 @@ search-spec =
     loop-less
     loop-again
     enum-told-2
+    none-requires
     returns
     sub-i
     mul-c
@@ -203,4 +234,6 @@ search-spec =
     add-c
     found-less
     found-again
+    assign-requires
+    at-requires
     returns-2)

@@ -1,41 +1,32 @@
 -- What is known of a run of ours that starts: its rules are legal, what it ends at is legal and its records fit the journal,
 -- and it ends as the rules of inference say. Rests on Demands/Ours, Laws/Undoing, Laws/LegalImage and Laws/Inference.
-use Prim.Native.Nat.{ℕ, zero, suc, _*_, _/_, _<_, _≤_}
-use mathlib.Core.Path.{_≡_, _∙_, ap}
-use mathlib.Core.List.{List, [], _∷_, map, reverse}
+use Prim.Native.Nat.{ℕ, _/_, _≤_}
+use mathlib.Core.List.{List, map, reverse}
 use native.Mathlib.Omega.{arith}
 use native.Mathlib.Nat.{div-mul-le-self, mul-le-mul-right}
-use lib.ListN.{length, length-map, length-reverse}
+use lib.ListN.{length}
 use Rattle.meaning.specs.Basics.{concat}
-use Rattle.meaning.specs.Layout.{Slot, Node, Edge, Change, nodeLength, edgeLength, recordLength, writeRecord}
+use Rattle.meaning.specs.Layout.{nodeLength, edgeLength, recordLength, writeRecord}
 use Rattle.meaning.specs.Commands.{Out, ruleAt}
 use Rattle.meaning.specs.Placement.{placement}
 use Rattle.meaning.specs.Demands.{Lent, Bytewise, start, Means}
 use Rattle.meaning.specs.Demands.Ours.{end, Good}
-use Rattle.meaning.specs.Laws.Every.{Every}
-use Rattle.meaning.specs.Laws.Pieces.{Wide, length-concat}
-use Rattle.meaning.specs.Laws.Records.{LegalChange, length-writeRecord, Every-reverse}
+use Rattle.meaning.specs.Laws.Records.{length-written}
 use Rattle.meaning.specs.Laws.Commands.{exec-room}
 use Rattle.meaning.specs.Laws.Legality.{LegalLedger}
-use Rattle.meaning.specs.Laws.LegalCommands.{LegalRules, legal-rule}
+use Rattle.meaning.specs.Laws.LegalCommands.{LegalRules, legal-sound}
 use Rattle.meaning.specs.Laws.LegalImage.{program-legal}
 use Rattle.meaning.specs.Laws.Undoing.{Numbered, out-legal}
 use Rattle.meaning.specs.Laws.FurtherCommands.{Sound}
 use Rattle.meaning.specs.Laws.Inference.{exec-runs}
 use Rattle.meaning.specs.declared.Layout.{Layout}
 
-Wide-records : (L : Layout) → 0 < L .width → (cs : List (Change (Slot Node) (Slot Edge))) → Every (LegalChange L) cs
-    → Wide (recordLength L) (map (writeRecord L) cs)
-Wide-records L w [] h i k = absurd (omega arith)
-Wide-records L w (c ∷ cs) h zero k = length-writeRecord L w c (h .0)
-Wide-records L w (c ∷ cs) h (suc i) k = Wide-records L w cs (h .1) i (omega arith)
-
 module _ (L : Layout) (k : Numbered L) (x : Lent) (b : Bytewise x) (a : Good L x) where
   rules-legal : LegalRules (a .tree .rules)
   rules-legal = program-legal (x .image) (a .tree) (b .image) (a .form) (a .references)
 
   pub rules-sound : (i : ℕ) → Sound (ruleAt (a .tree .rules) i)
-  rules-sound i = let r = legal-rule (a .tree .rules) rules-legal i in record { holds = r .holds; types = r .types }
+  rules-sound = legal-sound (a .tree .rules) rules-legal
 
   abbrev pub last : Out
   last = end L x (a .tree)
@@ -53,17 +44,11 @@ module _ (L : Layout) (k : Numbered L) (x : Lent) (b : Bytewise x) (a : Good L x
   abbrev written : List ℕ
   written = concat (map (writeRecord L) (reverse (last .state .ledger .journal)))
 
-  written-length : length written ≡ length (last .state .ledger .journal) * recordLength L
-  written-length =
-      let js = last .state .ledger .journal in
-      length-concat (recordLength L) (map (writeRecord L) (reverse js))
-      (Wide-records L (k .narrow) (reverse js) (Every-reverse (LegalChange L) js (last-legal .records)))
-      ∙ ap (λ (n : ℕ). n * recordLength L) (length-map (reverse js) (writeRecord L) ∙ length-reverse js)
-
   pub written-fits : length written ≤ length (x .journal)
   written-fits =
       let m = mul-le-mul-right (recordLength L) last-count in
-      omega (arith, written-length, div-mul-le-self (length (x .journal)) (recordLength L))
+      let n = length-written L (k .narrow) (last .state .ledger .journal) (last-legal .records) in
+      omega (arith, div-mul-le-self (length (x .journal)) (recordLength L))
 
   -- the program's meaning
   pub last-means : Means L x (a .tree) (last .end) (last .state)

@@ -168,22 +168,24 @@ pub apply-room : (most room : ℕ) (r : Rule) (p : List ℕ) (g g′ : Ledger) �
     → Applies most room r p g g′ → length (g′ .journal) ≤ room
 apply-room most room r p g g′ size a = let e = apply-records most room r p g g′ size a in omega (arith, a .recordRoom)
 
--- Where it was not applied, the reason is not a want of fuel.
+-- Where it was not applied, the reason is not a want of fuel; and before any change it is not an edge on a free node.
+
+-- not 2, nor 7
+abbrev Other : Stop → Type 0
+Other w = (w ≡ OutOfFuel → ⊥) × (w ≡ EdgeOnFreeNode → ⊥)
 
 checks-some : (a b c d : Bool) (w : Stop)
-    → firstFailing ((a, LabelTooLarge) ∷ (b, NoNodeRoom) ∷ (c, NoEdgeRoom) ∷ (d, NoRecordRoom) ∷ []) ≡ some w
-    → w ≡ OutOfFuel → ⊥
+    → firstFailing ((a, LabelTooLarge) ∷ (b, NoNodeRoom) ∷ (c, NoEdgeRoom) ∷ (d, NoRecordRoom) ∷ []) ≡ some w → Other w
 unfolding firstFailing choose
-checks-some false b c d w e q = let z : _≡_ {A = ℕ} 0 1 = cc in omega arith
-checks-some true false c d w e q = let z : _≡_ {A = ℕ} 0 1 = cc in omega arith
-checks-some true true false d w e q = let z : _≡_ {A = ℕ} 0 1 = cc in omega arith
-checks-some true true true false w e q = let z : _≡_ {A = ℕ} 0 1 = cc in omega arith
-checks-some true true true true w e q = let z : _≡_ {A = ℕ} 0 1 = cc in omega arith
+checks-some false b c d w e = (λ q. let z : _≡_ {A = ℕ} 0 1 = cc in omega arith, λ q. let z : _≡_ {A = ℕ} 0 1 = cc in omega arith)
+checks-some true false c d w e = (λ q. let z : _≡_ {A = ℕ} 0 1 = cc in omega arith, λ q. let z : _≡_ {A = ℕ} 0 1 = cc in omega arith)
+checks-some true true false d w e = (λ q. let z : _≡_ {A = ℕ} 0 1 = cc in omega arith, λ q. let z : _≡_ {A = ℕ} 0 1 = cc in omega arith)
+checks-some true true true false w e = (λ q. let z : _≡_ {A = ℕ} 0 1 = cc in omega arith, λ q. let z : _≡_ {A = ℕ} 0 1 = cc in omega arith)
+checks-some true true true true w e = let z : _≡_ {A = ℕ} 0 1 = cc in absurd (omega arith)
 
-hindrance-some : (most room : ℕ) (r : Rule) (p : List ℕ) (g : Ledger) (w : Stop) → hindrance most room r p g ≡ some w
-    → w ≡ OutOfFuel → ⊥
+pub hindrance-some : (most room : ℕ) (r : Rule) (p : List ℕ) (g : Ledger) (w : Stop) → hindrance most room r p g ≡ some w → Other w
 unfolding hindrance
-hindrance-some most room r p g w e q = checks-some _ _ _ _ w e q
+hindrance-some most room r p g w e = checks-some _ _ _ _ w e
 
 tested-hindered : (g : Ledger) (w : Stop) → tested g ≡ hindered w → w ≡ OutOfFuel → ⊥
 unfolding tested choose
@@ -200,6 +202,6 @@ unfolding apply unhindered
 apply-hindered most room r p g w e q = at (hindrance most room r p g) (rightSide most (g .host) r p) refl e
   where
     at : (v : Option Stop) (o : Option Right) → hindrance most room r p g ≡ v → unhindered v o r p g ≡ hindered w → ⊥
-    at (some v) o h e = hindrance-some most room r p g v h (cc)
+    at (some v) o h e = hindrance-some most room r p g v h .0 (cc)
     at none none h e = let z : _≡_ {A = ℕ} 0 1 = cc in omega arith
     at none (some right) h e = tested-hindered _ w e q

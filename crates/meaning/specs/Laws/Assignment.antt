@@ -91,7 +91,7 @@ module _ (r : Rule) where
   label-edge k h = joined-back _ _ (r .left .nodes) (r .left .edges) k _ [] h
 
 -- a plain element but a list variable stands for one atom, where its variables exist
-single : (r : Rule) (β : Assignment) → every isType (r .variables) ≡ true → ((v : ℕ) → isInt r v ≡ true → length (β v) ≡ 1)
+pub single : (r : Rule) (β : Assignment) → every isType (r .variables) ≡ true → ((v : ℕ) → isInt r v ≡ true → length (β v) ≡ 1)
     → (x : Element) → isPlain x ≡ true → Every (λ v. v < length (r .variables)) (elementNames x) → takesList r x ≡ false
     → length (atomsOf β x) ≡ 1
 unfolding isPlain elementNames takesList atomsOf isType

@@ -16,7 +16,7 @@ use Rattle.meaning.specs.Applying.{Right, Ledger, store, stores, lowestF
 use Rattle.meaning.specs.Laws.Every.{Every, Every-then}
 use Rattle.meaning.specs.Laws.Hosts.{Attached, OnLive}
 use Rattle.meaning.specs.Laws.Applying.{stores-append}
-use Rattle.meaning.specs.Laws.Room.{afterLeft, afterNew, changed-is, addNodes-live, addNodes-at, addNodes-edges, addEdges-nodes}
+use Rattle.meaning.specs.Laws.Room.{edgesGo-nodes, nodesChange-edges, afterLeft, afterNew, changed-is, addNodes-live, addNodes-at, addNodes-edges, addEdges-nodes}
 use Rattle.meaning.specs.Laws.Values.{LegalValue}
 use Rattle.meaning.specs.declared.Layout.{Layout}
 
@@ -71,18 +71,6 @@ edgesGo-stay (y ∷ l) g x h = at (ℕ-discrete x y) (edgesGo-stay l (store (ofE
         → ((j : ℕ) → j < suc (length l) → getD (y ∷ l) j 0 ≡ x → ⊥) × (getD after x free ≡ getD (g .host .edges) x free)
     at (yes q) t = absurd (none q (t .1))
     at (no q) t = (earlier q (t .0), t .1 ∙ getD-set-other (g .host .edges) y x free free q)
-
-edgesGo-nodes : (l : List ℕ) (g : Ledger) → stores (map (λ x. ofEdge x free) l) g .host .nodes ≡ g .host .nodes
-unfolding stores store put
-edgesGo-nodes [] g = refl
-edgesGo-nodes (x ∷ l) g = edgesGo-nodes l (store (ofEdge x free) g)
-
-nodesChange-edges : (ns : List Node) (l : List ℕ) (g : Ledger) → stores (nodesChange ns l) g .host .edges ≡ g .host .edges
-unfolding stores store put nodesChange
-nodesChange-edges [] [] g = refl
-nodesChange-edges (n ∷ ns) [] g = refl
-nodesChange-edges [] (x ∷ l) g = nodesChange-edges [] l (store (ofNode x free) g)
-nodesChange-edges (n ∷ ns) (x ∷ l) g = nodesChange-edges ns l (store (ofNode x (live n)) g)
 
 -- a node that is live and does not go stays live
 nodesChange-stay : (ns : List Node) (l : List ℕ) (g : Ledger) (y : ℕ) → liveAt (g .host .nodes) y ≡ true

@@ -83,7 +83,7 @@ first-with v (l ∷ ls) p e =
     at false q ih = let t = ih q in (omega (arith, t .0), t .1)
 
 -- each of the numbers is below the highest of their successors
-highest-each : (n : ℕ) (l : List ℕ) → highest (map suc l) ≤ n → Every (λ a. a < n) l
+pub highest-each : (n : ℕ) (l : List ℕ) → highest (map suc l) ≤ n → Every (λ a. a < n) l
 unfolding highest
 highest-each n [] h = tt
 highest-each n (a ∷ l) h = (omega arith, highest-each n l (omega arith))

@@ -2,8 +2,9 @@
 use mathlib.Core.Path.{_≡_, refl}
 use mathlib.Core.Bool.{Bool, true}
 use mathlib.Core.List.{List, [], _∷_, _++_, map}
-use Prim.Native.Nat.{ℕ, zero, suc}
-use lib.ListN.{getD}
+use Prim.Native.Nat.{ℕ, zero, suc, _<_}
+use native.Mathlib.Omega.{arith}
+use lib.ListN.{length, getD}
 use Rattle.meaning.specs.Basics.{every, concat}
 use Rattle.meaning.specs.Laws.Tests.{both-true, both-of}
 
@@ -28,6 +29,11 @@ module _ {A : Type 0} where
     Every-at d p [] e i = p
     Every-at d p (a ∷ l) e zero = e .0
     Every-at d p (a ∷ l) e (suc i) = Every-at d p l (e .1) i
+
+    pub Every-in : (l : List A) → Every P l → (i : ℕ) → i < length l → (d : A) → P (getD l i d)
+    Every-in [] e i h d = absurd (omega arith)
+    Every-in (a ∷ l) e zero h d = e .0
+    Every-in (a ∷ l) e (suc i) h d = Every-in l (e .1) i (omega arith) d
 
     pub Every-parts : (l m : List A) → Every P (l ++ m) → Every P l × Every P m
     Every-parts [] m e = (tt, e)

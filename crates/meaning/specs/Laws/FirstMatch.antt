@@ -15,7 +15,8 @@ use Rattle.meaning.specs.Matching.{Match, leftNodes, leftEdges, nodeSlot
 use Rattle.meaning.specs.Search.{Before}
 use Rattle.meaning.specs.FirstMatch.{fits, candidates, complete, firstMatch}
 use Rattle.meaning.specs.Laws.Search.{In, Low, deep-low, from-zero, ext-full, ext-at, at-ext, before-apart}
-use Rattle.meaning.specs.Laws.Levels.{live-inside, matched}
+use Rattle.meaning.specs.Laws.Hosts.{liveAt-lt}
+use Rattle.meaning.specs.Laws.Levels.{matched}
 
 -- the first match of rule r in host h: a match that no match is before, or none where there is no match
 abbrev pub First : Host → Rule → Option (List ℕ) → Type 0
@@ -32,10 +33,10 @@ first-one h r (some p) (some q) f g =
 
 -- the slots of a match are inside the tables
 pub node-inside : (h : Host) (r : Rule) (p : List ℕ) → Match h r p → (i : ℕ) → i < leftNodes r → nodeSlot p i < length (h .nodes)
-node-inside h r p m i k = live-inside (h .nodes) (nodeSlot p i) (m .nodesLive i k)
+node-inside h r p m i k = liveAt-lt (h .nodes) (nodeSlot p i) (m .nodesLive i k)
 
 pub edge-inside : (h : Host) (r : Rule) (p : List ℕ) → Match h r p → (k : ℕ) → k < leftEdges r → edgeSlot r p k < length (h .edges)
-edge-inside h r p m k j = live-inside (h .edges) (edgeSlot r p k) (m .edgesLive k j)
+edge-inside h r p m k j = liveAt-lt (h .edges) (edgeSlot r p k) (m .edgesLive k j)
 
 module _ (h : Host) (r : Rule) (holds : ruleHolds r ≡ true) (types : every isType (r .variables) ≡ true) where
   abbrev Searched : List ℕ → Type 0

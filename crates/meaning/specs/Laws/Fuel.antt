@@ -198,12 +198,12 @@ module _ (most room : ℕ) (rules : List Rule) where
 
 -- The rounds of a loop do not depend on their bound where that is at least the fuel.
 
-again-cong : (e : End) (s t : State) (k l : State → Out) → k t ≡ l t → again e s t k ≡ again e s t l
+pub again-same : (e : End) (s t : State) (k l : State → Out) → k t ≡ l t → again e s t k ≡ again e s t l
 unfolding again
-again-cong Done s t k l h = h
-again-cong Failed s t k l h = refl
-again-cong Broke s t k l h = refl
-again-cong (Stopped w) s t k l h = refl
+again-same Done s t k l h = h
+again-same Failed s t k l h = refl
+again-same Broke s t k l h = refl
+again-same (Stopped w) s t k l h = refl
 
 pub rounds-bound : (n m : ℕ) (body : State → Out) → Spending body → (s : State) → s .fuel ≤ n → s .fuel ≤ m
     → rounds n body s ≡ rounds m body s
@@ -213,4 +213,4 @@ rounds-bound zero (suc m) body b s h k = rw (b .empty s (omega arith))
 rounds-bound (suc n) zero body b s h k = rw (b .empty s (omega arith))
 rounds-bound (suc n) (suc m) body b s h k =
     let q = b .spends s in
-    again-cong (body s .end) s _ _ _ (rounds-bound n m body b (body s .state) (omega arith) (omega arith))
+    again-same (body s .end) s _ _ _ (rounds-bound n m body b (body s .state) (omega arith) (omega arith))

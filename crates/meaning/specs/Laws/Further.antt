@@ -7,17 +7,17 @@ use mathlib.Core.Option.{Option, some, none}
 use mathlib.Core.List.{List, [], _∷_, _++_, map}
 use native.Mathlib.Omega.{arith}
 use native.Mathlib.Decide.{decLe}
-use lib.ListN.{length, getD, set, take, drop, replicate, length-drop}
+use lib.ListN.{length, getD, take, drop, replicate, length-drop}
 use lib.Seq.{set-append-left}
 use Rattle.meaning.specs.Basics.{choose, any}
-use Rattle.meaning.specs.Layout.{Slot, free, live, Node, Edge, Host, isLive, Change, ofNode, ofEdge, put}
+use Rattle.meaning.specs.Layout.{Slot, free, live, Node, Edge, Host, Change, ofNode, ofEdge, put}
 use Rattle.meaning.specs.Image.{Rule}
 use Rattle.meaning.specs.Matching.{leftNodes, leftEdges, Match}
 use Rattle.meaning.specs.Applying.{Right, rightSide, Ledger, standing, store, stores, lowestFree, freeSlots, edgesGo, nodesChange, Added, addNodes, between, addEdges, changed, newNodes, goneNodes, recordsOf, hindrance, onFreeNode, Applied, applied, hindered, tested, unhindered, apply}
 use Rattle.meaning.specs.Laws.Every.{Every, Every-then}
 use Rattle.meaning.specs.Laws.Records.{Every-append}
-use Rattle.meaning.specs.Laws.Slots.{lowestFree-lt, lowestFree-free, freeSlots-append, freeSlots-come, put-nodes, put-edges}
-use Rattle.meaning.specs.Laws.Levels.{live-inside}
+use Rattle.meaning.specs.Laws.Slots.{lowestFree-lt, freeSlots-append, come-free, put-nodes, put-edges}
+use Rattle.meaning.specs.Laws.Hosts.{liveAt-lt}
 use Rattle.meaning.specs.Laws.Hindrance.{labels-first, nodes-second, edges-third, records-last, unhindered-of}
 use Rattle.meaning.specs.Laws.Applying.{store-host, rightSide-some}
 use Rattle.meaning.specs.Laws.Room.{Placed, match-nodes, match-edges, afterLeft, afterNew, afterLeft-nodes, afterLeft-edges, addNodes-edges}
@@ -50,12 +50,6 @@ unfolding lowestFree freeSlots
 further-lowest n [] h = absurd (omega arith)
 further-lowest n (free ∷ t) h = refl
 further-lowest n (live a ∷ t) h = ap suc (further-lowest n t h)
-
--- one slot fewer is free once the lowest is taken
-lowest-taken : {A : Type 0} (t : List (Slot A)) (a : A) → 0 < freeSlots t
-    → suc (freeSlots (set t (lowestFree t) (live a))) ≡ freeSlots t
-unfolding isLive
-lowest-taken t a h = freeSlots-come t (lowestFree t) a (lowestFree-lt t h) (rw (lowestFree-free t))
 
 -- a change is inside the tables of a host
 abbrev pub Inside : Host → Change (Slot Node) (Slot Edge) → Type 0
@@ -108,7 +102,7 @@ module _ (a b : ℕ) where
       let x : ℕ = lowestFree (g .host .nodes) in
       let c : Change (Slot Node) (Slot Edge) = ofNode x (live n) in
       let s = store-roomier c g (lowestFree-lt (g .host .nodes) (omega arith)) in
-      let t = lowest-taken (g .host .nodes) n (omega arith) in
+      let t = come-free (g .host .nodes) n (omega arith) in
       let r = addNodes-roomier l (store c g) (omega arith) in
       rw (further-lowest a (g .host .nodes) (omega arith), s, r)
 
@@ -119,7 +113,7 @@ module _ (a b : ℕ) where
   addEdges-roomier slots (e ∷ l) g k =
       let c : Change (Slot Node) (Slot Edge) = ofEdge (lowestFree (g .host .edges)) (live (between slots e)) in
       let s = store-roomier c g (lowestFree-lt (g .host .edges) (omega arith)) in
-      let t = lowest-taken (g .host .edges) (between slots e) (omega arith) in
+      let t = come-free (g .host .edges) (between slots e) (omega arith) in
       let r = addEdges-roomier slots l (store c g) (omega arith) in
       rw (further-lowest b (g .host .edges) (omega arith), s, r)
 
@@ -128,7 +122,7 @@ module _ (a b : ℕ) where
 placed-inside : {A : Type 0} (t : List (Slot A)) (l : List ℕ) → Placed t l → Every (λ x. x < length t) l
 placed-inside t [] p = tt
 placed-inside t (x ∷ l) p = (
-  live-inside t x (p .alive 0 (omega arith)),
+  liveAt-lt t x (p .alive 0 (omega arith)),
   placed-inside t l
       (record {
         alive = λ i h. p .alive (suc i) (omega arith);

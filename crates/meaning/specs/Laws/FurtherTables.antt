@@ -10,17 +10,12 @@ use lib.ListN.{length, getD, replicate, length-replicate, replicate-append-repli
 use Rattle.meaning.specs.Basics.{every, concat, padded}
 use Rattle.meaning.specs.Layout.{Slot, free, Node, Edge, nodeLength, edgeLength, cut, readNode, readEdge, readNodes, readEdges, nodeBytes, edgeBytes, writeNode, writeEdge, writeNodes, writeEdges, keepsNode, keepsEdge, keepsLayout}
 use Rattle.meaning.specs.Laws.Tests.{both-true, both-of, every-append, zeros-of}
-use Rattle.meaning.specs.Laws.Pieces.{Wide, Wide-pieces, concat-cut, cut-concat}
+use Rattle.meaning.specs.Laws.Pieces.{Wide, Wide-pieces, concat-append, concat-cut, cut-concat}
 use Rattle.meaning.specs.Laws.Layout.{readNode-free, edgeOf, readEdge-free, keepsNode-free, keepsEdge-free}
 use Rattle.meaning.specs.Laws.Further.{further, further-at}
 use Rattle.meaning.specs.declared.Layout.{Layout}
 
 -- Lists.
-
-concat-append : (ls ms : List (List ℕ)) → concat (ls ++ ms) ≡ concat ls ++ concat ms
-unfolding concat
-concat-append [] ms = refl
-concat-append (l ∷ ls) ms = ap (λ (m : List ℕ). l ++ m) (concat-append ls ms) ∙ sym (append-assoc l (concat ls) (concat ms))
 
 concat-zeros : (a w : ℕ) → concat {A = ℕ} (replicate a (replicate w 0)) ≡ replicate (a * w) 0
 unfolding concat

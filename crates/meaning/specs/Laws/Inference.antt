@@ -22,7 +22,7 @@ use Rattle.meaning.specs.Inference.{NoMatch, FirstCalled, stepped, Runs,
 use Rattle.meaning.specs.Laws.Tests.{both-true}
 use Rattle.meaning.specs.Laws.FirstMatch as Found
 use Rattle.meaning.specs.Laws.Commands.{firstRule-some, firstRule-none, exec-entered, exec-unbroken}
-use Rattle.meaning.specs.Laws.Fuel.{exec-spending, rounds-bound}
+use Rattle.meaning.specs.Laws.Fuel.{exec-spending, again-same, rounds-bound}
 use Rattle.meaning.specs.Laws.FurtherCommands.{Sound}
 use Rattle.meaning.specs.declared.Stop.the-variants.{OutOfFuel}
 use Rattle.meaning.specs.declared.End.{End}
@@ -178,13 +178,6 @@ module _ (most room : ℕ) (rules : List Rule) where
     next-ends Failed t k n = refl
     next-ends Broke t k n = refl
     next-ends (Stopped w) t k n = refl
-
-    again-same : (e : End) (s t : State) (k l : State → Out) → k t ≡ l t → again e s t k ≡ again e s t l
-    unfolding again
-    again-same Done s t k l h = h
-    again-same Failed s t k l h = refl
-    again-same Broke s t k l h = refl
-    again-same (Stopped w) s t k l h = refl
 
     -- a round of a loop, where its body ends in e at t
     round : (c : Command) (s t : State) (e : End) → exec most room rules c s ≡ ends e t

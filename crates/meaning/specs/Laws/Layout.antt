@@ -1,5 +1,5 @@
 -- Laws of Layout: what is read from bytes and written to them, slot by slot and table by table, and what the test of the
--- layout says of them. Rests on Layout, Laws/Numbers and Laws/Pieces.
+-- layout says of them. Rests on Layout, Laws/Numbers, Laws/Pieces and Laws/References.
 use Prim.Native.Nat.{ℕ, zero, suc, _+_, _-_, _*_, _/_, _%_, _<_, _≤_}
 use mathlib.Core.Path.{_≡_, refl, sym, _∙_, ap}
 use mathlib.Core.List.{List, [], _∷_, _++_, map}
@@ -16,6 +16,7 @@ use Rattle.meaning.specs.Numbers.{number, bytes, whole}
 use Rattle.meaning.specs.Layout.{Slot, free, live, isLive, Node, Edge, liveAt, isNodeMark, isEdgeMark, nodeLength, edgeLength, pieces, cut, atoms, readNode, readEdge, readNodes, readEdges, atomBytes, nodeBytes, edgeBytes, writeNode, writeEdge, writeNodes, writeEdges, keepsNode, keepsEdge, keepsLayout}
 use Rattle.meaning.specs.declared.Layout.{Layout}
 use Rattle.meaning.specs.Laws.Tests.{both-true, both-of, choose-eq, choose-ne, every-true, zeros-true, zeros-of}
+use Rattle.meaning.specs.Laws.References.{clauses-true}
 use Rattle.meaning.specs.Laws.Numbers.{Bytes, Bytes-bytes, Bytes-drop, Bytes-append, length-bytes, number-bytes, number-take-lt, bytes-number, bytes-number-take}
 use Rattle.meaning.specs.Laws.Pieces.{getD-map, getD-pieces, map-back, length-pieces, Wide, Wide-pieces, Bytes-pieces, length-slot, concat-pieces, length-concat, pieces-concat, write-read, Bytes-write}
 
@@ -91,13 +92,6 @@ atoms-atomBytes l bs h =
 
 -- Nodes.
 
--- each clause of the test holds
-clause : (l : List Bool) → clauses l ≡ true → (i : ℕ) → getD l i true ≡ true
-unfolding clauses
-clause [] e i = refl
-clause (b ∷ l) e zero = both-true _ _ e .0
-clause (b ∷ l) e (suc i) = clause l (both-true _ _ e .1) i
-
 pub readNode-free : (b : List ℕ) → getD b 0 0 ≡ 0 → readNode b ≡ free
 unfolding readNode
 readNode-free b e = choose-eq (getD b 0 0) 0 _ _ e
@@ -111,7 +105,7 @@ unfolding readNode
 readNode-live b e = choose-ne (getD b 0 0) 0 _ _ e
 
 -- a slot is live exactly where its state is not 0
-isLive-choose : {A : Type 0} (t : Bool) (a : A) → isLive (choose t free (live a)) ≡ not t
+pub isLive-choose : {A : Type 0} (t : Bool) (a : A) → isLive (choose t free (live a)) ≡ not t
 unfolding choose isLive
 isLive-choose true a = refl
 isLive-choose false a = refl
@@ -135,7 +129,7 @@ keepsNode-free L b e = choose-eq (getD b 0 0) 0 _ _ e
 pub keepsNode-live : (L : Layout) (b : List ℕ) → (getD b 0 0 ≡ 0 → ⊥) → keepsNode L b ≡ true → KeepsNode L b
 unfolding keepsNode
 keepsNode-live L b e k =
-    let t = clause _ (sym (choose-ne (getD b 0 0) 0 _ _ e) ∙ k) in
+    let t = clauses-true _ (sym (choose-ne (getD b 0 0) 0 _ _ e) ∙ k) in
     record { state = eqb-true _ _ (t 0); mark = t 1; root = leb-true _ _ (t 2); size = leb-true _ _ (t 3); rest = t 4 }
 
 pub keepsNode-of : (L : Layout) (b : List ℕ) → KeepsNode L b → keepsNode L b ≡ true
@@ -241,7 +235,7 @@ module _ (L : Layout) where
     pub keepsEdge-live : (getD b 0 0 ≡ 0 → ⊥) → keepsEdge L nodes b ≡ true → KeepsEdge nodes b
     unfolding keepsEdge
     keepsEdge-live e k =
-        let t = clause _ (sym (choose-ne (getD b 0 0) 0 _ _ e) ∙ k) in
+        let t = clauses-true _ (sym (choose-ne (getD b 0 0) 0 _ _ e) ∙ k) in
         record {
           state = eqb-true _ _ (t 0);
           mark = t 1;

@@ -1,4 +1,5 @@
--- Every command keeps the host and the journal legal, and none ends with answer 7. Rests on Laws/Legality and Laws/Stops.
+-- Every command keeps the host and the journal legal, and none ends with answer 7. Rests on Laws/Legality, Laws/Stops
+-- and Laws/FurtherCommands.
 use Prim.Native.Nat.{ℕ, _^_, _≤_}
 use mathlib.Core.Path.{_≡_, refl, ap}
 use mathlib.Core.List.{List}
@@ -16,6 +17,7 @@ use Rattle.meaning.specs.Laws.Commands.{firstRule-some, Kept, call-eithe
 use Rattle.meaning.specs.Laws.Values.{LegalRule}
 use Rattle.meaning.specs.Laws.Legality.{LegalLedger, apply-attached, apply-legal}
 use Rattle.meaning.specs.Laws.Stops.{OnStop, exec-stops}
+use Rattle.meaning.specs.Laws.FurtherCommands.{Sound}
 use Rattle.meaning.specs.declared.Layout.{Layout}
 use Rattle.meaning.specs.declared.Stop.the-variants.{EdgeOnFreeNode}
 use Rattle.meaning.specs.declared.End.the-variants.{Stopped}
@@ -27,6 +29,10 @@ LegalRules rules = Every LegalRule rules
 pub legal-rule : (rules : List Rule) → LegalRules rules → (i : ℕ) → LegalRule (ruleAt rules i)
 unfolding ruleHolds clauses variablesExist endsExist testNodesExist interfaceFits leftPlain leftSimple operandsInt variablesOnLeft anyPlaced every all both concat
 legal-rule rules h i = Every-at LegalRule _ (record { nodes = tt; edges = tt; types = refl; holds = refl }) rules h i
+
+-- and sound
+pub legal-sound : (rules : List Rule) → LegalRules rules → (i : ℕ) → Sound (ruleAt rules i)
+legal-sound rules h i = let r = legal-rule rules h i in record { holds = r .holds; types = r .types }
 
 module _ (L : Layout) (m n : ℕ) (fewNodes : m ≤ 256 ^ L .width) (fewEdges : n ≤ 256 ^ L .width) (room : ℕ) (rules : List Rule)
     (legal : LegalRules rules)

@@ -3,13 +3,13 @@
 use Prim.Native.Nat.{ℕ, zero, suc, _+_, _^_, _<_, _≤_}
 use mathlib.Core.Path.{_≡_, refl, _∙_}
 use mathlib.Core.List.{List, [], _∷_, _++_, map}
-use mathlib.Core.Bool.{Bool, true, false, not}
+use mathlib.Core.Bool.{false, not}
 use mathlib.Core.Option.{Option, some, none}
 use native.Mathlib.Omega.{arith}
 use borrow.Author.Tests.{leb-true}
-use lib.ListN.{length, getD, set, take, drop, length-set, length-take, length-drop}
+use lib.ListN.{length, getD, take, drop, length-set, length-take, length-drop}
 use lib.Seq.{getD-take, getD-drop}
-use Rattle.meaning.specs.Basics.{choose, both, firstFailing}
+use Rattle.meaning.specs.Basics.{both}
 use Rattle.meaning.specs.Layout.{Slot, free, live, Node, Edge, Host, isLive, liveAt, Change, ofNode, ofEdge, put}
 use Rattle.meaning.specs.Image.{Rule}
 use Rattle.meaning.specs.Matching.{edgeIn, leftNodes, leftEdges, Match}
@@ -19,15 +19,15 @@ use Rattle.meaning.specs.Laws.Every.{Every, Every-then}
 use Rattle.meaning.specs.Laws.Hosts.{LegalNode, LegalEdge, Attached, OnLive, LegalHost, liveAt-lt}
 use Rattle.meaning.specs.Laws.Records.{LegalChange, Within, Every-append}
 use Rattle.meaning.specs.Laws.FirstMatch.{node-inside, edge-inside}
-use Rattle.meaning.specs.Laws.Slots.{lowestFree-lt, lowestFree-free, freeSlots-come}
-use Rattle.meaning.specs.Laws.Applying.{rightSide-some, firstFailing-none, apply-applied}
+use Rattle.meaning.specs.Laws.Slots.{lowestFree-lt, come-free}
+use Rattle.meaning.specs.Laws.Applying.{rightSide-some, firstFailing-none, hindrance-some, apply-applied}
 use Rattle.meaning.specs.Laws.Restoring.{from-nodes, changed-from}
 use Rattle.meaning.specs.Laws.Room.{afterLeft, afterNew, changed-is, afterLeft-nodes, afterLeft-edges, addNodes-edges}
 use Rattle.meaning.specs.Laws.Values.{LegalRule, LegalValue, LegalRight, interface-left, interface-right, rightSide-legal}
 use Rattle.meaning.specs.Laws.Attached.{OnLive-set, nodesAfter, rightSlots, between-attached, all-attached}
 use Rattle.meaning.specs.declared.Layout.{Layout}
 use Rattle.meaning.specs.declared.Stop.{Stop}
-use Rattle.meaning.specs.declared.Stop.the-variants.{NoNodeRoom, NoEdgeRoom, NoRecordRoom, LabelTooLarge, EdgeOnFreeNode}
+use Rattle.meaning.specs.declared.Stop.the-variants.{EdgeOnFreeNode}
 
 -- Statements of each element of a list.
 
@@ -68,12 +68,6 @@ pub record Ready (most : ℕ) (r : Rule) (p : List ℕ) (g : Ledger) (right : Ri
   pub values : rightSide most (g .host) r p ≡ some right
   pub nodeRoom : newNodes r ≤ freeSlots (g .host .nodes) + goneNodes r
   pub edgeRoom : length (r .right .edges) ≤ freeSlots (g .host .edges) + leftEdges r
-
--- a slot comes
-come-free : {A : Type 0} (t : List (Slot A)) (a : A) → 0 < freeSlots t
-    → suc (freeSlots (set t (lowestFree t) (live a))) ≡ freeSlots t
-unfolding isLive
-come-free t a h = freeSlots-come t (lowestFree t) a (lowestFree-lt t h) (rw (lowestFree-free t))
 
 module _ (L : Layout) (m n : ℕ) (fewNodes : m ≤ 256 ^ L .width) (fewEdges : n ≤ 256 ^ L .width) where
   -- One change with its record.
@@ -179,7 +173,7 @@ module _ (L : Layout) (m n : ℕ) (fewNodes : m ≤ 256 ^ L .width) (fewEdges : 
       values-legal = rightSide-legal L (g .host) (legal .host) r rule p right (ready .values)
 
       -- a right edge between its slots
-      between-legal : (e : Edge) → LegalValue L (length (right .nodes)) e → LegalEdge L (between (rightSlots r p right g) e)
+      pub between-legal : (e : Edge) → LegalValue L (length (right .nodes)) e → LegalEdge L (between (rightSlots r p right g) e)
       between-legal e h =
           let a = between-attached r p right g (ready .match) (interface-left r (rule .holds)) kept room-nodes L e h in
           let q = from-nodes g (changed r p right g) (changed-from r p right g) in
@@ -263,16 +257,6 @@ tested-legal L g k = choose-false _ _ _ (any-no (onFreeNode (g .host)) (length (
 
 -- Applying.
 
--- what is answered before any change is not answer 7
-checks-some : (a b c d : Bool)
-    → firstFailing ((a, LabelTooLarge) ∷ (b, NoNodeRoom) ∷ (c, NoEdgeRoom) ∷ (d, NoRecordRoom) ∷ []) ≡ some EdgeOnFreeNode → ⊥
-unfolding firstFailing choose
-checks-some false b c d e = let z : _≡_ {A = ℕ} 0 1 = cc in omega arith
-checks-some true false c d e = let z : _≡_ {A = ℕ} 0 1 = cc in omega arith
-checks-some true true false d e = let z : _≡_ {A = ℕ} 0 1 = cc in omega arith
-checks-some true true true false e = let z : _≡_ {A = ℕ} 0 1 = cc in omega arith
-checks-some true true true true e = let z : _≡_ {A = ℕ} 0 1 = cc in omega arith
-
 module _ (L : Layout) (m n : ℕ) (fewNodes : m ≤ 256 ^ L .width) (fewEdges : n ≤ 256 ^ L .width) where
   module _ (room : ℕ) (r : Rule) (rule : LegalRule r) (p : List ℕ) (g : Ledger) (legal : LegalLedger L m n g) (match : Match (g .host) r p) where
     -- where nothing hinders, the rule can be applied
@@ -292,7 +276,7 @@ module _ (L : Layout) (m n : ℕ) (fewNodes : m ≤ 256 ^ L .width) (fewEdges : 
       where
         at : (w : Option Stop) (o : Option Right) → hindrance (L .atoms) room r p g ≡ w → rightSide (L .atoms) (g .host) r p ≡ o
             → unhindered w o r p g ≡ hindered EdgeOnFreeNode → ⊥
-        at (some w) o q v e = let f : w ≡ EdgeOnFreeNode = cc in checks-some _ _ _ _ (rw f at q)
+        at (some w) o q v e = hindrance-some (L .atoms) room r p g w q .1 (cc)
         at none none q v e = let z : _≡_ {A = ℕ} 0 1 = cc in omega arith
         at none (some right) q v e =
             let k = changed-legal L m n fewNodes fewEdges r rule p g legal right (unhindered-ready right q v) in

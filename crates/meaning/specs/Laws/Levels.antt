@@ -1,9 +1,9 @@
 -- The matches of a rule are the placements that the search accepts: each slot fits behind those before it, and the whole is
 -- complete. The tests so far, the links and the count of edges at a node that goes drop no match. Rests on Matching and FirstMatch.
-use Prim.Native.Nat.{ℕ, zero, suc, _+_, _-_, _<_, _≤_, max}
+use Prim.Native.Nat.{ℕ, suc, _+_, _-_, _<_, _≤_, max}
 use mathlib.Core.Path.{_≡_, refl, sym, _∙_, ap}
 use mathlib.Core.Logic.{_⊎_, inl, inr, ⊎-map, _↔_}
-use mathlib.Core.Bool.{Bool, true, false, not}
+use mathlib.Core.Bool.{Bool, true, not}
 use mathlib.Core.List.{List, [], _∷_}
 use native.Mathlib.Omega.{arith}
 use native.Mathlib.Decide.{decLt, ℕ-discrete}
@@ -12,23 +12,26 @@ use lib.Dec.{eqb}
 use lib.ListN.{length, getD, take, drop, length-drop}
 use lib.Seq.{take-suc, getD-take, getD-drop, length-take-le}
 use Rattle.meaning.specs.Basics.{either, clauses, all, every, absent}
-use Rattle.meaning.specs.Layout.{Slot, isLive, Host, liveAt}
+use Rattle.meaning.specs.Layout.{Host, liveAt}
 use Rattle.meaning.specs.Image.{Rule, isType, anyMark}
 use Rattle.meaning.specs.References.{ruleHolds}
 use Rattle.meaning.specs.Matching.{Match, MarksAgree, nodeAt, edgeAt, leftNode, leftEdge, leftNodes, leftEdges, nodeSlot, edgeSlot, runs, testHolds}
 use Rattle.meaning.specs.FirstMatch.{assigned, marksAgree, labelAgrees, testsSoFar, joins, linked, touches, leftTouches, canGo, nodeFits, edgeFits, fits, candidates, touchesGone, dangles, complete}
-use Rattle.meaning.specs.Laws.Tests.{both-true, both-yes, both-of, choose-lt, choose-le, choose-eq, choose-ne, absent-true, absent-of, absent-false, any-of, any-true, any-false, any-no, all-of, either-left, either-right, either-true}
+use Rattle.meaning.specs.Laws.Tests.{not-so, both-true, both-yes, both-of, choose-lt, choose-le, choose-eq, choose-ne, absent-true, absent-of, absent-false, any-of, any-true, any-false, any-no, all-of, either-left, either-right, either-true}
+use Rattle.meaning.specs.Laws.Hosts.{liveAt-lt}
 use Rattle.meaning.specs.Laws.Counting.{count-from}
 use Rattle.meaning.specs.Laws.References.{clauses-true, ends}
 use Rattle.meaning.specs.Laws.Assignment.{Labelled, LabelsAgree, labelled, agreed}
 use Rattle.meaning.specs.Laws.Decided.{tests-so-far, tests-same}
 
--- a live slot is inside its table
-pub live-inside : {A : Type 0} (slots : List (Slot A)) (x : ℕ) → liveAt slots x ≡ true → x < length slots
-unfolding isLive
-live-inside [] x e = let z : _≡_ {A = ℕ} 0 1 = cc in absurd (omega arith)
-live-inside (s ∷ slots) zero e = omega arith
-live-inside (s ∷ slots) (suc x) e = let h = live-inside slots x e in omega arith
+-- numbers below n whose values are apart, where these are not
+pub apart-same : (f : ℕ → ℕ) (n i j : ℕ) → ((i j : ℕ) → i < j → j < n → f i ≡ f j → ⊥) → i < n → j < n → f i ≡ f j → i ≡ j
+apart-same f n i j a k l e = at (decLt i j) (decLt j i)
+  where
+    at : Dec (i < j) → Dec (j < i) → i ≡ j
+    at (yes u) d = absurd (a i j u l e)
+    at (no u) (yes v) = absurd (a j i v k (sym e))
+    at (no u) (no v) = omega arith
 
 -- one of two equations
 equal-true : (a b c d : ℕ) → either (eqb a b) (eqb c d) ≡ true → (a ≡ b) ⊎ (c ≡ d)
@@ -37,10 +40,6 @@ equal-true a b c d e = ⊎-map (eqb-true a b) (eqb-true c d) (either-true _ _ e)
 equal-of : (a b c d : ℕ) → (a ≡ b) ⊎ (c ≡ d) → either (eqb a b) (eqb c d) ≡ true
 equal-of a b c d (inl e) = either-left _ _ (eq-eqb a b e)
 equal-of a b c d (inr e) = either-right _ _ (eq-eqb c d e)
-
-not-so : (b : Bool) → (b ≡ true → ⊥) → b ≡ false
-not-so true f = absurd (f refl)
-not-so false f = refl
 
 module _ (h : Host) (r : Rule) (p : List ℕ) (size : length p ≡ leftNodes r + leftEdges r) (holds : ruleHolds r ≡ true) where
   -- The slots before that of left node i, and the edge slots before that of left edge k.
@@ -140,7 +139,7 @@ module _ (h : Host) (r : Rule) (p : List ℕ) (size : length p ≡ leftNodes r +
         → (k : ℕ) × (k < leftEdges r) × (edgeSlot r p k ≡ x)
     unfolding complete dangles touchesGone touches
     not-dangling x j l i k t =
-        let none-dangles = any-false _ _ (not-true _ (both-true _ _ full .0)) x (live-inside (h .edges) x l) in
+        let none-dangles = any-false _ _ (not-true _ (both-true _ _ full .0)) x (liveAt-lt (h .edges) x l) in
         let touched = equal-of (edgeAt h x .source) (nodeSlot p j) (edgeAt h x .target) (nodeSlot p j) t in
         let gone = any-of (touchesGone h r p x) (leftNodes r) j k (both-of _ _ (le-leb _ _ i) (both-of _ _ l touched)) in
         let a = absent-false x (drop (leftNodes r) p) (sym (both-yes _ _ gone) ∙ none-dangles) in
@@ -198,16 +197,11 @@ module _ (h : Host) (r : Rule) (p : List ℕ) (size : length p ≡ leftNodes r +
         at k j (no d) = choose-ne _ _ _ _ d
         at k j (yes d) =
             choose-eq (max (leftEdge r k .source) (leftEdge r k .target)) i _ _ d
-            ∙ any-of _ _ (edgeSlot r p k) (live-inside (h .edges) _ (m .edgesLive k j))
+            ∙ any-of _ _ (edgeSlot r p k) (liveAt-lt (h .edges) _ (m .edgesLive k j))
             (joins-take (suc i) k (edgeSlot r p k) (omega arith) (omega arith) ∙ joins-of k j)
 
     same-node : (i j : ℕ) → i < leftNodes r → j < leftNodes r → nodeSlot p i ≡ nodeSlot p j → i ≡ j
-    same-node i j k l e = at (decLt i j) (decLt j i)
-      where
-        at : Dec (i < j) → Dec (j < i) → i ≡ j
-        at (yes d) f = absurd (m .nodesApart i j d l e)
-        at (no d) (yes f) = absurd (m .nodesApart j i f k (sym e))
-        at (no d) (no f) = omega arith
+    same-node i j = apart-same (nodeSlot p) (leftNodes r) i j (m .nodesApart)
 
     left-touches : (i k x : ℕ) → i < leftNodes r → k < leftEdges r → edgeSlot r p k ≡ x
         → (edgeAt h x .source ≡ nodeSlot p i) ⊎ (edgeAt h x .target ≡ nodeSlot p i) → leftTouches h r i k ≡ true
@@ -238,7 +232,7 @@ module _ (h : Host) (r : Rule) (p : List ℕ) (size : length p ≡ leftNodes r +
     node-level : (i : ℕ) → i < leftNodes r → Level i
     unfolding clauses marksAgree
     node-level i k = (
-      rw (node-candidates i k) (live-inside (h .nodes) _ (m .nodesLive i k)),
+      rw (node-candidates i k) (liveAt-lt (h .nodes) _ (m .nodesLive i k)),
       node-fits i k
           ∙ both-of _ _ (m .nodesLive i k)
           (both-of _ _ (absent-of _ _ (λ j l e. let f : j < i = omega (arith, nodes-before i k) in m .nodesApart j i f k (sym (getD-take i p j 0 f) ∙ e)))
@@ -253,7 +247,7 @@ module _ (h : Host) (r : Rule) (p : List ℕ) (size : length p ≡ leftNodes r +
     edge-level : (k : ℕ) → k < leftEdges r → Level (leftNodes r + k)
     unfolding clauses
     edge-level k j = (
-      rw (edge-candidates k j) (live-inside (h .edges) _ (m .edgesLive k j)),
+      rw (edge-candidates k j) (liveAt-lt (h .edges) _ (m .edgesLive k j)),
       edge-fits k j
           ∙ both-of _ _ (joins-of k j)
           (both-of _ _ (absent-of _ _ (λ i l e. let f : i < k = omega (arith, edges-before k j) in m .edgesApart i k f j (sym (edge-before k i f) ∙ e)))

@@ -1,10 +1,10 @@
 -- Laws of pieces: bytes cut into pieces of one width, pieces joined again, one piece stored.
 -- Rests on Basics, Layout and Laws/Numbers.
-use Prim.Native.Nat.{ℕ, zero, suc, _+_, _*_, _/_, _%_, _<_, _≤_}
+use Prim.Native.Nat.{ℕ, zero, suc, _+_, _-_, _*_, _/_, _%_, _<_, _≤_}
 use mathlib.Core.Path.{_≡_, refl, sym, _∙_, ap}
 use mathlib.Core.List.{List, [], _∷_, _++_, map, append-assoc, append-nil}
 use mathlib.Core.Bool.{Bool, true}
-use native.Mathlib.Nat.{suc-mul, zero-mul, zero-add, suc-add, add-comm, div-add-mod', div-mul-le-self, mul-div-cancel, mul-mod-left, mul-le-mul-right}
+use native.Mathlib.Nat.{suc-mul, zero-mul, zero-add, suc-add, sub-zero, add-comm, div-add-mod', div-mul-le-self, mul-div-cancel, mul-mod-left, mul-le-mul-right}
 use native.Mathlib.Omega.{arith}
 use lib.ListN.{length, getD, set, take, drop, length-append, length-take, length-drop, take-append-drop, length-map}
 use lib.Seq.{length-take-le, take-all, take-at, drop-at, take-add, drop-drop, take-append-add, drop-append-add, getD-take, getD-drop, take-nil, slice, paste, set-append-left, take-set-le, drop-set-add}
@@ -79,7 +79,20 @@ length-slot w bs i h =
 pub Bytes-pieces : (w n : ℕ) (bs : List ℕ) (i : ℕ) → Bytes bs → i < n → Bytes (getD (pieces w n bs) i [])
 Bytes-pieces w n bs i h k = rw (getD-pieces w n bs i k) (Bytes-take w (drop (i * w) bs) (Bytes-drop (i * w) bs h))
 
+-- the pieces from a number on
+pub pieces-drop : (w m n : ℕ) (bs : List ℕ) → m ≤ n → pieces w (n - m) (drop (m * w) bs) ≡ drop m (pieces w n bs)
+pieces-drop w zero n bs h = rw (sub-zero n, zero-mul w)
+pieces-drop w (suc m) zero bs h = absurd (omega arith)
+pieces-drop w (suc m) (suc n) bs h =
+    let e : suc n - suc m ≡ n - m = omega arith in
+    rw (e, suc-mul m w, add-comm (m * w) w, ← (drop-drop (m * w) w bs), pieces-drop w m n (drop w bs) (omega arith)) (unfold pieces in refl)
+
 -- Joining.
+
+pub concat-append : (ls ms : List (List ℕ)) → concat (ls ++ ms) ≡ concat ls ++ concat ms
+unfolding concat
+concat-append [] ms = refl
+concat-append (l ∷ ls) ms = ap (λ (m : List ℕ). l ++ m) (concat-append ls ms) ∙ sym (append-assoc l (concat ls) (concat ms))
 
 pub concat-pieces : (w n : ℕ) (bs : List ℕ) → concat (pieces w n bs) ≡ take (n * w) bs
 unfolding pieces concat
@@ -139,6 +152,17 @@ pub fits-length : (slot most : ℕ) (bs : List ℕ) → fitsTable slot most bs �
 unfolding fitsTable
 fits-length slot most bs e = let t = both-true _ _ e in (eqb-true _ _ (t .0), leb-true _ _ (t .1))
 
+-- a table of the same length fits too
+pub fits-same : (slot most : ℕ) (a b : List ℕ) → length b ≡ length a → fitsTable slot most a ≡ true → fitsTable slot most b ≡ true
+unfolding fitsTable
+fits-same slot most a b e h = rw e h
+
+-- a slot of the table lies in it
+pub slot-within : (w i n : ℕ) → i < n / w → i * w + w ≤ n
+slot-within w i n h =
+    let k : suc i * w ≤ n / w * w = mul-le-mul-right w h in
+    omega (arith, suc-mul i w, div-mul-le-self n w)
+
 -- Storing.
 
 -- the bytes with piece i replaced by b
@@ -195,9 +219,8 @@ pieces-stored w (suc n) (suc i) b bs h k l =
 
 pub cut-stored : (w i : ℕ) (b bs : List ℕ) → i < length bs / w → length b ≡ w → cut w (stored w i b bs) ≡ set (cut w bs) i b
 cut-stored w i b bs h k =
-    let j : suc i * w ≤ length bs / w * w = mul-le-mul-right w h in
-    let d = div-add-mod' (length bs) w in
-    rw (length-stored w i b bs (omega (arith, suc-mul i w)) k) (pieces-stored w (length bs / w) i b bs h (omega arith) k)
+    rw (length-stored w i b bs (slot-within w i (length bs) h) k)
+    (pieces-stored w (length bs / w) i b bs h (div-mul-le-self (length bs) w) k)
 
 pub concat-set : (w : ℕ) (ls : List (List ℕ)) (i : ℕ) (b : List ℕ) → Wide w ls → i < length ls
     → concat (set ls i b) ≡ stored w i b (concat ls)

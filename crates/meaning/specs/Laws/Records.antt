@@ -11,7 +11,7 @@ use borrow.Author.Tests.{eqb-true, ltb-true, lt-ltb}
 use lib.Dec.{eqb, ltb}
 use lib.ListN.{length, getD, take, drop, replicate, length-append, length-take, length-drop, length-replicate, length-map, length-reverse}
 use lib.Seq.{take-at, length-take-le}
-use Rattle.meaning.specs.Basics.{choose, both, clauses, zeros, concat, padded}
+use Rattle.meaning.specs.Basics.{choose, both, clauses, every, zeros, concat, padded}
 use Rattle.meaning.specs.Numbers.{bytes}
 use Rattle.meaning.specs.Layout.{Slot, Node, Edge, Tables, Host, Change, ofNode, ofEdge, put, undone, nodeLength, edgeLength, recordLength, pieces, cut, writeNode, writeEdge, writeNodes, writeEdges, recordBytes, writeRecord}
 use Rattle.meaning.specs.Calls.{slotOf, readRecord, keepsRecord, counted, tablesUndone}
@@ -19,7 +19,7 @@ use Rattle.meaning.specs.declared.Layout.{Layout}
 use Rattle.meaning.specs.Laws.Tests.{both-true, both-of, either-true, either-left, either-right, choose-eq, choose-ne, zeros-of}
 use Rattle.meaning.specs.Laws.Every.{Every}
 use Rattle.meaning.specs.Laws.Numbers.{length-bytes, number-bytes}
-use Rattle.meaning.specs.Laws.Pieces.{map-set, Wide, stored, cut-stored, pieces-concat, pieces-suc, take-second, drop-both}
+use Rattle.meaning.specs.Laws.Pieces.{map-set, Wide, stored, length-concat, cut-stored, pieces-concat, pieces-suc, take-second, drop-both}
 use Rattle.meaning.specs.Laws.Layout.{length-padded}
 use Rattle.meaning.specs.Laws.Hosts.{LegalNode, LegalEdge, OnLive, LegalHost, length-writeNode, length-writeEdge, cut-nodes, cut-edges}
 
@@ -231,32 +231,50 @@ module _ (L : Layout) (wide : 0 < L .width) where
   Wide-records (c ∷ cs) h zero k = length-writeRecord L wide c (h .0)
   Wide-records (c ∷ cs) h (suc i) k = Wide-records cs (h .1) i (omega arith)
 
+  pub keeps-records : (m n : ℕ) (cs : List (Change (Slot Node) (Slot Edge))) → Every (LegalChange L) cs → Every (Within m n) cs
+      → every (keepsRecord L m n) (map (writeRecord L) cs) ≡ true
+  unfolding every
+  keeps-records m n [] h k = refl
+  keeps-records m n (c ∷ cs) h k =
+      both-of _ _ (keepsRecord-write L wide m n c (h .0) (k .0)) (keeps-records m n cs (h .1) (k .1))
+
   read-write-records : (cs : List (Change (Slot Node) (Slot Edge))) → Every (LegalChange L) cs
       → map (readRecord L) (map (writeRecord L) cs) ≡ map (mapChange (writeNode L) (writeEdge L)) cs
   read-write-records [] h = refl
   read-write-records (c ∷ cs) h = let p = read-write-record L wide c (h .0) in let q = read-write-records cs (h .1) in cc
 
-  -- a run's journal, whose last record is first in the list, read back from its bytes
-  pub records-written : (js : List (Change (Slot Node) (Slot Edge))) (n : ℕ) → Every (LegalChange L) js
-      → reverse (map (readRecord L) (counted L (length js) (padded n (concat (map (writeRecord L) (reverse js))))))
-      ≡ map (mapChange (writeNode L) (writeEdge L)) js
-  records-written js n h =
-      ap (λ (m : ℕ). reverse (map (readRecord L) (counted L m (padded n (concat written)))))
-      (sym (length-map (reverse js) (writeRecord L) ∙ length-reverse js))
-      ∙ ap (λ (l : List (List ℕ)). reverse (map (readRecord L) l)) (pieces-concat (recordLength L) written _ (Wide-records (reverse js) legal))
-      ∙ ap reverse (read-write-records (reverse js) legal ∙ map-reverse (mapChange (writeNode L) (writeEdge L)) js)
-      ∙ reverse-reverse (map (mapChange (writeNode L) (writeEdge L)) js)
-    where
-      written : List (List ℕ)
-      written = map (writeRecord L) (reverse js)
+  -- a run's journal, whose last record is first in the list: the records' bytes, the first record first
+  module _ (js : List (Change (Slot Node) (Slot Edge))) (legal : Every (LegalChange L) js) where
+    abbrev written : List (List ℕ)
+    written = map (writeRecord L) (reverse js)
 
-      legal : Every (LegalChange L) (reverse js)
-      legal = Every-reverse (LegalChange L) js h
+    abbrev turned : Every (LegalChange L) (reverse js)
+    turned = Every-reverse (LegalChange L) js legal
+
+    count-written : length written ≡ length js
+    count-written = length-map (reverse js) (writeRecord L) ∙ length-reverse js
+
+    pub length-written : length (concat written) ≡ length js * recordLength L
+    length-written =
+        length-concat (recordLength L) written (Wide-records (reverse js) turned) ∙ ap (λ (n : ℕ). n * recordLength L) count-written
+
+    pub counted-written : (n : ℕ) → counted L (length js) (padded n (concat written)) ≡ written
+    counted-written n =
+        ap (λ (k : ℕ). counted L k (padded n (concat written))) (sym count-written)
+        ∙ pieces-concat (recordLength L) written _ (Wide-records (reverse js) turned)
+
+    -- read back
+    pub records-written : (n : ℕ) → reverse (map (readRecord L) (counted L (length js) (padded n (concat written))))
+        ≡ map (mapChange (writeNode L) (writeEdge L)) js
+    records-written n =
+        ap (λ (l : List (List ℕ)). reverse (map (readRecord L) l)) (counted-written n)
+        ∙ ap reverse (read-write-records (reverse js) turned ∙ map-reverse (mapChange (writeNode L) (writeEdge L)) js)
+        ∙ reverse-reverse (map (mapChange (writeNode L) (writeEdge L)) js)
 
   pub undo-written : (js : List (Change (Slot Node) (Slot Edge))) (n : ℕ) (h : Host) → Every (LegalChange L) js → LegalHost L h
       → tablesUndone L (writeNodes L (h .nodes)) (writeEdges L (h .edges)) (padded n (concat (map (writeRecord L) (reverse js)))) (length js)
       ≡ mapTables (writeNode L) (writeEdge L) (undone js h)
   unfolding tablesUndone
   undo-written js n h l k =
-      (λ i. undone (records-written js n l i) (record { nodes = cut-nodes L h k i; edges = cut-edges L h k i }))
+      (λ i. undone (records-written js l n i) (record { nodes = cut-nodes L h k i; edges = cut-edges L h k i }))
       ∙ undone-map (writeNode L) (writeEdge L) js h

@@ -11,7 +11,7 @@ use Rattle.meaning.specs.Layout.{Slot, free, live, Node, Edge, Host, isL
 use Rattle.meaning.specs.Image.{Rule}
 use Rattle.meaning.specs.Matching.{leftNodes, leftEdges, Match}
 use Rattle.meaning.specs.Applying.{Right, Ledger, store, stores, lowestFree, freeSlots, edgesGo, nodesChange, Added, addNodes, between, addEdges, changed}
-use Rattle.meaning.specs.Laws.Slots.{lowestFree-lt, lowestFree-free, freeSlots-come, freeSlots-go, freeSlots-stay}
+use Rattle.meaning.specs.Laws.Slots.{lowestFree-lt, lowestFree-free, come-free, freeSlots-go, freeSlots-stay}
 use Rattle.meaning.specs.Laws.Applying.{stores-append, rightSide-some, Applies}
 
 -- The slots of a list are live in a table, and no two are the same.
@@ -61,7 +61,7 @@ edgesGo-free (x ∷ l) g p =
     let h = edgesGo-free l (store (ofEdge x free) g) (placed-rest (g .host .edges) x l free p) in
     omega (arith, freeSlots-go (g .host .edges) x (p .alive 0 (omega arith)))
 
-edgesGo-nodes : (l : List ℕ) (g : Ledger) → stores (map (λ x. ofEdge x free) l) g .host .nodes ≡ g .host .nodes
+pub edgesGo-nodes : (l : List ℕ) (g : Ledger) → stores (map (λ x. ofEdge x free) l) g .host .nodes ≡ g .host .nodes
 unfolding stores store put
 edgesGo-nodes [] g = refl
 edgesGo-nodes (x ∷ l) g = edgesGo-nodes l (store (ofEdge x free) g)
@@ -78,8 +78,7 @@ nodesChange-free (n ∷ ns) (x ∷ l) g p =
     let h = nodesChange-free ns l (store (ofNode x (live n)) g) (placed-rest (g .host .nodes) x l (live n) p) in
     omega (arith, freeSlots-stay (g .host .nodes) x n (p .alive 0 (omega arith)))
 
-nodesChange-edges : (ns : List Node) (l : List ℕ) (g : Ledger)
-    → stores (nodesChange ns l) g .host .edges ≡ g .host .edges
+pub nodesChange-edges : (ns : List Node) (l : List ℕ) (g : Ledger) → stores (nodesChange ns l) g .host .edges ≡ g .host .edges
 unfolding stores store put nodesChange
 nodesChange-edges [] [] g = refl
 nodesChange-edges (n ∷ ns) [] g = refl
@@ -95,11 +94,6 @@ come-live t a x h = getD-set-other t (lowestFree t) x (live a) free (λ e. clash
   where
     clash : x ≡ lowestFree t → ⊥
     clash e = let q = lowestFree-free t in let z : _≡_ {A = ℕ} 0 1 = cc in omega arith
-
-come-free : {A : Type 0} (t : List (Slot A)) (a : A) → 0 < freeSlots t
-    → suc (freeSlots (set t (lowestFree t) (live a))) ≡ freeSlots t
-unfolding isLive
-come-free t a h = freeSlots-come t (lowestFree t) a (lowestFree-lt t h) (rw (lowestFree-free t))
 
 pub addNodes-free : (l : List Node) (g : Ledger) → length l ≤ freeSlots (g .host .nodes)
     → freeSlots (addNodes l g .ledger .host .nodes) + length l ≡ freeSlots (g .host .nodes)

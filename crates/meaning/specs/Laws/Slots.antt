@@ -75,6 +75,12 @@ freeSlots-come (live b ∷ l) zero a h e = let z : _≡_ {A = ℕ} 0 1 = cc in a
 freeSlots-come (free ∷ l) (suc i) a h e = ap suc (freeSlots-come l i a (omega arith) e)
 freeSlots-come (live b ∷ l) (suc i) a h e = freeSlots-come l i a (omega arith) e
 
+-- one slot fewer is free once the lowest is taken
+pub come-free : {A : Type 0} (t : List (Slot A)) (a : A) → 0 < freeSlots t
+    → suc (freeSlots (set t (lowestFree t) (live a))) ≡ freeSlots t
+unfolding isLive
+come-free t a h = freeSlots-come t (lowestFree t) a (lowestFree-lt t h) (rw (lowestFree-free t))
+
 pub freeSlots-go : {A : Type 0} (l : List (Slot A)) (i : ℕ) → liveAt l i ≡ true
     → freeSlots (set l i free) ≡ suc (freeSlots l)
 unfolding freeSlots isLive

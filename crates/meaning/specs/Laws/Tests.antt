@@ -2,7 +2,7 @@
 -- `w-true` and `w-false` read a test's outcome, `w-of` and `w-no` show it, `w-yes` rewrites by a part of it.
 use Prim.Native.Nat.{ℕ, zero, suc, _+_, _-_, _<_, _≤_}
 use mathlib.Core.Path.{_≡_, refl, sym, _∙_, ap}
-use mathlib.Core.List.{List, [], _∷_, _++_}
+use mathlib.Core.List.{List, [], _∷_, _++_, map}
 use mathlib.Core.Bool.{Bool, true, false, not}
 use mathlib.Core.Option.{Option, some, none}
 use mathlib.Core.Logic.{_⊎_, inl, inr}
@@ -10,8 +10,12 @@ use native.Mathlib.Omega.{arith}
 use native.Mathlib.Decide.{ℕ-discrete}
 use borrow.Author.Tests.{eq-eqb, ne-eqb, eqb-true, eqb-false, lt-ltb, le-ltb, not-true}
 use lib.Dec.{ltb, eqb}
-use lib.ListN.{length, getD, replicate}
+use lib.ListN.{length, getD, drop, replicate}
 use Rattle.meaning.specs.Basics.{choose, both, either, clauses, all, any, every, absent, same, zeros, isEmpty, isSome, ensure, each, _>>_, _>>=_}
+
+pub not-so : (b : Bool) → (b ≡ true → ⊥) → b ≡ false
+not-so true f = absurd (f refl)
+not-so false f = refl
 
 pub both-true : (a b : Bool) → both a b ≡ true → (a ≡ true) × (b ≡ true)
 unfolding both
@@ -25,6 +29,11 @@ both-no a b e = rw e
 pub both-yes : (a b : Bool) → a ≡ true → both a b ≡ b
 unfolding both
 both-yes a b e = rw e
+
+pub both-last : (a : Bool) → a ≡ both a true
+unfolding both
+both-last true = refl
+both-last false = refl
 
 pub choose-lt : {A : Type 0} (a b : ℕ) (x y : A) → a < b → choose (ltb a b) x y ≡ x
 unfolding choose
@@ -85,6 +94,11 @@ pub either-true : (a b : Bool) → either a b ≡ true → (a ≡ true) ⊎ (b �
 unfolding either
 either-true true b e = inl refl
 either-true false b e = inr e
+
+pub either-not : (a b : Bool) → either a b ≡ true → b ≡ false → a ≡ true
+unfolding either
+either-not true b e f = refl
+either-not false b e f = let z : _≡_ {A = ℕ} 0 1 = cc in absurd (omega arith)
 
 pub absent-false : (c : ℕ) (l : List ℕ) → absent c l ≡ false → (j : ℕ) × (j < length l) × (getD l j 0 ≡ c)
 unfolding absent both
@@ -161,6 +175,17 @@ every-append f (a ∷ l) m = at (f a) (every-append f l m)
     at true e = e
     at false e = refl
 
+pub every-map : {A B : Type 0} (f : B → Bool) (h : A → B) (l : List A) → every f (map h l) ≡ every (λ a. f (h a)) l
+unfolding every
+every-map f h [] = refl
+every-map f h (a ∷ l) = ap (both (f (h a))) (every-map f h l)
+
+pub every-drop : {A : Type 0} (f : A → Bool) (m : ℕ) (l : List A) → every f l ≡ true → every f (drop m l) ≡ true
+unfolding every
+every-drop f zero l e = e
+every-drop f (suc m) [] e = e
+every-drop f (suc m) (a ∷ l) e = every-drop f m l (both-true _ _ e .1)
+
 pub same-true : (l m : List ℕ) → same l m ≡ true → l ≡ m
 unfolding same
 same-true [] [] e = refl
@@ -194,6 +219,11 @@ pub zeros-of : (n : ℕ) → zeros (replicate n 0) ≡ true
 unfolding zeros both
 zeros-of zero = refl
 zeros-of (suc n) = zeros-of n
+
+pub zero-at : (n i : ℕ) → _≡_ {A = ℕ} (getD (replicate n 0) i 0) 0
+zero-at zero i = refl
+zero-at (suc n) zero = refl
+zero-at (suc n) (suc i) = zero-at n i
 
 pub empty-true : {A : Type 0} (l : List A) → isEmpty l ≡ true → l ≡ []
 unfolding isEmpty

@@ -1,39 +1,38 @@
 -- A run from tables that keep the layout leaves tables that keep it again, and undo on what a result left, with the count in
 -- its report, gives back the tables byte for byte and a journal of zeros.
--- Rests on Calls, Laws/Hosts, Laws/Records, Laws/Restoring, Laws/LegalCommands and Laws/LegalImage.
-use Prim.Native.Nat.{ℕ, zero, suc, _+_, _-_, _*_, _/_, _^_, _<_, _≤_}
-use mathlib.Core.Path.{_≡_, refl, sym, _∙_, ap}
-use mathlib.Core.List.{List, [], _∷_, _++_, map, reverse}
+-- Rests on Calls, Laws/Hosts, Laws/Records, Laws/Restoring, Laws/LegalCommands, Laws/LegalImage and Laws/Calls.
+use Prim.Native.Nat.{ℕ, _+_, _-_, _*_, _/_, _^_, _<_, _≤_}
+use mathlib.Core.Path.{_≡_, refl, _∙_, ap}
+use mathlib.Core.List.{List, [], _++_, map, reverse}
 use mathlib.Core.Bool.{true}
 use mathlib.Core.Option.{Option, some, none}
 use native.Mathlib.Nat.{div-add-mod', div-mul-le-self, mul-le-mul-right}
 use native.Mathlib.Omega.{arith}
 use borrow.Author.Tests.{eq-eqb, le-leb}
-use lib.ListN.{length, drop, replicate, length-map, length-reverse, replicate-append-replicate}
+use lib.ListN.{length, drop, replicate, replicate-append-replicate}
 use lib.Seq.{drop-at}
-use Rattle.meaning.specs.Basics.{choose, every, concat, padded, firstFailing}
+use Rattle.meaning.specs.Basics.{choose, concat, padded, firstFailing}
 use Rattle.meaning.specs.Numbers.{number, bytes, whole}
 use Rattle.meaning.specs.Layout.{Slot, Node, Edge, Host, Change, base, nodeLength, edgeLength, recordLength, fitsTable, readNode, readEdge, readNodes, readEdges, writeNode, writeEdge, writeNodes, writeEdges, writeRecord, keepsLayout}
 use Rattle.meaning.specs.Image.{Program, program}
 use Rattle.meaning.specs.Commands.{State, Out, exec}
-use Rattle.meaning.specs.Calls.{Left, reportOf, refused, referencesHold, runRefusal, journalRoom, finished, started, runOn, run, keepsRecord, counted, keepsRecords, undoRefusal, tablesUndone, undoOn, undo}
+use Rattle.meaning.specs.Calls.{Left, reportOf, refused, runRefusal, journalRoom, finished, started, runOn, run, keepsRecords, undoRefusal, tablesUndone, undoOn, undo}
 use Rattle.meaning.specs.Laws.Tests.{both-of}
 use Rattle.meaning.specs.Laws.Every.{Every}
 use Rattle.meaning.specs.Laws.Numbers.{Bytes, length-bytes, number-bytes}
-use Rattle.meaning.specs.Laws.Pieces.{Wide, length-concat, pieces-concat, fits-length, length-read}
+use Rattle.meaning.specs.Laws.Pieces.{fits-length, fits-same, length-read}
 use Rattle.meaning.specs.Laws.Layout.{length-padded, write-read-nodes, write-read-edges}
 use Rattle.meaning.specs.Laws.Hosts.{legal-host, length-writeNodes, length-writeEdges, keepsLayout-write}
-use Rattle.meaning.specs.Laws.Records.{LegalChange, Within, length-writeRecord, keepsRecord-write, Every-reverse, mapTables, undo-written}
-use Rattle.meaning.specs.Laws.Applying.{firstFailing-none}
+use Rattle.meaning.specs.Laws.Records.{LegalChange, Every-reverse, mapTables, keeps-records, length-written, counted-written, undo-written}
 use Rattle.meaning.specs.Laws.Restoring.{from-start}
 use Rattle.meaning.specs.Laws.Commands.{exec-from, exec-room}
 use Rattle.meaning.specs.Laws.Legality.{LegalLedger}
 use Rattle.meaning.specs.Laws.LegalCommands.{LegalRules, exec-legal, exec-attached}
 use Rattle.meaning.specs.Laws.LegalImage.{program-legal}
+use Rattle.meaning.specs.Laws.Calls.{Accepted, accepted}
 use Rattle.meaning.specs.declared.Layout.{Layout}
 use Rattle.meaning.specs.declared.Stop.the-variants.{EdgeOnFreeNode}
 use Rattle.meaning.specs.declared.Refusal.{Refusal}
-use Rattle.meaning.specs.declared.Refusal.the-variants.{BadForm}
 use Rattle.meaning.specs.declared.Answer.the-variants.{Result, Stopped as stoppedBy}
 use Rattle.meaning.specs.declared.End.{End}
 use Rattle.meaning.specs.declared.End.the-variants.{Done, Failed, Broke, Stopped}
@@ -51,48 +50,15 @@ base-numbered = record { narrow = omega arith; nodes = omega arith; edges = omeg
 -- The journal that a run writes.
 
 module _ (L : Layout) (narrow : 0 < L .width) where
-  Wide-records : (cs : List (Change (Slot Node) (Slot Edge))) → Every (LegalChange L) cs → Wide (recordLength L) (map (writeRecord L) cs)
-  Wide-records [] h i k = absurd (omega arith)
-  Wide-records (c ∷ cs) h zero k = length-writeRecord L narrow c (h .0)
-  Wide-records (c ∷ cs) h (suc i) k = Wide-records cs (h .1) i (omega arith)
-
-  keeps-records : (m n : ℕ) (cs : List (Change (Slot Node) (Slot Edge))) → Every (LegalChange L) cs → Every (Within m n) cs
-      → every (keepsRecord L m n) (map (writeRecord L) cs) ≡ true
-  unfolding every
-  keeps-records m n [] h k = refl
-  keeps-records m n (c ∷ cs) h k =
-      both-of _ _ (keepsRecord-write L narrow m n c (h .0) (k .0)) (keeps-records m n cs (h .1) (k .1))
-
-  module _ (js : List (Change (Slot Node) (Slot Edge))) (legal : Every (LegalChange L) js) where
-    -- the records' bytes, the first record first
-    abbrev written : List (List ℕ)
-    written = map (writeRecord L) (reverse js)
-
-    Wide-written : Wide (recordLength L) written
-    Wide-written = Wide-records (reverse js) (Every-reverse (LegalChange L) js legal)
-
-    count-written : length written ≡ length js
-    count-written = length-map (reverse js) (writeRecord L) ∙ length-reverse js
-
-    length-written : length (concat written) ≡ length js * recordLength L
-    length-written = length-concat (recordLength L) written Wide-written ∙ ap (λ (n : ℕ). n * recordLength L) count-written
-
-    counted-written : (n : ℕ) → counted L (length js) (padded n (concat written)) ≡ written
-    counted-written n =
-        ap (λ (k : ℕ). counted L k (padded n (concat written))) (sym count-written)
-        ∙ pieces-concat (recordLength L) written _ Wide-written
-
-    -- the counted records cleared
-    cleared : (n : ℕ) → length js * recordLength L ≤ n
-        → replicate (length js * recordLength L) 0 ++ drop (length js * recordLength L) (padded n (concat written)) ≡ replicate n 0
-    cleared n h =
-        let k = length js * recordLength L in
-        let e : k + (n - length (concat written)) ≡ n = omega (arith, length-written) in
-        rw (drop-at (concat written) (replicate (n - length (concat written)) 0) k length-written, replicate-append-replicate, e)
-
-fits-same : (slot most : ℕ) (a b : List ℕ) → length a ≡ length b → fitsTable slot most b ≡ true → fitsTable slot most a ≡ true
-unfolding fitsTable
-fits-same slot most a b e h = rw e h
+  -- the counted records cleared
+  cleared : (js : List (Change (Slot Node) (Slot Edge))) → Every (LegalChange L) js → (n : ℕ) → length js * recordLength L ≤ n
+      → replicate (length js * recordLength L) 0 ++ drop (length js * recordLength L) (padded n (concat (map (writeRecord L) (reverse js))))
+      ≡ replicate n 0
+  cleared js legal n h =
+      let k = length js * recordLength L in
+      let l : length (concat (map (writeRecord L) (reverse js))) ≡ k = length-written L narrow js legal in
+      let e : k + (n - length (concat (map (writeRecord L) (reverse js)))) ≡ n = omega arith in
+      rw (drop-at (concat (map (writeRecord L) (reverse js))) (replicate (n - length (concat (map (writeRecord L) (reverse js)))) 0) k l, replicate-append-replicate, e)
 
 -- The report.
 
@@ -250,9 +216,9 @@ module _ (L : Layout) (numbered : Numbered L) (nodes edges journal : List ℕ) (
     undo-result report h =
         rw (
           eq-eqb (length report) 8 h,
-          fits-same (nodeLength L) (L .nodes) (writeNodes L (after .nodes)) nodes length-nodes nodesFit,
-          fits-same (edgeLength L) (L .edges) (writeEdges L (after .edges)) edges length-edges edgesFit,
-          fits-same (recordLength L) (L .records) journalAfter journal length-journal journalFits,
+          fits-same (nodeLength L) (L .nodes) nodes (writeNodes L (after .nodes)) length-nodes nodesFit,
+          fits-same (edgeLength L) (L .edges) edges (writeEdges L (after .edges)) length-edges edgesFit,
+          fits-same (recordLength L) (L .records) journal journalAfter length-journal journalFits,
           keeps,
           tables,
           write-read-nodes L nodes edges layout hn (fits-length (nodeLength L) (L .nodes) nodes nodesFit .0),
@@ -276,44 +242,21 @@ module _ (L : Layout) (numbered : Numbered L) (nodes edges journal : List ℕ) (
 module _ (L : Layout) (numbered : Numbered L) (nodes edges journal image : List ℕ) (fuel : ℕ) (report : List ℕ) (hn : Bytes nodes)
     (he : Bytes edges) (hi : Bytes image)
   where
-    record Accepted (p : Program) : Type 0 where
-      nodesFit : fitsTable (nodeLength L) (L .nodes) nodes ≡ true
-      edgesFit : fitsTable (edgeLength L) (L .edges) edges ≡ true
-      journalFits : fitsTable (recordLength L) (L .records) journal ≡ true
-      layout : keepsLayout L nodes edges ≡ true
-      rules : LegalRules (p .rules)
-
-    accepted : (p : Program) → runRefusal L nodes edges journal image fuel report ≡ none → program image ≡ some p → Accepted p
-    unfolding runRefusal referencesHold
-    accepted p e f =
-        let t1 = firstFailing-none _ _ _ e in
-        let t2 = firstFailing-none _ _ _ (t1 .1) in
-        let t3 = firstFailing-none _ _ _ (t2 .1) in
-        let t4 = firstFailing-none _ _ _ (t3 .1) in
-        let t5 = firstFailing-none _ _ _ (t4 .1) in
-        let t6 = firstFailing-none _ _ _ (t5 .1) in
-        let t7 = firstFailing-none _ _ _ (t6 .1) in
-        let t8 = firstFailing-none _ _ _ (t7 .1) in
-        let t9 = firstFailing-none _ _ _ (t8 .1) in
-        record {
-          nodesFit = t2 .0;
-          edgesFit = t3 .0;
-          journalFits = t4 .0;
-          layout = t7 .0;
-          rules = program-legal image p hi f (rw f at (t9 .0));
-        }
+    -- the rules of an accepted program are legal
+    rules : (a : Accepted L nodes edges journal image fuel report) → LegalRules (a .tree .rules)
+    rules a = program-legal image (a .tree) hi (a .form) (a .references)
 
     -- a property of what the call leaves: of what a refused call leaves, and of what a started one does
     called : (P : Left → Type 0) → ((w : Refusal) → P (refused L w nodes edges journal report))
-        → ((p : Program) → Accepted p → P (started L p nodes edges journal fuel)) → P (run L nodes edges journal image fuel report)
+        → ((a : Accepted L nodes edges journal image fuel report) → P (started L (a .tree) nodes edges journal fuel))
+        → P (run L nodes edges journal image fuel report)
     unfolding run runOn
-    called P f g = at (runRefusal L nodes edges journal image fuel report) (program image) refl refl
+    called P f g = at (runRefusal L nodes edges journal image fuel report) refl
       where
-        at : (w : Option Refusal) (q : Option Program) → runRefusal L nodes edges journal image fuel report ≡ w → program image ≡ q
-            → P (runOn L w q nodes edges journal fuel report)
-        at (some w) q e h = f w
-        at none none e h = f BadForm
-        at none (some p) e h = g p (accepted p e h)
+        at : (w : Option Refusal) → runRefusal L nodes edges journal image fuel report ≡ w
+            → P (runOn L w (program image) nodes edges journal fuel report)
+        at (some w) e = f w
+        at none e = let a = accepted L nodes edges journal image fuel report e in rw (a .form) (g a)
 
     -- from tables that keep the layout, run leaves tables that keep it
     pub run-keeps : keepsLayout L nodes edges ≡ true
@@ -321,14 +264,14 @@ module _ (L : Layout) (numbered : Numbered L) (nodes edges journal image : List 
     unfolding refused
     run-keeps k =
         called (λ o. keepsLayout L (o .nodes) (o .edges) ≡ true) (λ w. k)
-        (λ p a. started-keeps L numbered nodes edges journal hn he (a .nodesFit) (a .edgesFit) (a .journalFits) (a .layout) p (a .rules) fuel)
+        (λ a. started-keeps L numbered nodes edges journal hn he (a .nodesFit) (a .edgesFit) (a .journalFits) (a .layout) (a .tree) (rules a) fuel)
 
     -- run never answers 7
     pub run-attached : run L nodes edges journal image fuel report .answer ≡ stoppedBy EdgeOnFreeNode → ⊥
     unfolding refused
     run-attached =
         called (λ o. o .answer ≡ stoppedBy EdgeOnFreeNode → ⊥) (λ w e. let z : _≡_ {A = ℕ} 0 1 = cc in omega arith)
-        (λ p a. started-attached L numbered nodes edges journal hn he (a .nodesFit) (a .edgesFit) (a .journalFits) (a .layout) p (a .rules) fuel)
+        (λ a. started-attached L numbered nodes edges journal hn he (a .nodesFit) (a .edgesFit) (a .journalFits) (a .layout) (a .tree) (rules a) fuel)
 
     -- undo of a result gives back what came in
     pub run-undo : (back : List ℕ) → length back ≡ 8 → run L nodes edges journal image fuel report .answer ≡ Result
@@ -337,4 +280,4 @@ module _ (L : Layout) (numbered : Numbered L) (nodes edges journal image : List 
     run-undo back h =
         called (λ o. o .answer ≡ Result → Restores L nodes edges journal back o)
         (λ w e. let z : _≡_ {A = ℕ} 0 1 = cc in absurd (omega arith))
-        (λ p a. finished-undo L numbered nodes edges journal hn he (a .nodesFit) (a .edgesFit) (a .journalFits) (a .layout) p (a .rules) fuel back h _)
+        (λ a. finished-undo L numbered nodes edges journal hn he (a .nodesFit) (a .edgesFit) (a .journalFits) (a .layout) (a .tree) (rules a) fuel back h _)

@@ -2,27 +2,28 @@
 -- and each right edge has a legal mark, a label that can be held, and right nodes for its ends.
 -- Rests on Applying, Laws/References, Laws/Applying, Laws/Hosts and Laws/Records.
 use Prim.Native.Nat.{ℕ, zero, suc, _+_, _<_, _≤_}
-use mathlib.Core.Path.{_≡_, refl, sym}
+use mathlib.Core.Path.{_≡_, refl, sym, _∙_, ap}
 use mathlib.Core.List.{List, [], _∷_, _++_, map}
-use mathlib.Core.Bool.{Bool, true, false}
+use mathlib.Core.Bool.{Bool, true, false, not}
 use mathlib.Core.Option.{Option, some, none}
 use mathlib.Core.Logic.{_⊎_, inl, inr}
 use native.Mathlib.Omega.{arith}
 use borrow.Author.Tests.{leb-true, ltb-true, not-true}
-use lib.Dec.{eqb, leb}
+use lib.Dec.{eqb, leb, ltb}
 use lib.ListN.{length, getD, take, drop}
 use lib.Seq.{getD-drop}
-use Rattle.meaning.specs.Basics.{choose, either, every, concat, each, _>>=_}
+use Rattle.meaning.specs.Basics.{choose, both, either, every, concat, each, _>>=_}
 use Rattle.meaning.specs.Numbers.{whole, sum, difference}
 use Rattle.meaning.specs.Layout.{Slot, free, live, Node, Edge, Host, isNodeMark, isEdgeMark}
 use Rattle.meaning.specs.Image.{RuleNode, RuleEdge, Rule, anyMark, isType}
-use Rattle.meaning.specs.References.{interfaceFits, endsExist, anyPlaced, ruleHolds}
+use Rattle.meaning.specs.References.{interfaceFits, endsExist, anyKept, anyPlaced, ruleHolds}
 use Rattle.meaning.specs.Matching.{nodeIn, edgeIn, nodeAt, edgeAt, leftNodes, nodeSlot, Assignment, atomOf}
 use Rattle.meaning.specs.FirstMatch.{isVariable, share, spare, taken, Item, paired, hostLabels, placedItems, orElse, valueFrom, assigned}
 use Rattle.meaning.specs.Applying.{elementValue, labelValue, rightNode, rightNodes, rightEdge, Right, rightSide}
-use Rattle.meaning.specs.Laws.Tests.{both-true, either-true, some-inj, bind-some, ensure-some}
+use Rattle.meaning.specs.Laws.Tests.{both-true, either-true, either-not, all-true, some-inj, bind-some, ensure-some}
 use Rattle.meaning.specs.Laws.Every.{Every, Every-true, Every-with}
 use Rattle.meaning.specs.Laws.Numbers.{sum-some, difference-some}
+use Rattle.meaning.specs.Laws.Pieces.{getD-map}
 use Rattle.meaning.specs.Laws.Layout.{Words}
 use Rattle.meaning.specs.Laws.Hosts.{LegalNode, LegalEdge, OnLive, LegalHost}
 use Rattle.meaning.specs.Laws.Records.{Every-append}
@@ -80,6 +81,18 @@ module _ (r : Rule) (holds : ruleHolds r ≡ true) where
   pub right-marked : Every (λ e. eqb (e .mark) anyMark ≡ false) (r .right .edges)
   unfolding ruleHolds anyPlaced
   right-marked = Every-true _ _ (λ e q. not-true _ q) (r .right .edges) (both-true _ _ (clauses-true _ holds 9) .1)
+
+  -- nor is a right node outside the interface
+  pub new-marked : (j : ℕ) → r .interface ≤ j → j < length (r .right .nodes) → (d : RuleNode)
+      → eqb (getD (r .right .nodes) j d .mark) anyMark ≡ false
+  unfolding ruleHolds anyPlaced anyKept
+  new-marked j h k d = at (either-true _ _ (all-true (anyKept r) (length (r .right .nodes)) (both-true _ _ (clauses-true _ holds 9) .0) j k))
+    where
+      at : (not (eqb (getD (map (λ n. n .mark) (r .right .nodes)) j 0) anyMark) ≡ true)
+          ⊎ (both (ltb j (r .interface)) (eqb (getD (map (λ n. n .mark) (r .left .nodes)) j 0) anyMark) ≡ true)
+          → eqb (getD (r .right .nodes) j d .mark) anyMark ≡ false
+      at (inl q) = ap (λ (m : ℕ). eqb m anyMark) (sym (getD-map (λ n. n .mark) (r .right .nodes) j d 0 k)) ∙ not-true _ q
+      at (inr q) = let l : j < r .interface = ltb-true _ _ (both-true _ _ q .0) in absurd (omega arith)
 
 -- Words.
 
@@ -218,7 +231,7 @@ pub record LegalRight (L : Layout) (right : Right) : Type 0 where
   pub edges : Every (LegalValue L (length (right .nodes))) (right .edges)
 
 -- any takes a mark that is legal
-node-mark : (m k : ℕ) → either (isNodeMark m) (eqb m anyMark) ≡ true → isNodeMark k ≡ true
+pub node-mark : (m k : ℕ) → either (isNodeMark m) (eqb m anyMark) ≡ true → isNodeMark k ≡ true
     → isNodeMark (choose (eqb m anyMark) k m) ≡ true
 unfolding choose
 node-mark m k h l = at (eqb m anyMark) (either-true _ _ h)
@@ -227,13 +240,6 @@ node-mark m k h l = at (eqb m anyMark) (either-true _ _ h)
     at true q = l
     at false (inl q) = q
     at false (inr q) = let z : _≡_ {A = ℕ} 0 1 = cc in absurd (omega arith)
-
-edge-mark : (m : ℕ) → either (isEdgeMark m) (eqb m anyMark) ≡ true → eqb m anyMark ≡ false → isEdgeMark m ≡ true
-edge-mark m h e = at (either-true _ _ h)
-  where
-    at : (isEdgeMark m ≡ true) ⊎ (eqb m anyMark ≡ true) → isEdgeMark m ≡ true
-    at (inl q) = q
-    at (inr q) = let z : _≡_ {A = ℕ} 0 1 = cc in absurd (omega arith)
 
 -- a right edge of the rule, between right nodes, that is not any
 record Sound (n : ℕ) (e : RuleEdge) : Type 0 where
@@ -274,7 +280,7 @@ module _ (L : Layout) (h : Host) (legal : LegalHost L h) where
         let u = label-legal α words (L .atoms) (e .label) (t .0) (k .form .label) (t .1) in
         rw (some-inj a _ (sym (t .2)))
         (record {
-          mark = edge-mark (e .mark) (k .form .mark) (k .marked);
+          mark = either-not _ _ (k .form .mark) (k .marked);
           source = k .ends .0;
           target = k .ends .1;
           size = u .0;

@@ -11,10 +11,21 @@ base-requires : tie.Need-base-requires
 base-requires c κs = search needs
 
 first-match-requires : tie.Need-first-match-requires
-first-match-requires c κs = (legal _ _ _ (c .before .before .before .before .before .pre .0) _ (c .base .ensures), is-rule _ _ _ (c .before .before .before .before .before .pre .0) _ (c .before .before .before .before .before .pre .1) _ (c .before .rule-part .ensures))
+first-match-requires c κs =
+    let part = c .before .before .before .before in
+    let s = part .before .before .before .before in (
+      legal _ _ _ (s .pre .0) _ (c .before .before .before .base .ensures),
+      (is-rule _ _ _ (s .pre .0) _ (s .pre .1 .0) _ (part .rule-part .ensures), s .pre .1 .1),
+    )
 
 returns : tie.Need-returns
-returns c = answers _ _ _ (c .before .before .before .before .before .before .pre .0) _ (c .before .before .before .before .before .before .pre .1) _ (c .before .before .rule-part .ensures) _ (c .before .base .ensures) _ (c .first-match .ensures)
+returns c =
+    let part = c .before .before .before .before .before in
+    let s = part .before .before .before .before in
+    let first = c .first-match .ensures in (
+      first .0,
+      answers _ _ _ (s .pre .0) _ (s .pre .1 .0) _ (part .rule-part .ensures) _ (c .before .before .before .before .base .ensures) _ _ _ (first .1),
+    )
 
 pub rule-match-spec : {M : Type 1} → statement M
 rule-match-spec =

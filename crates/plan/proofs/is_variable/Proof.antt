@@ -14,13 +14,13 @@ wide-requires : tie.Need-wide-requires
 wide-requires c κs = search needs
 
 returns : tie.Need-returns
-returns c = λ e q. ap (λ (x : ℕ). eqb x (c .before .before .before .before .before .args .v)) (c .wide .ensures .0) ∙ variable-yes _ (c .before .before .before .before .before .args .v) _ e q (c .before .before .before .if1 .taken) .1
+returns c = λ e q. ap (λ (x : ℕ). eqb x (c .before .before .before .before .before .args .v)) (c .wide .ensures .0) ∙ variable-yes _ _ e q (c .before .before .before .before .before .args .v) (c .before .before .before .if1 .taken) .1
 
 returns-2 : tie.Need-returns-2
-returns-2 c = λ e q. absurd (c .if2 .left (variable-yes _ (c .before .before .before .args .v) _ e q (c .before .if1 .taken) .0))
+returns-2 c = λ e q. absurd (c .if2 .left (variable-yes _ _ e q (c .before .before .before .args .v) (c .before .if1 .taken) .0))
 
 returns-3 : tie.Need-returns-3
-returns-3 c = λ e q. variable-no _ (c .before .before .args .v) _ e q (c .if1 .left)
+returns-3 c = λ e q. variable-no _ _ e q (c .before .before .args .v) (c .if1 .left)
 
 pub is-variable-spec : {M : Type 1} → statement M
 is-variable-spec =

@@ -6,13 +6,13 @@ use borrow.Author.Needs.{needs}
 use lib.ListN.{length}
 use Rattle.meaning.specs.Image.{Rule}
 use Rattle.references.proofs.Loops.{a-field, no-field, part-in, nearer}
-use Rattle.plan.specs.Plan.{Named}
+use Rattle.plan.specs.Plan.{AllLabelled}
 use Rattle.plan.proofs.Deciding.{Deciding, deciding-start, deciding-cut, deciding-done, deciding-next, next-low, next-decides}
 use Rattle.plan.proofs.plan_tests.Statement.{statement}
 use Rattle.plan.proofs.plan_tests.Tie as tie
 
 abbrev Inv-loop : tie.InvT-loop
-Inv-loop rule plan₀ start end tests at₀ t₀ plan at t = (r : Rule) → Named rule r plan₀ (length (r .variables)) → Deciding rule r plan tests at t
+Inv-loop rule plan₀ start end tests at₀ t₀ plan at t = (r : Rule) → AllLabelled rule r plan₀ → Deciding rule r plan tests at t
 
 abbrev μ-loop : tie.MeasureT-loop
 μ-loop rule plan₀ start end tests at₀ t₀ plan at t = length tests - at
@@ -25,7 +25,7 @@ element-copy-out-end c = search needs
 
 -- what a turn reads is a test of the rule
 low : (c : tie.After-decided Inv-loop μ-loop) → c .before .before .before .before .before .before .before .before .before .loop .t < 4
-low c = next-low (c .before .before .before .before .before .before .before .before .before .loop .inv _ (c .before .before .before .before .before .before .before .before .before .before .before .before .before .before .pre .named)) (c .before .before .before .before .before .before .before .before .loop-test .taken) (a-field _ _ (c .before .before .before .before .before .before .before .read-field .ensures) (c .before .before .before .before .before .found .given .1)) (c .before .before .before .part2 .ensures) (c .before .before .read-test .ensures)
+low c = next-low (c .before .before .before .before .before .before .before .before .before .loop .inv _ (c .before .before .before .before .before .before .before .before .before .before .before .before .before .before .pre .labelled)) (c .before .before .before .before .before .before .before .before .loop-test .taken) (a-field _ _ (c .before .before .before .before .before .before .before .read-field .ensures) (c .before .before .before .before .before .found .given .1)) (c .before .before .before .part2 .ensures) (c .before .before .read-test .ensures)
 
 part-requires : tie.Need-part-requires Inv-loop μ-loop
 part-requires c κs = search needs
@@ -49,7 +49,7 @@ read-test-requires : tie.Need-read-test-requires Inv-loop μ-loop
 read-test-requires c κs = search needs
 
 decided-requires : tie.Need-decided-requires Inv-loop μ-loop
-decided-requires c κs = next-decides (c .before .before .before .before .before .before .before .before .loop .inv _ (c .before .before .before .before .before .before .before .before .before .before .before .before .before .pre .named)) (c .before .before .before .before .before .before .before .loop-test .taken) (a-field _ _ (c .before .before .before .before .before .before .read-field .ensures) (c .before .before .before .before .found .given .1)) (c .before .before .part2 .ensures) (c .before .read-test .ensures)
+decided-requires c κs = next-decides (c .before .before .before .before .before .before .before .before .loop .inv _ (c .before .before .before .before .before .before .before .before .before .before .before .before .before .pre .labelled)) (c .before .before .before .before .before .before .before .loop-test .taken) (a-field _ _ (c .before .before .before .before .before .before .read-field .ensures) (c .before .before .before .before .found .given .1)) (c .before .before .part2 .ensures) (c .before .read-test .ensures)
 
 add-plan : tie.Need-add-plan Inv-loop μ-loop
 add-plan c = let h = low c in omega arith

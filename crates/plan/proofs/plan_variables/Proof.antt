@@ -1,5 +1,5 @@
--- `plan_variables` meets its contract. The loop's invariant: the plan has the first item with each variable before v.
--- The measure is how many are left.
+-- `plan_variables` meets its contract. The loop's invariant: the plan has the first item with each variable before v,
+-- and where. The measure is how many are left.
 use mathlib.Core.Path.{_≡_}
 use Prim.Native.Nat.{_-_, _≤_}
 use native.Mathlib.Omega.{arith}
@@ -40,6 +40,24 @@ mul-plan c = omega (arith, types-count (c .before .before .before .before .befor
 element-write-plan : tie.Need-element-write-plan Inv-loop μ-loop
 element-write-plan c = omega (arith, types-count (c .before .before .before .before .before .before .before .pre .laid), c .before .before .before .before .before .before .before .pre .laid .fewVariables, c .before .before .loop-test .taken)
 
+add-plan-2 : tie.Need-add-plan-2 Inv-loop μ-loop
+add-plan-2 c = search needs
+
+mul-plan-2 : tie.Need-mul-plan-2 Inv-loop μ-loop
+mul-plan-2 c = omega (arith, types-count (c .before .before .before .before .before .before .before .pre .laid), c .before .before .before .before .before .before .before .pre .laid .fewVariables, c .before .before .loop-test .taken)
+
+element-write-plan-2 : tie.Need-element-write-plan-2 Inv-loop μ-loop
+element-write-plan-2 c = omega (arith, types-count (c .before .before .before .before .before .before .before .pre .laid), c .before .before .before .before .before .before .before .pre .laid .fewVariables, c .before .before .loop-test .taken)
+
+add-plan-3 : tie.Need-add-plan-3 Inv-loop μ-loop
+add-plan-3 c = search needs
+
+mul-plan-3 : tie.Need-mul-plan-3 Inv-loop μ-loop
+mul-plan-3 c = omega (arith, types-count (c .before .before .before .before .before .before .before .pre .laid), c .before .before .before .before .before .before .before .pre .laid .fewVariables, c .before .before .loop-test .taken)
+
+element-write-plan-3 : tie.Need-element-write-plan-3 Inv-loop μ-loop
+element-write-plan-3 c = omega (arith, types-count (c .before .before .before .before .before .before .before .pre .laid), c .before .before .before .before .before .before .before .pre .laid .fewVariables, c .before .before .loop-test .taken)
+
 add-v : tie.Need-add-v Inv-loop μ-loop
 add-v c = search needs
 
@@ -47,7 +65,7 @@ loop-less : tie.Need-loop-less Inv-loop μ-loop
 loop-less c = omega arith
 
 loop-again : tie.Need-loop-again Inv-loop μ-loop
-loop-again c = (omega arith, λ r l. named-more _ (omega (arith, types-count l, l .fewVariables, c .before .before .loop-test .taken)) (c .before .before .before .loop .inv .1 r l) (c .first-with .ensures r (c .before .before .before .loop .inv .1 r l .laid)))
+loop-again c = (omega arith, λ r l. named-more (omega (arith, types-count l, l .fewVariables, c .before .before .loop-test .taken)) (c .before .before .before .loop .inv .1 r l) (c .first-with .ensures r (c .before .before .before .loop .inv .1 r l .laid)))
 
 returns : tie.Need-returns Inv-loop μ-loop
 returns c = λ r l. let e : c .before .loop .v ≡ length (r .variables) = omega (arith, types-count l, c .before .loop .inv .0, c .loop-test .left) in let w = c .before .loop .inv .1 r l in rw e at w
@@ -66,6 +84,12 @@ plan-variables-spec =
     add-plan
     mul-plan
     element-write-plan
+    add-plan-2
+    mul-plan-2
+    element-write-plan-2
+    add-plan-3
+    mul-plan-3
+    element-write-plan-3
     add-v
     loop-less
     loop-again

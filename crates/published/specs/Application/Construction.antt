@@ -21,13 +21,13 @@ use Rattle.meaning.specs.Laws.Tests.{choose-lt, choose-le, choose-false}
 use Rattle.meaning.specs.Laws.Pieces.{getD-map}
 use Rattle.meaning.specs.Laws.FirstMatch.{node-inside, edge-inside}
 use Rattle.meaning.specs.Laws.Applying.{stores-append, rightSide-some, apply-applied}
-use Rattle.meaning.specs.Laws.Room.{afterLeft, afterNew, changed-is, addNodes-edges, addEdges-nodes, nodes-room, edges-room}
-use Rattle.meaning.specs.Laws.Values.{interface-left, interface-right}
+use Rattle.meaning.specs.Laws.Room.{edgesGo-nodes, nodesChange-edges, afterLeft, afterNew, changed-is, addNodes-edges, addEdges-nodes, nodes-room, edges-room}
+use Rattle.meaning.specs.Laws.Values.{interface-left, interface-right, new-marked}
 use Rattle.published.specs.Graphs.{graphOf}
 use Rattle.published.specs.RuleApplication.{nodeOf, edgeOf, Premorphism, StaysNode, StaysEdge, Union, placed, Constructed}
 use Rattle.published.specs.Application.Matching.{premorphism}
-use Rattle.published.specs.Application.Tables.{overwritten, filled, places, overwritten-other, overwritten-at, not-free, filled-live, filled-at, places-free, places-apart, filled-back, find, edgesGo-is, edgesGo-nodes, slotAfter, nodesChange-is, nodesChange-edges, addNodes-is, addNodes-places, addEdges-is}
-use Rattle.published.specs.Application.Values.{noNode, noEdge, node-value, edge-value-at, new-marked}
+use Rattle.published.specs.Application.Tables.{overwritten, filled, places, overwritten-other, overwritten-at, not-free, filled-live, filled-at, places-free, places-apart, filled-back, find, edgesGo-is, slotAfter, nodesChange-is, addNodes-is, addNodes-places, addEdges-is}
+use Rattle.published.specs.Application.Values.{noNode, noEdge, node-value, edge-value-at}
 
 -- The tables once the left side is gone, the slots of new nodes, of right nodes and of right edges, and the tables in the end.
 
@@ -390,7 +390,7 @@ module _ (most : ℕ) (r : Rule) (holds : ruleHolds r ≡ true) (p : List ℕ) (
               rw (nodes-at (nodeSlot p i) (stays i k), mid-interface i k) (node-value most h r p right values i (omega arith));
           newLabels = λ j k l.
               let v = node-value most h r p right values j l in
-              let e = choose-false (eqb (nodeOf (r .right) j .mark) anyMark) (nodeAt h (nodeSlot p j) .mark) (nodeOf (r .right) j .mark) (new-marked r holds j k l) in
+              let e = choose-false (eqb (nodeOf (r .right) j .mark) anyMark) (nodeAt h (nodeSlot p j) .mark) (nodeOf (r .right) j .mark) (new-marked r holds j k l _) in
               rw (new-at j k l) (record { list = v .list; root = v .root; mark = v .mark ∙ e });
           keptEdgeLabels = λ e s. rw (edges-at e s);
           newEdgeLabels = λ k l. rw (new-edge-at k l) (edge-value-at most h r p right values k l .label);

@@ -6,7 +6,7 @@ use mathlib.Core.Logic.{_⊎_, inl, inr, _↔_}
 use mathlib.Core.Bool.{true}
 use mathlib.Core.List.{List, [], _∷_, _++_}
 use native.Mathlib.Omega.{arith}
-use native.Mathlib.Decide.{ℕ-discrete, decLt}
+use native.Mathlib.Decide.{ℕ-discrete}
 use borrow.Author.Tests.{ltb-true}
 use lib.ListN.{length, getD, length-append, List·getD-append}
 use lib.Seq.{getD-append-add}
@@ -20,6 +20,7 @@ use Rattle.meaning.specs.Laws.Every.{Every, Every-true, Every-of, Every-all, Ev
 use Rattle.meaning.specs.Laws.References.{clauses-true, label-plain, ends}
 use Rattle.meaning.specs.Laws.Assignment.{label-node, label-edge, Labelled, labelled, agreed}
 use Rattle.meaning.specs.Laws.Decided.{tests-same}
+use Rattle.meaning.specs.Laws.Levels.{apart-same}
 use Rattle.meaning.specs.Laws.Hosts.{LegalHost}
 use Rattle.meaning.specs.Laws.Values.{assigned-words}
 use Rattle.meaning.specs.declared.Layout.{Layout}
@@ -162,21 +163,13 @@ module _ (h : Host) (r : Rule) (holds : ruleHolds r ≡ true) where
     unmarked left mark (inl e) n = absurd (n e)
     unmarked left mark (inr e) n = e
 
-    apart : (f : ℕ → ℕ) (n i j : ℕ) → ((i j : ℕ) → i < j → j < n → f i ≡ f j → ⊥) → i < n → j < n → f i ≡ f j → i ≡ j
-    apart f n i j a k l e = at (decLt i j) (decLt j i)
-      where
-        at : Dec (i < j) → Dec (j < i) → i ≡ j
-        at (yes u) d = absurd (a i j u l e)
-        at (no u) (yes v) = absurd (a j i v k (sym e))
-        at (no u) (no v) = omega arith
-
     match-published : Matches r (graphOf h)
     match-published =
         record {
           g = premorphism h r p m;
           injective = record {
-            nodes = λ i j. apart (nodeSlot p) (leftNodes r) i j (m .nodesApart);
-            edges = λ i j. apart (edgeSlot r p) (leftEdges r) i j (m .edgesApart);
+            nodes = λ i j. apart-same (nodeSlot p) (leftNodes r) i j (m .nodesApart);
+            edges = λ i j. apart-same (edgeSlot r p) (leftEdges r) i j (m .edgesApart);
           };
           α = record { of = assigned h r p; ints = labels .ints; words = assigned-words L h legal r p };
           compatible = record {

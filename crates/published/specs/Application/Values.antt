@@ -1,25 +1,19 @@
 -- The right side's values are instances of its labels. Rests on RuleApplication and meaning's Applying.
-use Prim.Native.Nat.{ℕ, zero, suc, _+_, _<_, _≤_}
+use Prim.Native.Nat.{ℕ, zero, suc, _+_, _<_}
 use mathlib.Core.Path.{_≡_, refl, sym}
-use mathlib.Core.Logic.{_⊎_, inl, inr}
-use mathlib.Core.Bool.{true, false, not}
 use mathlib.Core.Option.{Option, some}
-use mathlib.Core.List.{List, [], _∷_, map}
+use mathlib.Core.List.{List, [], _∷_}
 use native.Mathlib.Omega.{arith}
-use borrow.Author.Tests.{ltb-true, not-true}
-use lib.Dec.{eqb, leb, ltb}
+use lib.Dec.{leb}
 use lib.ListN.{length, getD}
-use Rattle.meaning.specs.Basics.{both, concat, each, _>>=_}
+use Rattle.meaning.specs.Basics.{concat, each, _>>=_}
 use Rattle.meaning.specs.Numbers.{sum, difference}
 use Rattle.meaning.specs.Layout.{Node, Edge, Host}
-use Rattle.meaning.specs.Image.{RuleNode, RuleEdge, Rule, anyMark}
-use Rattle.meaning.specs.References.{anyKept, anyPlaced, ruleHolds}
+use Rattle.meaning.specs.Image.{RuleNode, RuleEdge, Rule}
 use Rattle.meaning.specs.Matching.{nodeAt, nodeSlot, Assignment, atomOf}
 use Rattle.meaning.specs.FirstMatch.{assigned}
 use Rattle.meaning.specs.Applying.{elementValue, labelValue, rightNode, rightNodes, rightEdge, Right, rightSide}
-use Rattle.meaning.specs.Laws.Tests.{both-true, either-true, all-true, some-inj, bind-some, ensure-some}
-use Rattle.meaning.specs.Laws.Pieces.{getD-map}
-use Rattle.meaning.specs.Laws.References.{clauses-true}
+use Rattle.meaning.specs.Laws.Tests.{some-inj, bind-some, ensure-some}
 use Rattle.meaning.specs.declared.Element.{Element}
 use Rattle.meaning.specs.declared.Element.the-variants.{Constant, Variable, Sum, Difference}
 use Rattle.published.specs.Graphs.{NodeLabel, EdgeLabel}
@@ -142,15 +136,3 @@ module _ (most : ℕ) (h : Host) (r : Rule) (p : List ℕ) (right : Right) (valu
       let u = bind-some (each (rightEdge most (assigned h r p)) (r .right .edges)) _ right (t .2) in
       rw (some-inj right (record { nodes = t .0; edges = u .0 }) (sym (u .2)))
       (edge-value most (assigned h r p) h p _ _ (each-at (rightEdge most (assigned h r p)) _ noEdge (r .right .edges) (u .0) (u .1) k j))
-
--- the mark any stands on nodes of the interface alone
-pub new-marked : (r : Rule) → ruleHolds r ≡ true → (j : ℕ) → r .interface ≤ j → j < length (r .right .nodes)
-    → eqb (nodeOf (r .right) j .mark) anyMark ≡ false
-unfolding ruleHolds anyPlaced anyKept
-new-marked r holds j h k = at (either-true _ _ (all-true (anyKept r) (length (r .right .nodes)) (both-true _ _ (clauses-true _ holds 9) .0) j k))
-  where
-    at : (not (eqb (getD (map (λ n. n .mark) (r .right .nodes)) j 0) anyMark) ≡ true)
-        ⊎ (both (ltb j (r .interface)) (eqb (getD (map (λ n. n .mark) (r .left .nodes)) j 0) anyMark) ≡ true)
-        → eqb (nodeOf (r .right) j .mark) anyMark ≡ false
-    at (inl e) = rw (getD-map (λ (n : RuleNode). n .mark) (r .right .nodes) j (record { mark = 0; root = 0; label = [] }) 0 k) at (not-true (eqb (getD (map (λ n. n .mark) (r .right .nodes)) j 0) anyMark) e)
-    at (inr e) = let l = ltb-true j (r .interface) (both-true _ _ e .0) in absurd (omega arith)
