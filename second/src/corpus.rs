@@ -32,7 +32,7 @@ use crate::tree::Program;
 use drafts::Draft;
 use fixed::fixed_images;
 
-pub use command_line::main;
+pub use command_line::{main, write_files};
 pub use statistics::{Counter, Statistics};
 
 /// The tag before each image of a corpus.

@@ -55,16 +55,13 @@ fn print(what: &str, text: &str) -> Result<(), String> {
         .map_err(|error| format!("{what} can't be written: {error}"))
 }
 
-/// Writes `stdin` and `stdout` of a test program into a folder.
+/// Writes `stdin` and `stdout` of a test program into a folder: both, or neither.
 fn store(name: &str, folder: &str) -> Result<(), String> {
     let known = stored::NAMES.join(", ");
     let stored = stored::named(name).ok_or(format!("{name} has no stored inputs; these have: {known}"))?;
-    let write = |file: &str, bytes: &[u8]| {
-        let path = std::path::Path::new(folder).join(file);
-        std::fs::write(&path, bytes).map_err(|error| format!("{} can't be written: {error}", path.display()))
-    };
-    write("stdin", &stored.stdin)?;
-    write("stdout", stored.stdout.as_bytes())
+    let stdin = format!("{folder}/stdin");
+    let stdout = format!("{folder}/stdout");
+    corpus::write_files(&[(&stdin, stored.stdin), (&stdout, stored.stdout.into_bytes())])
 }
 
 fn read(image: &str) -> std::io::Result<Vec<u8>> {

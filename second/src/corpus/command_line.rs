@@ -74,7 +74,7 @@ fn number(name: &str, text: &str) -> Result<u64, String> {
 }
 
 /// Writes every file beside its place first and moves them there when all are whole.
-fn write_files(files: &[(&str, Vec<u8>)]) -> Result<(), String> {
+pub fn write_files(files: &[(&str, Vec<u8>)]) -> Result<(), String> {
     let written = files.iter().try_for_each(|(file, bytes)| {
         fs::write(beside(file), bytes).map_err(|error| format!("{file} can't be written: {error}"))
     });
