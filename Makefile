@@ -1,5 +1,5 @@
 # `make run` runs the main job, `make test` runs everything that is checked. The others: `make driver`, `make bench`,
-# `make fuzz`, `make install PREFIX=..`.
+# `make fuzz`, `make memory`, `make install PREFIX=..`.
 
 CARGO = cargo --quiet
 SECOND = second/target/release/second
@@ -16,7 +16,7 @@ PREFIX ?= /usr/local
 COUNT ?= 1000
 ROUNDS ?= 10
 
-.PHONY: run test tools runner library driver bench fuzz install clean
+.PHONY: run test tools runner library driver bench fuzz memory install clean
 
 # Runs an image by the proved runner.
 run: tools runner
@@ -60,6 +60,10 @@ bench:
 # The compiled calls beside the second interpreter, on fresh random inputs.
 fuzz:
 	sh fuzz/run $(COUNT) $$(date +%s) $(ROUNDS)
+
+# The worked driver and random inputs under valgrind.
+memory:
+	sh fuzz/memory $(COUNT)
 
 install: library
 	mkdir -p $(DESTDIR)$(PREFIX)/include $(DESTDIR)$(PREFIX)/lib/pkgconfig
