@@ -378,7 +378,7 @@ static int place(struct search *s, int i)
 {
     int c;
     if (i == s->rule.nodes + s->rule.edges)
-        return !dangles(s) && tests_hold(s, -1);
+        return !(s->rule.kept < s->rule.nodes && dangles(s)) && tests_hold(s, -1);
     if (i < s->rule.nodes) {
         for (c = next_candidate(s, i, 0); c < s->node_slots; c = next_candidate(s, i, c + 1))
             if (node_fits(s, i, c) && place(s, i + 1))

@@ -649,7 +649,7 @@ static int place(struct search *s, unsigned i)
         for (unsigned t = 0; t < r->tests; t++)
             if (!test_holds(s, &r->test[t]))
                 return 0;
-        return !dangling(s);
+        return r->interface == n || !dangling(s);
     }
     uint8_t reached[512];
     int some = i < n && reach(s, i, reached);
@@ -765,9 +765,9 @@ static unsigned apply(struct host *h, const struct search *s)
     for (unsigned j = 0; j < to->nodes + to->edges; j++)
         if (!label_value(s, j < to->nodes ? &to->node[j] : &to->edge[j - to->nodes], &value[j]))
             return 6;
-    if (free_slots(h->nodes, h->node_slots, NODE) + (n - k) < to->nodes - k)
+    if (n < to->nodes && free_slots(h->nodes, h->node_slots, NODE) + (n - k) < to->nodes - k)
         return 3;
-    if (free_slots(h->edges, h->edge_slots, EDGE) + m < to->edges)
+    if (m < to->edges && free_slots(h->edges, h->edge_slots, EDGE) + m < to->edges)
         return 4;
     if (h->records + m + n + (to->nodes - k) + to->edges > h->room)
         return 5;
