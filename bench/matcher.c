@@ -3,8 +3,9 @@
  * It reads one case from standard input (a field 0x07 that holds nodes, edges, program and a count), asks for the first match
  * of the program's first rule as often as the count says, and writes it. Nothing is checked: the input is a legal one. A rule is
  * read from its bytes for each search, into structs. Then, at each left item, slots are tried in rising order:
- *   a node: live, mark, root, not used, label, an edge for each left edge to an earlier node, few enough edges where it goes,
- *   the tests that it decides; where a left edge joins it to an earlier node, only the ends of such edges at that node's slot;
+ *   a node: live, mark, root, the label's length and lone constant, not used, label, an edge for each left edge to an earlier
+ *   node, few enough edges where it goes, the tests that it decides; where a left edge joins it to an earlier node, only the
+ *   ends of such edges at that node's slot;
  *   an edge: live, ends, mark, not used, label, the tests that it decides;
  * and a full placement leaves nothing dangling and passes the tests. */
 #include <stdint.h>
@@ -312,11 +313,26 @@ static int unused(const struct search *s, int from, int to, int c)
     return 1;
 }
 
+/* The first slot from c on that can be left node i by the slot alone. */
+static int next_like(const struct search *s, int i, int c)
+{
+    const struct item *left = &s->rule.item[i];
+    int one = left->elements == 1 && left->label[0].variable < 0;
+    for (; c < s->node_slots; c++) {
+        const uint8_t *node = s->nodes + NODE * c;
+        if (node[0] && marks_agree(left->mark, node[1]) && left->root == node[2] &&
+            (left->lists == 0 ? node[3] == left->elements : node[3] >= left->elements - left->lists) &&
+            !(one && four(node + 4) != left->label[0].constant))
+            break;
+    }
+    return c;
+}
+
+/* Whether slot c, which can be left node i by itself, can be it here. */
 static int node_fits(struct search *s, int i, int c)
 {
     const uint8_t *node = s->nodes + NODE * c;
-    const struct item *left = &s->rule.item[i];
-    if (!node[0] || !marks_agree(left->mark, node[1]) || left->root != node[2] || !unused(s, 0, i, c))
+    if (!unused(s, 0, i, c))
         return 0;
     s->at[i] = c;
     return label_agrees(s, i, node + 4, node[3]) && linked(s, i) && can_go(s, i, c) && tests_hold(s, i + 1);
@@ -380,9 +396,15 @@ static int place(struct search *s, int i)
     if (i == s->rule.nodes + s->rule.edges)
         return !(s->rule.kept < s->rule.nodes && dangles(s)) && tests_hold(s, -1);
     if (i < s->rule.nodes) {
-        for (c = next_candidate(s, i, 0); c < s->node_slots; c = next_candidate(s, i, c + 1))
-            if (node_fits(s, i, c) && place(s, i + 1))
-                return 1;
+        for (c = 0; c < s->node_slots;) {
+            int end = next_candidate(s, i, c);
+            c = next_like(s, i, end);
+            if (c == end && c < s->node_slots) {
+                if (node_fits(s, i, c) && place(s, i + 1))
+                    return 1;
+                c++;
+            }
+        }
         return 0;
     }
     for (c = 0; c < s->edge_slots; c++)

@@ -2,8 +2,8 @@
 -- meaning's laws of references and tests.
 use mathlib.Core.Path.{_≡_, sym, _∙_}
 use mathlib.Core.Bool.{Bool, true, false}
-use mathlib.Core.List.{List, [], _∷_, _++_, map}
-use Prim.Native.Nat.{ℕ, zero, suc, _+_, _<_, _≤_}
+use mathlib.Core.List.{List, _++_, map}
+use Prim.Native.Nat.{ℕ, _+_, _<_, _≤_}
 use native.Mathlib.Omega.{arith}
 use borrow.Author.Tests.{ltb-true}
 use lib.Dec.{eqb}
@@ -13,27 +13,20 @@ use Rattle.meaning.specs.Layout.{Host}
 use Rattle.meaning.specs.Image.{Rule}
 use Rattle.meaning.specs.References.{operandNames, conditionOperands, conditionNodes, names, labels, testOperands, testNames, variablesExist, testNodesExist, ruleHolds}
 use Rattle.meaning.specs.Matching.{leftNodes, leftEdges, testHolds}
-use Rattle.meaning.specs.FirstMatch.{assigned, firstWith, highest, decidedAt}
+use Rattle.meaning.specs.FirstMatch.{assigned, firstWith, decidedAt}
 use Rattle.meaning.specs.Laws.Tests.{choose-eq, choose-ne}
-use Rattle.meaning.specs.Laws.Every.{Every, Every-true, Every-parts, Every-concat, Every-map, Every-then}
+use Rattle.meaning.specs.Laws.Every.{Every, Every-true, Every-in, Every-parts, Every-concat, Every-map, Every-then}
 use Rattle.meaning.specs.Laws.References.{clauses-true, OfVariables, variables-with, left-plain, tests-left}
 use Rattle.meaning.specs.Laws.Assignment.{labels-length}
-use Rattle.meaning.specs.Laws.Decided.{first-with}
+use Rattle.meaning.specs.Laws.Decided.{first-with, highest-each}
 use Rattle.meaning.specs.declared.Condition.the-variants.{Edge}
 use Rattle.meaning.specs.declared.Test.{Test}
 use Rattle.plan.specs.Plan.{testOf}
 use Rattle.fitting.specs.Fitting.{Valued, Decided, Tried, Full, HasTest}
 
-each-at : {A : Type 0} (P : A → Type 0) (d : A) (l : List A) → Every P l → (i : ℕ) → i < length l → P (getD l i d)
-each-at P d [] e i h = absurd (omega arith)
-each-at P d (a ∷ l) e zero h = e .0
-each-at P d (a ∷ l) e (suc i) h = each-at P d l (e .1) i (omega arith)
-
--- each of the numbers is below the highest of their successors
-highest-each : (n : ℕ) (l : List ℕ) → highest (map suc l) ≤ n → Every (λ a. a < n) l
-unfolding highest
-highest-each n [] h = tt
-highest-each n (a ∷ l) h = (omega arith, highest-each n l (omega arith))
+-- what `testOf` has where there is no test
+abbrev pub noTest : Test
+noTest = record { negated = false; condition = Edge 0 0 }
 
 module _ (r : Rule) (holds : ruleHolds r ≡ true) where
   abbrev Exists : ℕ → Type 0
@@ -59,7 +52,7 @@ module _ (r : Rule) (holds : ruleHolds r ≡ true) where
     this = testOf r t
 
     exist : OfVariables Exists this
-    exist = each-at (OfVariables Exists) _ (r .tests) tests-exist t there
+    exist = Every-in (OfVariables Exists) (r .tests) tests-exist t there noTest
 
     -- a test that is decided by no more items than are placed
     pub decided-so-far : decidedAt r this ≤ length q → Decided r q (this .condition)
@@ -75,8 +68,8 @@ module _ (r : Rule) (holds : ruleHolds r ≡ true) where
     -- any test, where all items are placed
     pub decided-whole : length q ≡ leftNodes r + leftEdges r → Decided r q (this .condition)
     decided-whole s =
-        let nodes = each-at (λ x. Every (λ a. a < leftNodes r) (conditionNodes (x .condition))) _ (r .tests) tests-nodes t there in
-        let left = each-at (OfVariables (λ v. absent v (names (r .left)) ≡ false)) _ (r .tests) (tests-left r holds) t there in
+        let nodes = Every-in (λ x. Every (λ a. a < leftNodes r) (conditionNodes (x .condition))) (r .tests) tests-nodes t there noTest in
+        let left = Every-in (OfVariables (λ v. absent v (names (r .left)) ≡ false)) (r .tests) (tests-left r holds) t there noTest in
         record {
           nodes = Every-then _ _ (λ a k. omega arith) (conditionNodes (this .condition)) nodes;
           operands = variables-with Exists (λ v. absent v (names (r .left)) ≡ false) (Valued r q)
@@ -84,10 +77,6 @@ module _ (r : Rule) (holds : ruleHolds r ≡ true) where
         }
 
 -- The tests of a trial.
-
--- what `testOf` has where there is no test
-abbrev pub noTest : Test
-noTest = record { negated = false; condition = Edge 0 0 }
 
 module _ {h : Host} {bs plan at : List ℕ} {i c : ℕ} (w : Full h bs plan at i c) where
   abbrev pub whole-test : (t : ℕ) → t < length (w .trial .rule .tests) → HasTest h bs plan at i c t

@@ -8,7 +8,7 @@ ghost use Rattle.meaning.specs.Basics.{any, all, count, every, absent, same};
 ghost use Rattle.meaning.specs.Numbers.{height};
 ghost use Rattle.meaning.specs.Layout.{Host};
 ghost use Rattle.meaning.specs.Image.{Rule};
-ghost use Rattle.meaning.specs.Matching.{leftNodes, leftEdges, leftEdge, nodeSlot, atomsOf, atomOf, instance, conditionHolds, testHolds};
+ghost use Rattle.meaning.specs.Matching.{leftNodes, leftEdges, leftNode, leftEdge, nodeSlot, atomsOf, atomOf, instance, conditionHolds, testHolds};
 ghost use Rattle.meaning.specs.FirstMatch.{marksAgree, assigned, linked as isLinked, leftTouches, canGo, testsSoFar, fits, dangles as isDangling, complete as isComplete};
 ghost use Rattle.labels.specs.Labels.{atomsIn, Held, Holds};
 ghost use Rattle.graph.specs.Graph.{Legal, hostOf};
@@ -637,31 +637,31 @@ fn tests_so_far(
 
 // Candidates, in two steps: whether a slot is likely, by all but label and tests, and the rest.
 
-// Whether slot c can stand for left node i, as far as the slot alone tells.
+// Whether slot c can stand for left node i, of this mark and root flag, as far as the slot alone tells.
 fn node_like(
     l: Layout,
     nodes: &[u8],
     edges: &[u8],
     rule: &[u8],
     plan: &[usize; 102],
+    mark: u8,
+    root: u8,
     i: usize,
     c: usize,
 ) -> bool
     requires { ⌜ Legal l (now nodes) (now edges) ⌝ }
     requires { ⌜ Known (now rule) (now plan) ⌝ }
     requires { ⌜ (i < getD (now plan) 0 0) × (c < length (hostOf l (now nodes) (now edges) .nodes)) ⌝ }
+    requires { ⌜ ((w : Known (now rule) (now plan)) → (mark ≡ leftNode (w .rule) i .mark) × (root ≡ leftNode (w .rule) i .root)) ⌝ }
     ensures { λ b. ⌜ ((w : Known (now (rule .entry)) (now (plan .entry))) → NodeLike (hostOf l (now (nodes .entry)) (now (edges .entry))) (w .rule) (getD (now (plan .entry)) (66 + i) 0) i c b) ⌝ }
 {
     if !graph::node_live(l, nodes, edges, c) {
         return false;
     }
-    if !marks_agree(
-        plan::mark(rule, plan, i),
-        graph::node_mark(l, nodes, edges, c),
-    ) {
+    if !marks_agree(mark, graph::node_mark(l, nodes, edges, c)) {
         return false;
     }
-    if plan::root(rule, plan, i) != graph::node_root(l, nodes, edges, c) {
+    if root != graph::node_root(l, nodes, edges, c) {
         return false;
     }
     label_likely(l, nodes, edges, rule, plan, i, c)
@@ -683,9 +683,11 @@ pub fn next_like(
     requires { ⌜ (i < getD (now plan) 0 0) × (n ≤ length (hostOf l (now nodes) (now edges) .nodes)) ⌝ }
     ensures { λ y. ⌜ ((w : Known (now (rule .entry)) (now (plan .entry))) → NextLike (hostOf l (now (nodes .entry)) (now (edges .entry))) (w .rule) (getD (now (plan .entry)) (66 + i) 0) i c n y) ⌝ }
 {
+    let mark = plan::mark(rule, plan, i);
+    let root = plan::root(rule, plan, i);
     let mut x = c;
     while x < n {
-        if node_like(l, nodes, edges, rule, plan, i, x) {
+        if node_like(l, nodes, edges, rule, plan, mark, root, i, x) {
             return x;
         }
         x += 1;

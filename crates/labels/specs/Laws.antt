@@ -3,7 +3,7 @@
 use mathlib.Core.Path.{_≡_, refl, sym, _∙_, ap}
 use mathlib.Core.Bool.{Bool, true, false}
 use mathlib.Core.List.{List, [], _∷_, _++_}
-use Prim.Native.Nat.{ℕ, zero, suc, _+_, _-_, _*_, _<_, _≤_}
+use Prim.Native.Nat.{ℕ, _+_, _-_, _*_, _<_, _≤_}
 use native.Mathlib.Omega.{arith}
 use native.Mathlib.Numerals.{add-one}
 use native.Mathlib.Decide.{ℕ-discrete}
@@ -14,7 +14,7 @@ use lib.Seq.{length-take-le, take-all, take-nil, take-suc, take-suc-set, getD-se
 use Rattle.meaning.specs.Basics.{both, same}
 use Rattle.meaning.specs.Numbers.{number, whole}
 use Rattle.meaning.specs.Layout.{atoms}
-use Rattle.meaning.specs.Laws.Tests.{same-true, same-of}
+use Rattle.meaning.specs.Laws.Tests.{same-true, same-of, zero-at}
 use Rattle.meaning.specs.Laws.Layout.{length-atoms, getD-atoms}
 use Rattle.labels.specs.Labels.{atomsIn, Held, Holds}
 use Rattle.labels.specs.declared.Label.{Label}
@@ -26,11 +26,6 @@ pub record Filled (m : List ℕ) (j : ℕ) (l : List ℕ) : Type 0 where
   pub room : length l ≡ 8
   pub small : (i : ℕ) → getD l i 0 < whole
   pub front : take j l ≡ take j m
-
-zero-at : (n i : ℕ) → _≡_ {A = ℕ} (getD (replicate n 0) i 0) 0
-zero-at zero i = refl
-zero-at (suc n) zero = refl
-zero-at (suc n) (suc i) = zero-at n i
 
 pub filled-none : (m : List ℕ) → Filled m 0 (replicate 8 0)
 filled-none m = record { room = refl; small = λ i. omega (arith, zero-at 8 i); front = refl }

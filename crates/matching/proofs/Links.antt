@@ -1,6 +1,6 @@
 -- Why a slot that no host edge links does not fit, and what there is to try.
 use Prim.Native.Nat.{ℕ, _+_, _≤_, _<_, max}
-use mathlib.Core.Path.{_≡_, refl, sym, _∙_, ap}
+use mathlib.Core.Path.{_≡_, sym, _∙_, ap}
 use mathlib.Core.List.{List, [], _∷_, _++_}
 use mathlib.Core.Bool.{Bool, true, false, not}
 use native.Mathlib.Omega.{arith}
@@ -13,17 +13,13 @@ use Rattle.meaning.specs.Layout.{Host, readNodes, readEdges}
 use Rattle.meaning.specs.Image.{Rule}
 use Rattle.meaning.specs.Matching.{leftNodes, leftEdges, leftEdge, nodeSlot, runs}
 use Rattle.meaning.specs.FirstMatch.{joins, linked, nodeFits, fits, candidates}
-use Rattle.meaning.specs.Laws.Tests.{both-true, any-no, all-no, choose-eq, choose-lt, choose-le}
+use Rattle.meaning.specs.Laws.Tests.{not-so, both-true, any-no, all-no, choose-eq, choose-lt, choose-le}
 use Rattle.meaning.specs.Laws.Pieces.{length-pieces}
 use Rattle.meaning.specs.Laws.References.{clauses-true}
 use Rattle.meaning.specs.declared.Layout.{Layout}
 use Rattle.graph.specs.Graph.{hostOf}
 use Rattle.fitting.specs.Fitting.{slots}
 use Rattle.matching.specs.Next.{Meets}
-
-pub not-so : (b : Bool) → (b ≡ true → ⊥) → b ≡ false
-not-so true h = absurd (h refl)
-not-so false h = refl
 
 pub clash : (a b : Bool) → not a ≡ true → a ≡ b → b ≡ true → ⊥
 clash a b f e t = let z : _≡_ {A = Bool} true false = sym t ∙ sym e ∙ not-true a f in let z : _≡_ {A = ℕ} 0 1 = cc in omega arith

@@ -7,27 +7,27 @@ use mathlib.Core.List.{List, _++_}
 use native.Mathlib.Omega.{arith}
 use native.Mathlib.Decide.{ℕ-discrete, decLt}
 use borrow.Author.Tests.{ltb-true}
-use lib.Dec.{eqb, ltb}
+use lib.Dec.{ltb}
 use lib.ListN.{length, getD, take, drop, set, length-set, length-drop}
 use lib.Seq.{ext-getD, getD-take, getD-drop, getD-set-same, getD-set-other, length-take-le}
-use Rattle.meaning.specs.Basics.{choose, absent}
+use Rattle.meaning.specs.Basics.{absent}
 use Rattle.meaning.specs.Numbers.{whole}
 use Rattle.meaning.specs.Layout.{Host}
 use Rattle.meaning.specs.Image.{Rule}
 use Rattle.meaning.specs.References.{labels, names, testNames, variablesExist, ruleHolds}
-use Rattle.meaning.specs.Matching.{leftNodes}
 use Rattle.meaning.specs.FirstMatch.{firstWith, assigned}
-use Rattle.meaning.specs.Laws.Tests.{both-true, choose-ne, absent-false, every-true, every-append}
+use Rattle.meaning.specs.Laws.Tests.{both-true, absent-false, every-true, every-append}
 use Rattle.meaning.specs.Laws.References.{clauses-true, left-plain}
 use Rattle.meaning.specs.Laws.Assignment.{labels-length}
 use Rattle.meaning.specs.Laws.Decided.{first-with}
 use Rattle.labels.specs.Labels.{atomsIn, Held}
 use Rattle.labels.specs.declared.Label.{Label}
-use Rattle.fitting.specs.Fitting.{Known, Inside, Trial, HasValue}
+use Rattle.fitting.specs.Fitting.{Known, Inside, Full, HasValue}
+use Rattle.fitting.specs.Trials.{full}
 use Rattle.matching.specs.Next.{total}
 use Rattle.values.specs.Values.{valuesOf, Stored}
 use Rattle.matching.specs.Values.{Copied, HasValues}
-use Rattle.matching.proofs.Plans.{nodes-of, levels-of, few-levels}
+use Rattle.matching.proofs.Plans.{nodes-of, edges-of, levels-of, few-levels}
 
 -- two parts of one size are the same where their elements are
 same-part : (n k d : ℕ) (xs ys : List ℕ) → k + n ≤ length xs → d + n ≤ length ys
@@ -151,35 +151,12 @@ on-left r holds v e =
 
 module _ (h : Host) (bs plan at : List ℕ) (w : Known bs plan) (room : length at ≡ 12)
     (inside : Inside h (getD plan 0 0) at (getD plan 0 0 + getD plan 1 0)) where
-  pub all-placed : length (take (total (w .rule)) at) ≡ total (w .rule)
-  all-placed = length-take-le (total (w .rule)) at (omega (arith, few-levels _ _ w))
-
-  pub in-array : (j : ℕ) → j < length (take (total (w .rule)) at)
-      → choose (eqb j 12) 0 (getD at j 0) ≡ getD (take (total (w .rule)) at) j 0
-  in-array j k =
-      choose-ne j 12 _ _ (λ e. omega (arith, all-placed, few-levels _ _ w))
-      ∙ sym (getD-take (total (w .rule)) at j 0 (omega (arith, all-placed)))
-
-  pub in-tables : (j : ℕ) → j < length (take (total (w .rule)) at)
-      → getD (take (total (w .rule)) at) j 0 < choose (ltb j (leftNodes (w .rule))) (length (h .nodes)) (length (h .edges))
-  in-tables j k =
-      rw (getD-take (total (w .rule)) at j 0 (omega (arith, all-placed)), ← nodes-of _ _ w)
-      (inside j (omega (arith, all-placed, levels-of _ _ w)))
-
-  abbrev full-trial : Trial h bs plan at 12 0
-  full-trial = record {
-    rule = w .rule;
-    planned = w .planned;
-    room = room;
-    placed = take (total (w .rule)) at;
-    few = omega (arith, all-placed);
-    slot = in-array;
-    inside = in-tables;
-  }
+  abbrev placed : Full h bs plan at 12 0
+  placed = full h bs plan at w room 12 0 (few-levels _ _ w) (rw (nodes-of _ _ w, edges-of _ _ w) at inside)
 
   abbrev pub has-value : (v : ℕ) → v < length (w .rule .variables) → getD plan (28 + v) 0 < getD plan 0 0 + getD plan 1 0
       → HasValue h bs plan at 12 0 v
   has-value v k l = record {
-    trial = full-trial;
-    valued = (k, omega (arith, all-placed, w .planned .first v k .item, levels-of _ _ w));
+    trial = placed .trial;
+    valued = (k, omega (arith, placed .whole, w .planned .first v k .item, levels-of _ _ w));
   }

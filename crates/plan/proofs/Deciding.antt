@@ -3,7 +3,7 @@ use mathlib.Core.Path.{_≡_, refl, sym, _∙_, ap}
 use mathlib.Core.Option.{some, none}
 use mathlib.Core.Bool.{true, false}
 use mathlib.Core.List.{List, [], _∷_, _++_, map}
-use Prim.Native.Nat.{ℕ, zero, suc, _+_, _-_, _<_, _≤_, max}
+use Prim.Native.Nat.{ℕ, suc, _+_, _-_, _<_, _≤_, max}
 use native.Mathlib.Omega.{arith}
 use native.Mathlib.Decide.{ℕ-discrete}
 use borrow.Author.Tests.{ltb-true}
@@ -13,7 +13,7 @@ use Rattle.meaning.specs.Image.{Rule, field, test}
 use Rattle.meaning.specs.References.{operandNames, conditionOperands, conditionNodes, names, labels, testNames, testOperands, variablesExist, testNodesExist, ruleHolds}
 use Rattle.meaning.specs.Matching.{leftNodes}
 use Rattle.meaning.specs.FirstMatch.{firstWith, highest, decidedAt}
-use Rattle.meaning.specs.Laws.Every.{Every, Every-true, Every-parts, Every-concat, Every-map, Every-then}
+use Rattle.meaning.specs.Laws.Every.{Every, Every-true, Every-in, Every-parts, Every-concat, Every-map, Every-then}
 use Rattle.meaning.specs.Laws.References.{clauses-true, OfVariables}
 use Rattle.meaning.specs.Laws.Assignment.{labels-length}
 use Rattle.meaning.specs.declared.Operand.{Operand}
@@ -117,11 +117,6 @@ module _ (r : Rule) (holds : ruleHolds r ≡ true) where
 
 -- Lists.
 
-every-in : {A : Type 0} (P : A → Type 0) (d : A) (l : List A) → Every P l → (i : ℕ) → i < length l → P (getD l i d)
-every-in P d [] e i h = absurd (omega arith)
-every-in P d (a ∷ l) e zero h = e .0
-every-in P d (a ∷ l) e (suc i) h = every-in P d l (e .1) i (omega arith)
-
 every-append : {A : Type 0} (P : A → Type 0) (l m : List A) → Every P l → Every P m → Every P (l ++ m)
 every-append P [] m e f = f
 every-append P (a ∷ l) m e f = (e .0, every-append P l m (e .1) f)
@@ -142,7 +137,7 @@ module _ {bs : List ℕ} {r : Rule} {plan : List ℕ} (w : Named bs r plan (leng
   c = testOf r t .condition
 
   exist : Every (λ o. Every (λ v. v < length (r .variables)) (operandNames o)) (conditionOperands c)
-  exist = every-in (λ x. OfVariables (λ v. v < length (r .variables)) x) _ (r .tests) (variables-exist r (w .laid .holds)) t h
+  exist = Every-in (λ x. OfVariables (λ v. v < length (r .variables)) x) (r .tests) (variables-exist r (w .laid .holds)) t h _
 
   pub decides : Decides plan c
   decides =
@@ -152,7 +147,7 @@ module _ {bs : List ℕ} {r : Rule} {plan : List ℕ} (w : Named bs r plan (leng
       (omega (arith, w .laid .fewVariables), omega (arith, w .first v k .item, first-low v (labels (r .left)), labels-length r))
       in
       record {
-        nodes = Every-then (λ a. a < leftNodes r) (λ a. a < 6) (λ a k. omega arith) (conditionNodes c) (every-in (λ x. Every (λ a. a < leftNodes r) (conditionNodes (x .condition))) _ (r .tests) (nodes-exist r (w .laid .holds)) t h);
+        nodes = Every-then (λ a. a < leftNodes r) (λ a. a < 6) (λ a k. omega arith) (conditionNodes c) (Every-in (λ x. Every (λ a. a < leftNodes r) (conditionNodes (x .condition))) (r .tests) (nodes-exist r (w .laid .holds)) t h _);
         operands = Every-then _ (Valued plan) (λ o k. record { size = w .laid .items .size; variables = Every-then _ _ low (operandNames o) k }) (conditionOperands c) exist;
       }
 

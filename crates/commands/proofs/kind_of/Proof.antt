@@ -1,15 +1,12 @@
 -- `kind_of` meets its contract.
 use mathlib.Core.Path.{_≡_}
-use Prim.Native.Nat.{ℕ, _+_, _≤_}
+use Prim.Native.Nat.{ℕ, _≤_}
 use native.Mathlib.Omega.{arith}
 use borrow.Author.Needs.{needs}
 use Rattle.meaning.specs.Basics.{choose}
+use Rattle.references.specs.Commanding.{past}
 use Rattle.commands.proofs.kind_of.Statement.{statement}
 use Rattle.commands.proofs.kind_of.Tie as tie
-
--- a number that is none of four in a row lies behind them
-past : (low tag : ℕ) → (tag ≡ low → ⊥) → (tag ≡ low + 1 → ⊥) → (tag ≡ low + 2 → ⊥) → (tag ≡ low + 3 → ⊥) → low ≤ tag → low + 4 ≤ tag
-past low tag h0 h1 h2 h3 h = omega arith
 
 -- the tag that is none of the others
 last : (tag : ℕ) → (tag ≡ 84 → ⊥) → (tag ≡ 85 → ⊥) → (tag ≡ 86 → ⊥) → 84 ≤ tag → tag ≤ 87 → tag ≡ 87

@@ -4,6 +4,7 @@ use mathlib.Core.Bool.{false}
 use mathlib.Core.List.{List}
 use Prim.Native.Nat.{ℕ, _-_, _<_, _≤_}
 use Rattle.meaning.specs.FirstMatch.{nodeFits}
+use Rattle.meaning.specs.Matching.{leftNodes}
 use Rattle.graph.specs.Graph.{hostOf}
 use Rattle.fitting.specs.Fitting.{Known}
 use Rattle.fitting.proofs.Candidates.{passed-more}
@@ -13,19 +14,42 @@ use Rattle.fitting.proofs.next_like.Statement.{statement}
 use Rattle.fitting.proofs.next_like.Tie as tie
 
 abbrev Inv-loop : tie.InvT-loop
-Inv-loop l nodes edges rule plan i c n x₀ x =
+Inv-loop l nodes edges rule plan i c n mark root x₀ x =
     (c ≤ x)
     × (c ≤ n → x ≤ n)
     × ((w : Known rule plan) (y : ℕ) → c ≤ y → y < x → (p : List ℕ) → nodeFits (hostOf l nodes edges) (w .rule) p i y ≡ false)
 
 abbrev μ-loop : tie.MeasureT-loop
-μ-loop l nodes edges rule plan i c n x₀ x = n - x
+μ-loop l nodes edges rule plan i c n mark root x₀ x = n - x
+
+-- the node is a left node
+low : (s : tie.Start Inv-loop μ-loop) (w : Known (s .args .rule .now) (s .args .plan .now)) → s .args .i < leftNodes (w .rule)
+low s w = omega (arith, w .planned .laid .items .nodes, s .pre .1 .1 .0)
+
+mark-requires : tie.Need-mark-requires Inv-loop μ-loop
+mark-requires c κs =
+    let w = c .before .before .before .pre .1 .0 in
+    record { tree = w .rule; laid = w .planned .laid; there = omega (arith, low (c .before .before .before) w) }
+
+root-requires : tie.Need-root-requires Inv-loop μ-loop
+root-requires c κs =
+    let w = c .before .before .before .before .pre .1 .0 in
+    record { tree = w .rule; laid = w .planned .laid; there = low (c .before .before .before .before) w }
 
 loop-holds : tie.Need-loop-holds Inv-loop μ-loop
 loop-holds c = (omega arith, λ k. omega arith, λ w y j k. absurd (omega arith))
 
 node-like-requires : tie.Need-node-like-requires Inv-loop μ-loop
-node-like-requires c κs = let start = c .before .before .before .before .before in (start .pre .0, (start .pre .1 .0, (start .pre .1 .1 .0, omega (arith, start .pre .1 .1 .1, c .loop-test .taken))))
+node-like-requires c κs = (
+  c .before .before .before .before .before .before .before .pre .0,
+  (
+    c .before .before .before .before .before .before .before .pre .1 .0,
+    (
+      (c .before .before .before .before .before .before .before .pre .1 .1 .0, omega (arith, c .before .before .before .before .before .before .before .pre .1 .1 .1, c .loop-test .taken)),
+      λ w. (c .before .before .before .mark .ensures (w .rule) (w .planned .laid) .node (low (c .before .before .before .before .before .before .before) w), c .before .before .root .ensures (w .rule) (w .planned .laid)),
+    ),
+  ),
+)
 
 returns : tie.Need-returns Inv-loop μ-loop
 returns c =
@@ -66,6 +90,8 @@ next-like-spec =
     (tie.spec
     Inv-loop
     μ-loop
+    mark-requires
+    root-requires
     loop-holds
     node-like-requires
     returns

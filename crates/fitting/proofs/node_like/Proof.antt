@@ -12,19 +12,13 @@ use Rattle.fitting.proofs.node_like.Tie as tie
 
 -- the node is a left node
 low : (s : tie.Start) (w : Known (s .args .rule .now) (s .args .plan .now)) → s .args .i < leftNodes (w .rule)
-low s w = omega (arith, w .planned .laid .items .nodes, s .pre .1 .1 .0)
+low s w = omega (arith, w .planned .laid .items .nodes, s .pre .1 .1 .0 .0)
 
 node-live-requires : tie.Need-node-live-requires
 node-live-requires c κs = search needs
 
 returns : tie.Need-returns
 returns c = λ w. free-slot _ _ _ _ _ (sym (c .before .node-live .ensures) ∙ not-true _ (c .if1 .taken))
-
-mark-requires : tie.Need-mark-requires
-mark-requires c κs =
-    let start = c .before .before .before .before .before in
-    let w = start .pre .1 .0 in
-    record { tree = w .rule; laid = w .planned .laid; there = omega (arith, low start w) }
 
 node-mark-requires : tie.Need-node-mark-requires
 node-mark-requires c κs = search needs
@@ -34,35 +28,26 @@ marks-agree-requires c κs = search needs
 
 returns-2 : tie.Need-returns-2
 returns-2 c =
-    let start = c .before .before .before .before .before .before .before .before .before in
-    λ w. other-mark _ _ _ _ _ (marks-are _ _ _ _ _ (c .before .before .before .mark .ensures (w .rule) (w .planned .laid) .node (low start w)) (c .before .before .node-mark .ensures) (c .before .marks-agree .ensures) ∙ not-true _ (c .if2 .taken))
-
-root-requires : tie.Need-root-requires
-root-requires c κs =
-    let start = c .before .before .before .before .before .before .before .before .before in
-    let w = start .pre .1 .0 in
-    record { tree = w .rule; laid = w .planned .laid; there = low start w }
+    λ w. other-mark _ _ _ _ _ (marks-are _ _ _ _ _ (c .before .before .before .before .before .before .before .before .pre .1 .1 .1 w .0) (c .before .before .node-mark .ensures) (c .before .marks-agree .ensures) ∙ not-true _ (c .if2 .taken))
 
 node-root-requires : tie.Need-node-root-requires
 node-root-requires c κs = search needs
 
 returns-3 : tie.Need-returns-3
 returns-3 c =
-    λ w. other-root _ _ _ _ _ (ne-eqb _ _ (λ e. c .if3 .taken (c .before .before .root .ensures (w .rule) (w .planned .laid) ∙ e ∙ sym (c .before .node-root .ensures))))
+    λ w. other-root _ _ _ _ _ (ne-eqb _ _ (λ e. c .if3 .taken (c .before .before .before .before .before .before .before .before .before .before .pre .1 .1 .1 w .1 ∙ e ∙ sym (c .before .node-root .ensures))))
 
 label-likely-requires : tie.Need-label-likely-requires
 label-likely-requires c κs =
-    let start = c .before .before .before .before .before .before .before .before .before .before .before .before in
-    (start .pre .0, nodeCandidate (start .pre .1 .0) _ _ (start .pre .1 .1 .0) (start .pre .1 .1 .1))
+    (c .before .before .before .before .before .before .before .before .before .before .pre .0, nodeCandidate (c .before .before .before .before .before .before .before .before .before .before .pre .1 .0) _ _ (c .before .before .before .before .before .before .before .before .before .before .pre .1 .1 .0 .0) (c .before .before .before .before .before .before .before .before .before .before .pre .1 .1 .0 .1))
 
 returns-4 : tie.Need-returns-4
 returns-4 c =
-    let start = c .before .before .before .before .before .before .before .before .before .before .before .before .before in
     λ w.
-    like-label _ _ _ _ _ (low start w)
-    (sym (c .before .before .before .before .before .before .before .before .before .node-live .ensures) ∙ not-false _ (c .before .before .before .before .before .before .before .before .if1 .left))
-    (marks-are _ _ _ _ _ (c .before .before .before .before .before .before .before .mark .ensures (w .rule) (w .planned .laid) .node (low start w)) (c .before .before .before .before .before .before .node-mark .ensures) (c .before .before .before .before .before .marks-agree .ensures) ∙ not-false _ (c .before .before .before .before .if2 .left))
-    (eq-eqb _ _ (sym (c .before .before .before .root .ensures (w .rule) (w .planned .laid)) ∙ c .before .if3 .left ∙ c .before .before .node-root .ensures))
+    like-label _ _ _ _ _ (low (c .before .before .before .before .before .before .before .before .before .before .before) w)
+    (sym (c .before .before .before .before .before .before .before .node-live .ensures) ∙ not-false _ (c .before .before .before .before .before .before .if1 .left))
+    (marks-are _ _ _ _ _ (c .before .before .before .before .before .before .before .before .before .before .before .pre .1 .1 .1 w .0) (c .before .before .before .before .before .node-mark .ensures) (c .before .before .before .before .marks-agree .ensures) ∙ not-false _ (c .before .before .before .if2 .left))
+    (eq-eqb _ _ (sym (c .before .before .before .before .before .before .before .before .before .before .before .pre .1 .1 .1 w .1) ∙ c .before .if3 .left ∙ c .before .before .node-root .ensures))
     _ (c .label-likely .ensures w)
 
 pub node-like-spec : {M : Type 1} → statement M
@@ -71,11 +56,9 @@ node-like-spec =
     (tie.spec
     node-live-requires
     returns
-    mark-requires
     node-mark-requires
     marks-agree-requires
     returns-2
-    root-requires
     node-root-requires
     returns-3
     label-likely-requires
