@@ -16,7 +16,7 @@ use Rattle.meaning.specs.Laws.Legality.{tested-legal}
 use Rattle.meaning.specs.declared.Layout.{Layout}
 use Rattle.meaning.specs.declared.Stop.{Stop}
 use Rattle.meaning.specs.declared.Stop.the-variants.{EdgeOnFreeNode}
-use Rattle.matching.specs.Next.{total}
+use Rattle.meaning.specs.Matching.{total}
 use Rattle.ledger.specs.Running.{ledgerOf, Running, Leads}
 use Rattle.ledger.specs.Whole.{running-legal}
 use Rattle.ledger.specs.Rooms.{stopOf}

@@ -7,16 +7,16 @@ use mathlib.Core.List.{List}
 use Prim.Native.Nat.{ℕ, _/_}
 use lib.ListN.{length, take}
 use Rattle.meaning.specs.Basics.{absent}
-use Rattle.meaning.specs.Layout.{recordLength}
+use Rattle.meaning.specs.Layout.{recordLength, hostOf}
 use Rattle.meaning.specs.Image.{Rule, rule}
 use Rattle.meaning.specs.References.{names}
-use Rattle.meaning.specs.FirstMatch.{assigned, firstMatch}
+use Rattle.meaning.specs.Assigned.{assigned}
+use Rattle.meaning.specs.FirstMatch.{firstMatch}
 use Rattle.meaning.specs.Applying.{Ledger, Applied, applied, hindered, apply}
 use Rattle.meaning.specs.Laws.Values.{LegalRule}
 use Rattle.meaning.specs.declared.Layout.{Layout}
 use Rattle.meaning.specs.declared.Stop.{Stop}
-use Rattle.graph.specs.Graph.{hostOf}
-use Rattle.matching.specs.Next.{total}
+use Rattle.meaning.specs.Matching.{total}
 use Rattle.values.specs.Values.{valuesOf, Stored}
 use Rattle.ledger.specs.Running.{ledgerOf, Running}
 use Rattle.ledger.specs.declared.Applied.{Applied as Came}

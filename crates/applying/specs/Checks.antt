@@ -9,19 +9,17 @@ use native.Mathlib.Omega.{arith}
 use lib.ListN.{length, take}
 use borrow.Author.Tests.{not-true}
 use Rattle.meaning.specs.Basics.{absent, isSome}
-use Rattle.meaning.specs.Layout.{recordLength, readNodes, readEdges}
+use Rattle.meaning.specs.Layout.{recordLength, readNodes, readEdges, hostOf}
 use Rattle.meaning.specs.Image.{Rule}
 use Rattle.meaning.specs.References.{names, testNames, variablesOnLeft, ruleHolds}
-use Rattle.meaning.specs.Matching.{leftEdges}
-use Rattle.meaning.specs.FirstMatch.{assigned}
+use Rattle.meaning.specs.Matching.{leftEdges, total}
+use Rattle.meaning.specs.Assigned.{assigned}
 use Rattle.meaning.specs.Applying.{freeSlots, rightSide, newNodes, goneNodes, recordsOf, hindrance}
 use Rattle.meaning.specs.Laws.Tests.{choose-true, choose-false}
 use Rattle.meaning.specs.Laws.Every.{Every, Every-true, Every-parts, Every-then}
 use Rattle.meaning.specs.Laws.References.{clauses-true}
 use Rattle.meaning.specs.declared.Layout.{Layout}
 use Rattle.meaning.specs.declared.Stop.the-variants.{LabelTooLarge}
-use Rattle.graph.specs.Graph.{hostOf}
-use Rattle.matching.specs.Next.{total}
 use Rattle.values.specs.Values.{valuesOf, Agree, allHeld}
 use Rattle.values.specs.Right.{held-right}
 use Rattle.ledger.specs.Running.{journalOf, ledgerOf}

@@ -8,9 +8,10 @@ use native.Mathlib.Omega.{arith}
 use lib.ListN.{length, getD, take, length-map, length-take, List·getD-eq-default}
 use lib.Seq.{getD-take}
 use Rattle.meaning.specs.Layout.{Node, Edge, free, live, ofNode, ofEdge, readNodes}
-use Rattle.meaning.specs.Image.{anyMark, ruleNode, ruleEdge}
+use Rattle.meaning.specs.Tags.{anyMark}
+use Rattle.meaning.specs.Image.{ruleNode, ruleEdge}
 use Rattle.meaning.specs.Matching.{nodeIn}
-use Rattle.meaning.specs.FirstMatch.{assigned}
+use Rattle.meaning.specs.Assigned.{assigned}
 use Rattle.meaning.specs.Applying.{labelValue, Ledger, store, between}
 use Rattle.meaning.specs.Laws.Tests.{choose-eq, choose-ne, choose-false}
 use Rattle.meaning.specs.Laws.Every.{Every-in}
@@ -19,9 +20,8 @@ use Rattle.meaning.specs.Laws.Values.{LegalValue}
 use Rattle.meaning.specs.Laws.Image.Parsed.{ruleNode-is, IsEdge, ruleEdge-is}
 use Rattle.meaning.specs.declared.Layout.{Layout}
 use Rattle.labels.specs.Labels.{atomsIn}
-use Rattle.references.specs.Runs.{For}
-use Rattle.references.specs.Rows.{node, edge, graphItem}
-use Rattle.references.specs.Asked.{itemLabel}
+use Rattle.parts.specs.Runs.{For}
+use Rattle.parts.specs.Rows.{node, edge, graphItem, itemLabel}
 use Rattle.values.specs.Values.{valuesOf, valueIn}
 use Rattle.values.specs.Laws.{value-some}
 use Rattle.values.specs.Right.{label-same, node-names, edge-names, node-item, edge-item}
@@ -118,7 +118,7 @@ becomes-at (a ∷ l) (suc i) q = becomes-at l i (omega arith)
 
 module _ {L : Layout} {bs lens atoms : List ℕ} {k : ℕ} (w : Made L bs lens atoms k) where
   module _ (j : ℕ) (h : j < length (w .tree .right .nodes)) where
-    pub node-value : NodeValue (L .atoms) (assigned (w .host) (w .tree) (w .slots)) (w .host) (w .slots) j (getD (w .tree .right .nodes) j blankRule) (getD (w .right .nodes) j blankNode)
+    pub node-value : NodeValue (L .atoms) (w .tree) (assigned (w .host) (w .tree) (w .slots)) (w .host) (w .slots) j (getD (w .tree .right .nodes) j blankRule) (getD (w .right .nodes) j blankNode)
     node-value = node-at (L .atoms) (w .host) (w .tree) (w .slots) (w .right) (w .values) j h blankRule blankNode
 
     -- right node j

@@ -9,11 +9,12 @@ use lib.Seq.{getD-set-other, getD-take, getD-drop, take-suc-set, take-all}
 use lib.Dec.{eqb}
 use Rattle.meaning.specs.Basics.{choose}
 use Rattle.meaning.specs.Layout.{Slot, Node, Edge, free, live, ofNode, ofEdge, put, isLive, nodeLength, recordLength, readNodes, readEdges}
-use Rattle.meaning.specs.Image.{RuleNode, RuleEdge, anyMark, ruleNode, ruleEdge, ruleGraph}
+use Rattle.meaning.specs.Image.{RuleNode, RuleEdge, ruleNode, ruleEdge, ruleGraph}
+use Rattle.meaning.specs.Tags.{anyMark}
 use Rattle.meaning.specs.Matching.{nodeIn, nodeSlot}
 use Rattle.meaning.specs.Applying.{Ledger, store, stores, nodesChange, lowestFree, freeSlots, between, addEdges}
 use Rattle.meaning.specs.declared.Layout.{Layout}
-use Rattle.references.specs.Runs.{For}
+use Rattle.parts.specs.Runs.{For}
 use Rattle.ledger.specs.Running.{ledgerOf, Held, Leads}
 use Rattle.ledger.specs.Changes.{Went, becomes, Changing, changing-none, changing-next, changing-more, coming, Coming, coming-none, coming-next, coming-more, come-none, Joining, joining-none, joining-next, joining-more}
 use Rattle.applying.specs.Making.{blankRule, blankRuleEdge, blankNode, blankEdge, Takes, Comes, Joins, Changes, Alters, Grows, Grew, Edges}

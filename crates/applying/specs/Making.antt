@@ -9,16 +9,16 @@ use lib.ListN.{length, getD, take}
 use lib.Dec.{eqb}
 use Rattle.meaning.specs.Basics.{choose}
 use Rattle.meaning.specs.Layout.{Node, Edge, Host, free, liveAt, nodeLength, recordLength, readNodes, readEdges}
-use Rattle.meaning.specs.Image.{RuleNode, RuleEdge, Rule, anyMark, ruleNode, ruleEdge, ruleGraph}
+use Rattle.meaning.specs.Image.{RuleNode, RuleEdge, Rule, ruleNode, ruleEdge, ruleGraph}
+use Rattle.meaning.specs.Tags.{anyMark}
 use Rattle.meaning.specs.References.{names}
-use Rattle.meaning.specs.Matching.{leftNodes, leftEdges, nodeIn, nodeAt, nodeSlot}
-use Rattle.meaning.specs.FirstMatch.{assigned}
+use Rattle.meaning.specs.Matching.{leftNodes, leftEdges, nodeIn, nodeAt, nodeSlot, total}
+use Rattle.meaning.specs.Assigned.{assigned}
 use Rattle.meaning.specs.Applying.{labelValue, Right, rightSide, freeSlots, addNodes, between, changed, hindrance}
 use Rattle.meaning.specs.Laws.Hosts.{LegalNode, LegalEdge}
 use Rattle.meaning.specs.Laws.Room.{afterLeft}
 use Rattle.meaning.specs.Laws.Values.{LegalRight}
 use Rattle.meaning.specs.declared.Layout.{Layout}
-use Rattle.matching.specs.Next.{total}
 use Rattle.values.specs.Values.{valuesOf, Stored, Agree}
 use Rattle.ledger.specs.Running.{ledgerOf, Running, Leads}
 use Rattle.ledger.specs.Changes.{Went, Below}

@@ -10,13 +10,14 @@ use lib.ListN.{length, getD, take, drop}
 use lib.Seq.{getD-take, take-take, take-add, drop-at, length-take-le}
 use Rattle.meaning.specs.Layout.{free, nodeLength, edgeLength, recordLength, readNode, readEdge}
 use Rattle.meaning.specs.Image.{Rule, ruleGraph}
-use Rattle.meaning.specs.Matching.{leftNodes, leftEdges, Match}
+use Rattle.meaning.specs.Matching.{leftNodes, leftEdges, Match, total}
 use Rattle.meaning.specs.Applying.{Right, rightSide, Ledger, Added, stores, freeSlots, edgesGo, nodesChange, addNodes, between, addEdges, changed, recordsOf, hindrance}
 use Rattle.meaning.specs.Laws.Tests.{isSome-true}
 use Rattle.meaning.specs.Laws.Every.{Every-in}
 use Rattle.meaning.specs.Laws.Hosts.{LegalEdge}
 use Rattle.meaning.specs.Laws.Pieces.{length-read}
-use Rattle.meaning.specs.Laws.Applying.{stores-append, rightSide-some, firstFailing-none}
+use Rattle.meaning.specs.Laws.Applying.{stores-append, rightSide-some}
+use Rattle.meaning.specs.Laws.Checks.{firstFailing-none}
 use Rattle.meaning.specs.Laws.Room.{afterNew, changed-is, afterLeft-nodes, afterLeft-edges}
 use Rattle.meaning.specs.Laws.Attached.{rightSlots}
 use Rattle.meaning.specs.Laws.Values.{LegalRight, interface-left, interface-right, new-marked, rightSide-legal}
@@ -24,7 +25,6 @@ use Rattle.meaning.specs.Laws.FirstMatch.{found-match, node-inside, edge-inside
 use Rattle.meaning.specs.Laws.Image.Parsed.{Few, rule-few}
 use Rattle.meaning.specs.Laws.Legality.{Ready, between-legal}
 use Rattle.meaning.specs.declared.Layout.{Layout}
-use Rattle.matching.specs.Next.{total}
 use Rattle.ledger.specs.Running.{journalOf, ledgerOf, Held, Leads}
 use Rattle.ledger.specs.Changes.{Went, Below, goes, quotient-le}
 use Rattle.ledger.specs.Whole.{records-count, running-legal, few-nodes, few-edges}

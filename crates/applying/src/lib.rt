@@ -6,10 +6,9 @@ ghost use lib.ListN.{length, take, drop};
 ghost use lib.Dec.{ltb};
 ghost use Rattle.meaning.specs.Layout.{live, ofNode, ofEdge, nodeLength, recordLength, readNodes, readEdges};
 ghost use Rattle.meaning.specs.Image.{rule as readRule};
-ghost use Rattle.meaning.specs.Matching.{leftNodes};
+ghost use Rattle.meaning.specs.Matching.{leftNodes, total};
 ghost use Rattle.meaning.specs.Applying.{store, stores, nodesChange, lowestFree, freeSlots, between, addEdges, hindrance};
-ghost use Rattle.references.specs.Runs.{For};
-ghost use Rattle.matching.specs.Next.{total};
+ghost use Rattle.parts.specs.Runs.{For};
 ghost use Rattle.ledger.specs.Running.{ledgerOf, Held, Running, Leads};
 ghost use Rattle.ledger.specs.Changes.{Went, becomes};
 ghost use Rattle.ledger.specs.Rooms.{stopOf};
@@ -47,7 +46,7 @@ fn take_values(
     let len = label.len;
     let words = label.atoms;
     if p[0] == 6 {
-        let mark = host::node_mark(l, &nodes[..], x);
+        let mark = slots::node_mark(l, &nodes[..], x);
         ledger::store_node(l, nodes, edges, journal, used, x, mark, p[1], &words[..len]);
         return;
     }
@@ -141,7 +140,7 @@ fn change_node(
             edges,
             journal,
             used,
-            references::parts::node_part(right, i),
+            parts::node_part(right, i),
             lens,
             atoms,
             x,
@@ -209,7 +208,7 @@ fn new_nodes(
     let mut places = *slots;
     let mut i: usize = 0;
     while i < new {
-        let p = references::parts::node_part(right, k + i);
+        let p = parts::node_part(right, k + i);
         places[k + i] = come_node(l, nodes, edges, journal, used + i, p, lens, atoms);
         i += 1;
     }
@@ -235,7 +234,7 @@ fn new_edges(
 {
     let mut i: usize = 0;
     while i < count {
-        let p = references::parts::edge_part(right, i);
+        let p = parts::edge_part(right, i);
         come_edge(l, nodes, edges, journal, used + i, p, lens, atoms, places);
         i += 1;
     }
@@ -257,14 +256,14 @@ fn hindrance(
     requires { ⌜ AtMatch l (now nodes) (now edges) (now rule) (now slots) (now lens) (now atoms) ⌝ }
     ensures { λ r. ⌜ ((w : AtMatch l (now (nodes .entry)) (now (edges .entry)) (now (rule .entry)) (now (slots .entry)) (now (lens .entry)) (now (atoms .entry))) → stopOf r ≡ hindrance (l .atoms) (length (now (journal .entry)) / recordLength l) (w .tree) (take (total (w .tree)) (now (slots .entry))) (ledgerOf l (now (nodes .entry)) (now (edges .entry)) (now (journal .entry)) used)) ⌝ }
 {
-    let left = references::parts::left_part(rule);
-    let right = references::parts::right_part(rule);
+    let left = parts::left_part(rule);
+    let right = parts::right_part(rule);
     if values::labels_held(l.atoms, lens, atoms, right) {
-        let k = references::parts::interface_of(rule);
-        let n = references::parts::node_count(left);
-        let m = references::parts::edge_count(left);
-        let new = references::parts::node_count(right) - k;
-        let count = references::parts::edge_count(right);
+        let k = parts::interface_of(rule);
+        let n = parts::node_count(left);
+        let m = parts::edge_count(left);
+        let new = parts::node_count(right) - k;
+        let count = parts::edge_count(right);
         let all = used + (m + n + new + count);
         return ledger::room(l, nodes, edges, journal, new, n - k, count, m, all);
     }
@@ -287,11 +286,11 @@ fn change_left(
     requires { ⌜ Unhindered l (now nodes) (now edges) (now journal) used (now rule) (now slots) (now lens) (now atoms) ⌝ }
     ensures { λ r. ⌜ LeftChanged l (now (nodes .entry)) (now (edges .entry)) (now (journal .entry)) used (now (rule .entry)) (now (slots .entry)) (now (lens .entry)) (now (atoms .entry)) r (now (nodes .exit)) (now (edges .exit)) (now (journal .exit)) ⌝ }
 {
-    let left = references::parts::left_part(rule);
-    let right = references::parts::right_part(rule);
-    let k = references::parts::interface_of(rule);
-    let n = references::parts::node_count(left);
-    let m = references::parts::edge_count(left);
+    let left = parts::left_part(rule);
+    let right = parts::right_part(rule);
+    let k = parts::interface_of(rule);
+    let n = parts::node_count(left);
+    let m = parts::edge_count(left);
     ledger::free_edges(l, &nodes[..], edges, journal, used, slots, n, m);
     let gone = used + m;
     change_nodes(
@@ -325,10 +324,10 @@ fn add_right(
     requires { ⌜ Halfway l (now nodes) (now edges) (now journal) used (now rule) (now slots) (now lens) (now atoms) ⌝ }
     ensures { λ r. ⌜ RightCame l (now (nodes .entry)) (now (edges .entry)) (now (journal .entry)) used (now (rule .entry)) (now (slots .entry)) (now (lens .entry)) (now (atoms .entry)) r (now (nodes .exit)) (now (edges .exit)) (now (journal .exit)) ⌝ }
 {
-    let right = references::parts::right_part(rule);
-    let k = references::parts::interface_of(rule);
-    let new = references::parts::node_count(right) - k;
-    let count = references::parts::edge_count(right);
+    let right = parts::right_part(rule);
+    let k = parts::interface_of(rule);
+    let new = parts::node_count(right) - k;
+    let count = parts::edge_count(right);
     let places = new_nodes(
         l,
         nodes,
@@ -381,8 +380,8 @@ fn change(
 fn takes_nodes(rule: &[u8]) -> bool
     ensures { λ b. ⌜ For (readRule (now (rule .entry))) (λ r. b ≡ ltb (r .interface) (leftNodes r)) ⌝ }
 {
-    let left = references::parts::left_part(rule);
-    references::parts::interface_of(rule) < references::parts::node_count(left)
+    let left = parts::left_part(rule);
+    parts::interface_of(rule) < parts::node_count(left)
 }
 
 // The changes, and the test after them. That test, made where nodes go, finds nothing, since an application leaves no edge

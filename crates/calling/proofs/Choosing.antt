@@ -10,15 +10,14 @@ use borrow.Author.Tests.{ltb-true}
 use lib.Dec.{ltb}
 use lib.ListN.{length, getD, drop}
 use lib.Seq.{drop-cons, drop-length}
-use Rattle.meaning.specs.Layout.{Host}
+use Rattle.meaning.specs.Layout.{Host, hostOf}
 use Rattle.meaning.specs.Image.{Rule, Program, rule, program}
 use Rattle.meaning.specs.FirstMatch.{firstMatch}
 use Rattle.meaning.specs.Commands.{orLater, ruleAt, firstRule}
 use Rattle.meaning.specs.Laws.Tests.{some-inj, every-true}
 use Rattle.meaning.specs.Laws.LegalCommands.{legal-rule}
 use Rattle.meaning.specs.declared.Layout.{Layout}
-use Rattle.references.specs.Runs.{For}
-use Rattle.graph.specs.Graph.{hostOf}
+use Rattle.parts.specs.Runs.{For}
 use Rattle.plan.specs.Plan.{IsRule}
 use Rattle.matching.specs.Values.{IsFirst}
 use Rattle.matching.specs.declared.Matched.{Matched}
@@ -39,7 +38,7 @@ module _ (rules : List Rule) (h : Host) where
   module _ (l : List ℕ) (i n : ℕ) (inside : i < length l) (number : n ≡ getD l i 0) where
     -- the rule at the place is tried first
     tried : (o : Option (List ℕ)) → firstMatch h (ruleAt rules n) ≡ o
-        → firstRule rules h (drop i l) ≡ orLater (ruleAt rules n) o (firstRule rules h (drop (i + 1) l))
+        → firstRule rules h (drop i l) ≡ orLater n (ruleAt rules n) o (firstRule rules h (drop (i + 1) l))
     unfolding firstRule
     tried o e = ap (firstRule rules h) (drop-cons l i 0 inside) ∙ rw (← number, e, add-one i)
 

@@ -7,7 +7,7 @@ use mathlib.Core.List.{List}
 use lib.ListN.{length, getD}
 use Rattle.meaning.specs.Image.{Rule, rule, program}
 use Rattle.meaning.specs.Applying.{Ledger, apply}
-use Rattle.meaning.specs.Commands.{ends, afterApplying, Chosen, ruleAt, firstRule, call}
+use Rattle.meaning.specs.Commands.{ends, afterApplying, Chosen, ruleAt, firstRule, call, stateAt}
 use Rattle.meaning.specs.Calls.{journalRoom}
 use Rattle.meaning.specs.Laws.Commands.{firstRule-some}
 use Rattle.meaning.specs.Laws.LegalCommands.{legal-rule}
@@ -15,8 +15,9 @@ use Rattle.meaning.specs.declared.Layout.{Layout}
 use Rattle.meaning.specs.declared.Tally.{Tally}
 use Rattle.meaning.specs.declared.Stop.{Stop}
 use Rattle.meaning.specs.declared.End.the-variants.{Failed, Stopped as stoppedEnd}
-use Rattle.references.specs.Runs.{For}
-use Rattle.graph.specs.Graph.{Legal, hostOf}
+use Rattle.parts.specs.Runs.{For}
+use Rattle.graph.specs.Graph.{Legal}
+use Rattle.meaning.specs.Layout.{hostOf}
 use Rattle.matching.specs.declared.Outcome.the-variants.{Match, NoMatch}
 use Rattle.ledger.specs.Running.{ledgerOf, stateOf, Running}
 use Rattle.ledger.specs.Whole.{running-keeps}
@@ -26,7 +27,7 @@ use Rattle.applying.specs.Application.{appliedOf, AtMatch, Applies}
 use Rattle.applying.specs.declared.After.{After}
 use Rattle.calling.specs.Called.{Listed, outOf, Called}
 use Rattle.calling.specs.Choosing.{chosenAt, IsChoice, endOf, ranAfter}
-use Rattle.calling.specs.declared.Ran.{Ran}
+use Rattle.meaning.specs.declared.Ran.{Ran}
 use Rattle.calling.specs.declared.Choice.{Choice}
 
 -- the tables of a running program can be searched
@@ -52,7 +53,7 @@ module _ (L : Layout) (nodes edges journal : List ℕ) (t : Tally) (nodes′ edg
   unfolding endOf appliedOf afterApplying
   ended Done records k = refl
   ended (Stopped w) records k =
-      ap (λ (g : Ledger). ends (stoppedEnd w) (record { ledger = g; fuel = t .fuel; steps = t .steps })) (k w refl)
+      ap (λ (g : Ledger). ends (stoppedEnd w) (stateAt g (t .fuel) (t .steps))) (k w refl)
 
   call-applies : (room : ℕ) (rules : List Rule) (o : Option Chosen) (c : Chosen) (a : After) → some c ≡ o
       → appliedOf (a .applied) (ledgerOf L nodes′ edges′ journal′ (a .records))

@@ -14,9 +14,9 @@ use Rattle.meaning.specs.Calls.{journalRoom}
 use Rattle.meaning.specs.Laws.LegalCommands.{LegalRules}
 use Rattle.meaning.specs.declared.Layout.{Layout}
 use Rattle.meaning.specs.declared.Tally.{Tally}
-use Rattle.graph.specs.Graph.{hostOf}
+use Rattle.meaning.specs.Layout.{hostOf}
 use Rattle.ledger.specs.Running.{stateOf, Running}
-use Rattle.calling.specs.declared.Ran.{Ran}
+use Rattle.meaning.specs.declared.Ran.{Ran}
 
 -- the image is a program whose rules are legal
 pub record Programmed (image : List ℕ) : Type 0 where

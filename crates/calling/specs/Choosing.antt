@@ -9,29 +9,29 @@ use lib.ListN.{length, take}
 use Rattle.meaning.specs.Basics.{absent}
 use Rattle.meaning.specs.Image.{Rule, program}
 use Rattle.meaning.specs.References.{names}
-use Rattle.meaning.specs.FirstMatch.{assigned}
+use Rattle.meaning.specs.Assigned.{assigned}
 use Rattle.meaning.specs.Commands.{Chosen, ruleAt, firstRule}
 use Rattle.meaning.specs.declared.Layout.{Layout}
 use Rattle.meaning.specs.declared.Tally.{Tally}
 use Rattle.meaning.specs.declared.End.{End}
 use Rattle.meaning.specs.declared.End.the-variants.{Done as doneEnd, Stopped as stoppedEnd}
-use Rattle.references.specs.Runs.{For}
-use Rattle.graph.specs.Graph.{hostOf}
-use Rattle.matching.specs.Next.{total}
+use Rattle.parts.specs.Runs.{For}
+use Rattle.meaning.specs.Layout.{hostOf}
+use Rattle.meaning.specs.Matching.{total}
 use Rattle.values.specs.Values.{valuesOf, Stored}
 use Rattle.matching.specs.declared.Outcome.{Outcome}
 use Rattle.matching.specs.declared.Outcome.the-variants.{Match, NoMatch}
 use Rattle.ledger.specs.declared.Applied.{Applied}
 use Rattle.ledger.specs.declared.Applied.the-variants.{Done, Stopped}
 use Rattle.applying.specs.declared.After.{After}
-use Rattle.calling.specs.declared.Ran.{Ran}
+use Rattle.meaning.specs.declared.Ran.{Ran}
 use Rattle.calling.specs.declared.Choice.{Choice}
 
 -- The rule and its match.
 
 -- the rule of a number with its slots, where there is a match
 abbrev pub chosenAt : List Rule → ℕ → List ℕ → Outcome → Option Chosen
-chosenAt rules i slots Match = some (record { rule = ruleAt rules i; slots = take (total (ruleAt rules i)) slots })
+chosenAt rules i slots Match = some (record { number = i; rule = ruleAt rules i; slots = take (total (ruleAt rules i)) slots })
 chosenAt rules i slots NoMatch = none
 
 module _ (L : Layout) where

@@ -12,13 +12,8 @@ use matching::Matched;
 use matching::Outcome;
 use meaning::End;
 use meaning::Layout;
+use meaning::Ran;
 use meaning::Tally;
-
-// How a command ended, and the tally after it.
-pub struct Ran {
-    pub end: End,
-    pub tally: Tally,
-}
 
 // A rule's number and its first match. The number means something where there is one.
 pub struct Choice {
@@ -46,7 +41,7 @@ pub fn first_rule(
     let mut i: usize = 0;
     while i < numbers.len() {
         let number = fields::wide(numbers[i]);
-        let rule = references::parts::rule_part(image, number);
+        let rule = parts::rule_part(image, number);
         let matched = matching::first_match(l, nodes, edges, rule, plan, lens, atoms);
         let outcome = matched.outcome;
         match outcome {
@@ -110,7 +105,7 @@ pub fn call(
     let outcome = m.outcome;
     match outcome {
         Outcome::Match => {
-            let rule = references::parts::rule_part(image, c.number);
+            let rule = parts::rule_part(image, c.number);
             let slots = m.slots;
             let used = t.records;
             let a = applying::apply(l, nodes, edges, journal, used, rule, &slots, &lens, &atoms);

@@ -3,7 +3,7 @@
 ghost use mathlib.Core.Path.{_≡_};
 ghost use lib.ListN.{length};
 ghost use Rattle.meaning.specs.Image.{constant};
-ghost use Rattle.references.specs.Runs.{For, nthPart};
+ghost use Rattle.parts.specs.Runs.{For, nthPart};
 ghost use Rattle.io.specs.Counts.{Counts};
 ghost use Rattle.cases.specs.Cases.{Copied};
 
@@ -41,14 +41,14 @@ pub fn read_case(buffer: &mut [u8]) -> usize
 pub fn part(case: &[u8], n: usize) -> &[u8]
     ensures { λ r. ⌜ now r ≡ nthPart n (now (case .entry)) ⌝ }
 {
-    references::parts::nth_part(case, n)
+    parts::nth_part(case, n)
 }
 
 // The word that the field of number n holds; 0 if it holds none.
 pub fn word(case: &[u8], n: usize) -> u32
     ensures { λ r. ⌜ For (constant (nthPart n (now (case .entry)))) (λ w. r ≡ w) ⌝ }
 {
-    references::parts::word_of(part(case, n))
+    parts::word_of(part(case, n))
 }
 
 // Copies bytes to the front of a buffer, as many as it holds, and says how many.

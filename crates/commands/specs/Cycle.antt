@@ -17,10 +17,10 @@ use Rattle.meaning.specs.declared.Layout.{Layout}
 use Rattle.meaning.specs.declared.Tally.{Tally}
 use Rattle.meaning.specs.declared.End.{End}
 use Rattle.meaning.specs.declared.End.the-variants.{Done, Failed, Broke, Stopped}
-use Rattle.references.specs.Runs.{Run}
+use Rattle.parts.specs.Runs.{Run}
 use Rattle.ledger.specs.Running.{ledgerOf, stateOf, Running}
 use Rattle.calling.specs.Called.{Programmed, outOf}
-use Rattle.calling.specs.declared.Ran.{Ran}
+use Rattle.meaning.specs.declared.Ran.{Ran}
 use Rattle.commands.specs.declared.Kind.{Kind}
 use Rattle.commands.specs.declared.Kind.the-variants.{RuleSet, Sequence, Guarded, Loop, Leaf}
 

@@ -5,7 +5,7 @@ use mathlib.Core.List.{List}
 use Prim.Native.Nat.{ℕ}
 use Rattle.meaning.specs.Basics.{choose}
 use Rattle.meaning.specs.Applying.{Ledger}
-use Rattle.meaning.specs.Commands.{State, ends, back}
+use Rattle.meaning.specs.Commands.{State, ends, back, stateAt}
 use Rattle.meaning.specs.declared.Layout.{Layout}
 use Rattle.meaning.specs.declared.Stop.{Stop}
 use Rattle.meaning.specs.declared.Tally.{Tally}
@@ -13,7 +13,7 @@ use Rattle.meaning.specs.declared.End.{End}
 use Rattle.meaning.specs.declared.End.the-variants.{Done, Failed, Broke, Stopped}
 use Rattle.ledger.specs.Running.{stateOf, Running}
 use Rattle.undoing.specs.Undone.{Undone}
-use Rattle.calling.specs.declared.Ran.{Ran}
+use Rattle.meaning.specs.declared.Ran.{Ran}
 use Rattle.commands.specs.Cycle.{settled, closed, Restored, Settled, Closed}
 
 module _ (L : Layout) {nodes edges journal : List ℕ} {mark : ℕ} {nodes′ edges′ journal′ : List ℕ} where
@@ -24,7 +24,7 @@ module _ (L : Layout) {nodes edges journal : List ℕ} {mark : ℕ} {nodes′ ed
       (record {
         again = λ s w.
             let a = u .again (s .ledger) (w .legal) (w .from) (w .count) in
-            (ap (λ (g : Ledger). record { ledger = g; fuel = t .fuel; steps = t .steps }) (a .0), a .1);
+            (ap (λ (g : Ledger). stateAt g (t .fuel) (t .steps)) (a .0), a .1);
       })
 
   -- what was undone, for an end after which it is

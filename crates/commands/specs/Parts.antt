@@ -19,8 +19,8 @@ use Rattle.fields.specs.Fields.{fieldAt, onward, nthField}
 use Rattle.fields.specs.Laws.{found-field}
 use Rattle.fields.specs.declared.Found.{Found}
 use Rattle.fields.specs.declared.Found.the-variants.{Field, Short, End as Nothing}
-use Rattle.references.specs.Runs.{Run, only-run, partOf, nthPart, nthTag, nth-item, nth-inside}
-use Rattle.references.specs.Rows.{main-is}
+use Rattle.parts.specs.Runs.{Run, only-run, partOf, nthPart, nthTag, nth-item, nth-inside}
+use Rattle.parts.specs.Rows.{main-is}
 use Rattle.calling.specs.Called.{Listed}
 use Rattle.commands.specs.Program.{Runnable}
 use Rattle.commands.specs.Cycle.{LeafTag, Known, Row, at}

@@ -13,7 +13,7 @@ use Rattle.meaning.specs.declared.Layout.{Layout}
 use Rattle.meaning.specs.declared.Tally.{Tally}
 use Rattle.ledger.specs.Running.{stateOf, Running}
 use Rattle.calling.specs.Called.{Programmed, outOf}
-use Rattle.calling.specs.declared.Ran.{Ran}
+use Rattle.meaning.specs.declared.Ran.{Ran}
 
 -- the image is a program whose references hold
 pub record Runnable (image : List ℕ) : Type 0 where

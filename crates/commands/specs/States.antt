@@ -9,7 +9,7 @@ use native.Mathlib.Numerals.{add-one}
 use lib.ListN.{getD}
 use Rattle.meaning.specs.Basics.{choose}
 use Rattle.meaning.specs.Image.{Rule, Command, guarded, loop, skip, Commands, inOrder}
-use Rattle.meaning.specs.Commands.{State, Out, ends, next, decide, again, rounds, work, works, exec}
+use Rattle.meaning.specs.Commands.{State, Out, ends, next, decide, again, rounds, work, works, exec, stateAt}
 use Rattle.meaning.specs.Laws.Commands.{exec-entered}
 use Rattle.meaning.specs.Laws.Fuel.{exec-spending, rounds-bound}
 use Rattle.meaning.specs.declared.Stop.the-variants.{OutOfFuel}
@@ -63,7 +63,7 @@ module _ (most room : ℕ) (rules : List Rule) where
   pub enter-none : (c : Command) (s : State) → s .fuel ≡ 0 → ends (Stopped OutOfFuel) s ≡ exec most room rules c s
   enter-none c s h = sym (exec-spending most room rules c .empty s h)
 
-  pub enter-paid : (c : Command) (s : State) → (s .fuel ≡ 0 → ⊥) → work most room rules c (record { ledger = s .ledger; fuel = s .fuel - 1; steps = s .steps + 1 }) ≡ exec most room rules c s
+  pub enter-paid : (c : Command) (s : State) → (s .fuel ≡ 0 → ⊥) → work most room rules c (stateAt (s .ledger) (s .fuel - 1) (s .steps + 1)) ≡ exec most room rules c s
   enter-paid c s h =
       let z : s .fuel ≡ suc (s .fuel - 1) = omega arith in
       rw (add-one (s .steps)) (sym (exec-entered most room rules c s (s .fuel - 1) z))

@@ -23,11 +23,11 @@ use Rattle.meaning.specs.declared.Stop.the-variants.{OutOfFuel}
 use Rattle.meaning.specs.declared.End.{End}
 use Rattle.meaning.specs.declared.End.the-variants.{Done, Failed, Broke, Stopped}
 use Rattle.fields.specs.Laws.{Lies}
-use Rattle.references.specs.Runs.{Run, Taken, run-none, run-some, run-there, nthPart, nthTag}
+use Rattle.parts.specs.Runs.{Run, Taken, run-none, run-some, run-there, nthPart, nthTag}
 use Rattle.ledger.specs.Running.{ledgerOf, stateOf, Running}
 use Rattle.ledger.specs.Whole.{records-count, running-legal}
 use Rattle.calling.specs.Called.{outOf, Called}
-use Rattle.calling.specs.declared.Ran.{Ran}
+use Rattle.meaning.specs.declared.Ran.{Ran}
 use Rattle.commands.specs.declared.Kind.{Kind}
 use Rattle.commands.specs.Program.{Runnable, RunsProgram}
 use Rattle.commands.specs.Cycle.{LeafTag, Tagged, isDone, partAfter, settled, Known, Row, at, runsCommand, runsRow, runsGuarded, runsLoop, Begun, Comes, Earlier, Settled, Closed}

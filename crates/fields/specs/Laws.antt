@@ -225,3 +225,7 @@ nth-read passes item (a ∷ l) n bs at behind e (suc i) d h =
     let s = lies bs at (w .whole .tag) (at + 3) (at + 3 + length (w .whole .payload)) (w .whole) (w .is) refl in
     rw (← (at-field bs at (there bs at (w .whole) (w .is)) (w .whole) (w .is)))
     (nth-read passes item l (n - 1) bs (at + 3 + length (w .whole .payload)) behind (ap (leading passes item (n - 1)) (sym (s .rest)) ∙ w .next) i d (omega arith))
+
+-- Tags: a number that is none of four in a row lies behind them
+pub past : (low t : ℕ) → (t ≡ low → ⊥) → (t ≡ low + 1 → ⊥) → (t ≡ low + 2 → ⊥) → (t ≡ low + 3 → ⊥) → low ≤ t → low + 4 ≤ t
+past low t h0 h1 h2 h3 k = omega arith

@@ -14,16 +14,19 @@ use Rattle.meaning.specs.Layout.{Host}
 use Rattle.meaning.specs.Image.{Rule, label}
 use Rattle.meaning.specs.References.{labels, takesList, lists}
 use Rattle.meaning.specs.Matching.{Assignment, leftNodes, leftEdges, atomsOf, instance}
-use Rattle.meaning.specs.FirstMatch.{assigned, lengthFits, labelAgrees}
+use Rattle.meaning.specs.Assigned.{assigned}
+use Rattle.meaning.specs.FirstMatch.{lengthFits, labelAgrees}
 use Rattle.meaning.specs.Laws.Tests.{choose-eq, both-yes, both-no}
 use Rattle.meaning.specs.Laws.Every.{Every}
 use Rattle.meaning.specs.declared.Element.{Element}
 use Rattle.meaning.specs.declared.Element.the-variants.{Constant}
-use Rattle.labels.specs.Labels.{atomsIn, Held, Holds, Spells, behind, Next, Begins, Counted}
+use Rattle.labels.specs.Labels.{atomsIn, Held, Holds}
+use Rattle.parts.specs.Elements.{Spells, behind, Next, Begins, Counted}
 use Rattle.labels.specs.Laws.{held-length, held-part, same-step}
-use Rattle.labels.specs.Walks.{spells-label, Agreeing, agreeing-end}
+use Rattle.parts.specs.Walks.{spells-label}
+use Rattle.fitting.proofs.Walks.{Agreeing, agreeing-end}
 use Rattle.labels.specs.declared.Label.{Label}
-use Rattle.labels.specs.declared.Counts.{Counts}
+use Rattle.parts.specs.declared.Counts.{Counts}
 use Rattle.plan.specs.Plan.{labelOf}
 use Rattle.fitting.specs.declared.Agrees.{Agrees}
 use Rattle.fitting.specs.declared.Agrees.the-variants.{Upto, Differs}

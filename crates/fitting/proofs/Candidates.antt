@@ -16,7 +16,8 @@ use Rattle.meaning.specs.Layout.{Host, liveAt}
 use Rattle.meaning.specs.Image.{Rule}
 use Rattle.meaning.specs.References.{labels, lists, ruleHolds}
 use Rattle.meaning.specs.Matching.{nodeAt, edgeAt, leftNode, leftEdge, leftNodes, leftEdges, nodeSlot, atomsOf, instance}
-use Rattle.meaning.specs.FirstMatch.{marksAgree, isVariable, share, spare, taken, orElse, assigned, lengthFits, labelAgrees, firstWith, testsSoFar, joins, linked, canGo, nodeFits, edgeFits, fits}
+use Rattle.meaning.specs.FirstMatch.{marksAgree, lengthFits, labelAgrees, firstWith, testsSoFar, joins, linked, canGo, nodeFits, edgeFits, fits}
+use Rattle.meaning.specs.Assigned.{isVariable, share, spare, taken, orElse, assigned}
 use Rattle.meaning.specs.Laws.Tests.{choose-lt, choose-le, both-yes, both-no, both-of, same-of}
 use Rattle.meaning.specs.Laws.References.{label-simple}
 use Rattle.meaning.specs.Laws.Labels.{need, fits-need}
@@ -25,7 +26,7 @@ use Rattle.meaning.specs.declared.Element.the-variants.{Variable}
 use Rattle.plan.specs.Plan.{labelOf, Alone}
 use Rattle.fitting.specs.Fitting.{Known, Inside, slots, labelAt, Tried, Full, Numbers, joinsAt, Candidate, Guessed, NodeLike, Likely}
 use Rattle.fitting.specs.Trials.{few-items, tried, full}
-use Rattle.fitting.proofs.Loops.{clauses-fail, first-of, of-first, of-second}
+use Rattle.meaning.specs.Laws.Loops.{clauses-fail, first-of, of-first, of-second}
 use Rattle.fitting.proofs.Values.{assigned-first}
 
 -- Trials.

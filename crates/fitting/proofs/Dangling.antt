@@ -12,8 +12,8 @@ use lib.Seq.{getD-take}
 use Rattle.meaning.specs.Basics.{both, either, any, absent}
 use Rattle.meaning.specs.Layout.{Host, liveAt}
 use Rattle.meaning.specs.Image.{Rule}
-use Rattle.meaning.specs.Matching.{edgeAt, leftNodes, leftEdges, nodeSlot}
-use Rattle.meaning.specs.FirstMatch.{touches, touchesGone, dangles}
+use Rattle.meaning.specs.Matching.{edgeAt, leftNodes, leftEdges, nodeSlot, touches}
+use Rattle.meaning.specs.FirstMatch.{touchesGone, dangles}
 use Rattle.meaning.specs.Laws.Tests.{both-yes, both-no, both-of, either-left, either-right, any-of, any-no}
 use Rattle.fitting.specs.Fitting.{goneAt, Numbers}
 

@@ -13,7 +13,8 @@ use Rattle.meaning.specs.Layout.{Host}
 use Rattle.meaning.specs.Image.{Rule}
 use Rattle.meaning.specs.References.{operandNames, conditionOperands, conditionNodes, names, labels, testOperands, testNames, variablesExist, testNodesExist, ruleHolds}
 use Rattle.meaning.specs.Matching.{leftNodes, leftEdges, testHolds}
-use Rattle.meaning.specs.FirstMatch.{assigned, firstWith, decidedAt}
+use Rattle.meaning.specs.Assigned.{assigned}
+use Rattle.meaning.specs.FirstMatch.{firstWith, decidedAt}
 use Rattle.meaning.specs.Laws.Tests.{choose-eq, choose-ne}
 use Rattle.meaning.specs.Laws.Every.{Every, Every-true, Every-in, Every-parts, Every-concat, Every-map, Every-then}
 use Rattle.meaning.specs.Laws.References.{clauses-true, OfVariables, variables-with, left-plain, tests-left}

@@ -1,4 +1,4 @@
-mod Loops
+mod Walks
 mod Parts
 mod Values
 mod Agreeing

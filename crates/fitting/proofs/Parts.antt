@@ -15,14 +15,15 @@ use Rattle.meaning.specs.Basics.{choose, either}
 use Rattle.meaning.specs.Image.{Rule}
 use Rattle.meaning.specs.References.{labels, takesList, lists, ruleHolds}
 use Rattle.meaning.specs.Matching.{leftNodes, leftEdges}
-use Rattle.meaning.specs.FirstMatch.{isVariable, share, spare, taken, orElse, has, firstWith}
+use Rattle.meaning.specs.Assigned.{isVariable, share, spare, taken, orElse}
+use Rattle.meaning.specs.FirstMatch.{has, firstWith}
 use Rattle.meaning.specs.Laws.References.{label-simple}
 use Rattle.meaning.specs.Laws.Assignment.{labels-length, label-node, label-edge}
 use Rattle.meaning.specs.Laws.Image.Parsed.{label-few, ruleNode-is, ruleEdge-is}
 use Rattle.meaning.specs.declared.Element.{Element}
 use Rattle.meaning.specs.declared.Element.the-variants.{Constant, Variable, Sum, Difference}
-use Rattle.labels.specs.Labels.{Counted}
-use Rattle.labels.specs.declared.Counts.{Counts}
+use Rattle.parts.specs.Elements.{Counted}
+use Rattle.parts.specs.declared.Counts.{Counts}
 use Rattle.plan.specs.Plan.{Laid, singlesBefore, listsBefore, labelOf}
 use Rattle.fitting.specs.Fitting.{OnLeft, Takes}
 

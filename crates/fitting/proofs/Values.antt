@@ -14,7 +14,8 @@ use Rattle.meaning.specs.Layout.{Host}
 use Rattle.meaning.specs.Image.{Rule}
 use Rattle.meaning.specs.References.{elementNames, labels, isPlain, ruleHolds}
 use Rattle.meaning.specs.Matching.{nodeAt, edgeAt, leftNodes, leftEdges}
-use Rattle.meaning.specs.FirstMatch.{isVariable, spare, taken, paired, hostLabels, orElse, valueFrom, assigned, has, firstWith}
+use Rattle.meaning.specs.Assigned.{isVariable, spare, taken, paired, hostLabels, orElse, valueFrom, assigned}
+use Rattle.meaning.specs.FirstMatch.{has, firstWith}
 use Rattle.meaning.specs.Laws.Tests.{choose-lt, choose-le, either-left, either-right}
 use Rattle.meaning.specs.Laws.Every.{Every}
 use Rattle.meaning.specs.Laws.References.{label-plain, label-variables}

@@ -12,7 +12,8 @@ use Rattle.meaning.specs.Layout.{Host, liveAt}
 use Rattle.meaning.specs.Image.{Rule, label}
 use Rattle.meaning.specs.References.{operandNames, elementNames, conditionOperands, conditionNodes, labels}
 use Rattle.meaning.specs.Matching.{nodeAt, edgeAt, leftNodes, leftEdges, leftNode, leftEdge, Assignment, runs}
-use Rattle.meaning.specs.FirstMatch.{marksAgree, firstWith, spare, taken, orElse, assigned, lengthFits, labelAgrees, testsSoFar, nodeFits, fits}
+use Rattle.meaning.specs.FirstMatch.{marksAgree, firstWith, lengthFits, labelAgrees, testsSoFar, nodeFits, fits}
+use Rattle.meaning.specs.Assigned.{spare, taken, orElse, assigned}
 use Rattle.meaning.specs.Laws.Every.{Every}
 use Rattle.meaning.specs.declared.Operand.{Operand}
 use Rattle.meaning.specs.declared.Element.{Element}

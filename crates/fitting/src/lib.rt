@@ -6,15 +6,16 @@ ghost use Prim.Native.Nat.{_+_, _-_, _<_, _≤_, max};
 ghost use lib.ListN.{length, getD, take, drop};
 ghost use Rattle.meaning.specs.Basics.{any, all, count, every, absent, same};
 ghost use Rattle.meaning.specs.Numbers.{height};
-ghost use Rattle.meaning.specs.Layout.{Host};
+ghost use Rattle.meaning.specs.Layout.{Host, hostOf};
 ghost use Rattle.meaning.specs.Image.{Rule};
 ghost use Rattle.meaning.specs.Matching.{leftNodes, leftEdges, leftNode, leftEdge, nodeSlot, atomsOf, atomOf, instance, conditionHolds, testHolds};
-ghost use Rattle.meaning.specs.FirstMatch.{marksAgree, assigned, linked as isLinked, leftTouches, canGo, testsSoFar, fits, dangles as isDangling, complete as isComplete};
+ghost use Rattle.meaning.specs.FirstMatch.{marksAgree, linked as isLinked, leftTouches, canGo, testsSoFar, fits, dangles as isDangling, complete as isComplete};
+ghost use Rattle.meaning.specs.Assigned.{assigned};
 ghost use Rattle.labels.specs.Labels.{atomsIn, Held, Holds};
-ghost use Rattle.graph.specs.Graph.{Legal, hostOf};
+ghost use Rattle.graph.specs.Graph.{Legal};
 ghost use Rattle.plan.specs.Plan.{For, IsLaid, HasEdge, testOf, labelOf};
 ghost use Rattle.fitting.specs.Fitting.{Known, Inside, slots, labelAt, slotOf, Tried, TriedEdge, Full, HasValue, HasElement, HasOperand, HasElements, HasCondition, HasTest, Numbers, Room, joinsAt, goneAt, OnLeft, Takes, Candidate, AgreesFrom, Guessed, NodeLike, NextLike, Likely};
-use labels::Front;
+use parts::Front;
 use labels::Label;
 use meaning::Condition;
 use meaning::Element;
@@ -105,8 +106,8 @@ fn part_of(rule: &[u8], plan: &[usize; 102], v: usize, len: usize) -> Part
     requires { ⌜ len ≤ 8 ⌝ }
     ensures { λ t. ⌜ (t .from + t .n ≤ len) × ((w : OnLeft (now (rule .entry)) (now (plan .entry)) v) → Takes (w .rule) v len (t .from) (t .n)) ⌝ }
 {
-    let n = labels::spare(plan::counts(plan, plan[28 + v]), len);
-    let k = labels::share(plan::types(rule, plan), Element::Variable(v), n);
+    let n = parts::elements::spare(plan::counts(plan, plan[28 + v]), len);
+    let k = parts::elements::share(plan::types(rule, plan), Element::Variable(v), n);
     let from = plan[90 + v] + plan[96 + v] * n;
     if len <= from {
         return Part { from: 0, n: 0 };
@@ -227,7 +228,7 @@ fn elements_agree(
     let mut rest = p;
     let mut from: usize = 0;
     loop {
-        let front = labels::first_element(rest);
+        let front = parts::elements::first_element(rest);
         match front {
             Front::First(e, end) => {
                 let next = element_agrees(l, nodes, edges, rule, plan, at, i, c, e, a, from);
@@ -263,7 +264,7 @@ fn label_likely(
     ensures { λ b. ⌜ ((w : Known (now (rule .entry)) (now (plan .entry))) → Guessed (w .rule) (getD (now (plan .entry)) (66 + i) 0) (labelOf (w .rule) i) (labelAt (hostOf l (now (nodes .entry)) (now (edges .entry))) (leftNodes (w .rule)) i c) b) ⌝ }
 {
     let n = item_length(l, nodes, edges, plan, i, c);
-    if labels::length_fits(plan::counts(plan, i), n) {
+    if parts::elements::length_fits(plan::counts(plan, i), n) {
         if plan[66 + i] == 2 {
             let x = item_atom(l, nodes, edges, plan, i, c, 0);
             return x as usize == plan[78 + i];

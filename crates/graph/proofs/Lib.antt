@@ -1,2 +1,1 @@
 mod Slots
-mod Counts

@@ -1,15 +1,12 @@
--- The host that lent tables hold, and what the search asks of them beforehand. Rests on the meaning's Layout.
+-- What the search asks of lent tables beforehand. Rests on the meaning's Layout.
 use mathlib.Core.Path.{_≡_}
 use mathlib.Core.Bool.{true}
 use mathlib.Core.List.{List}
 use Prim.Native.Nat.{ℕ, _≤_}
-use Rattle.meaning.specs.Layout.{Host, Sized, nodeLength, edgeLength, fitsTable, readNodes, readEdges, keepsLayout}
+use Rattle.meaning.specs.Layout.{Sized, nodeLength, edgeLength, fitsTable, keepsLayout}
 use Rattle.meaning.specs.declared.Layout.{Layout}
 
 module _ (L : Layout) (nodes edges : List ℕ) where
-  abbrev pub hostOf : Host
-  hostOf = record { nodes = readNodes L nodes; edges = readEdges L edges }
-
   -- the tables keep a layout whose labels can be copied out
   pub record Legal : Type 0 where
     pub sized : Sized L

@@ -3,12 +3,10 @@ ghost use mathlib.Core.Path.{_≡_};
 ghost use Prim.Native.Nat.{_<_, _≤_};
 ghost use lib.ListN.{length, getD};
 ghost use Rattle.meaning.specs.Basics.{any, count};
-ghost use Rattle.meaning.specs.Layout.{Sized, liveAt, readNodes, readEdges};
-ghost use Rattle.meaning.specs.Image.{Rule};
-ghost use Rattle.meaning.specs.Matching.{nodeAt, edgeAt, runs, leaves, arrives, inDegree, outDegree};
-ghost use Rattle.meaning.specs.FirstMatch.{touches};
+ghost use Rattle.meaning.specs.Layout.{Sized, liveAt, readNodes, readEdges, hostOf};
+ghost use Rattle.meaning.specs.Matching.{nodeAt, edgeAt, runs, leaves, arrives, inDegree, outDegree, touches};
 ghost use Rattle.labels.specs.Labels.{Holds};
-ghost use Rattle.graph.specs.Graph.{Legal, hostOf};
+ghost use Rattle.graph.specs.Graph.{Legal};
 use labels::Label;
 use meaning::Layout;
 
@@ -27,7 +25,7 @@ pub fn node_live(l: Layout, nodes: &[u8], edges: &[u8], x: usize) -> bool
     requires { ⌜ x < length (hostOf l (now nodes) (now edges) .nodes) ⌝ }
     ensures { λ r. ⌜ r ≡ liveAt (hostOf l (now (nodes .entry)) (now (edges .entry)) .nodes) x ⌝ }
 {
-    let b = host::slot(nodes, l.node, x);
+    let b = slots::slot(nodes, l.node, x);
     b[0] != 0
 }
 
@@ -36,7 +34,7 @@ pub fn node_mark(l: Layout, nodes: &[u8], edges: &[u8], x: usize) -> u8
     requires { ⌜ x < length (hostOf l (now nodes) (now edges) .nodes) ⌝ }
     ensures { λ r. ⌜ r ≡ nodeAt (hostOf l (now (nodes .entry)) (now (edges .entry))) x .mark ⌝ }
 {
-    let b = host::slot(nodes, l.node, x);
+    let b = slots::slot(nodes, l.node, x);
     b[1]
 }
 
@@ -45,7 +43,7 @@ pub fn node_root(l: Layout, nodes: &[u8], edges: &[u8], x: usize) -> u8
     requires { ⌜ x < length (hostOf l (now nodes) (now edges) .nodes) ⌝ }
     ensures { λ r. ⌜ r ≡ nodeAt (hostOf l (now (nodes .entry)) (now (edges .entry))) x .root ⌝ }
 {
-    let b = host::slot(nodes, l.node, x);
+    let b = slots::slot(nodes, l.node, x);
     b[2]
 }
 
@@ -54,7 +52,7 @@ pub fn node_label(l: Layout, nodes: &[u8], edges: &[u8], x: usize) -> Label
     requires { ⌜ x < length (hostOf l (now nodes) (now edges) .nodes) ⌝ }
     ensures { λ r. ⌜ Holds (nodeAt (hostOf l (now (nodes .entry)) (now (edges .entry))) x .label) r ⌝ }
 {
-    labels::read_label(host::slot(nodes, l.node, x), 4)
+    labels::read_label(slots::slot(nodes, l.node, x), 4)
 }
 
 // How many atoms its label has.
@@ -63,7 +61,7 @@ pub fn node_length(l: Layout, nodes: &[u8], edges: &[u8], x: usize) -> usize
     requires { ⌜ x < length (hostOf l (now nodes) (now edges) .nodes) ⌝ }
     ensures { λ r. ⌜ (r ≡ length (nodeAt (hostOf l (now (nodes .entry)) (now (edges .entry))) x .label)) × (r ≤ 8) ⌝ }
 {
-    labels::read_length(host::slot(nodes, l.node, x))
+    labels::read_length(slots::slot(nodes, l.node, x))
 }
 
 // Atom k of its label.
@@ -72,7 +70,7 @@ pub fn node_atom(l: Layout, nodes: &[u8], edges: &[u8], x: usize, k: usize) -> u
     requires { ⌜ (x < length (hostOf l (now nodes) (now edges) .nodes)) × (k < length (nodeAt (hostOf l (now nodes) (now edges)) x .label)) ⌝ }
     ensures { λ r. ⌜ r ≡ getD (nodeAt (hostOf l (now (nodes .entry)) (now (edges .entry))) x .label) k 0 ⌝ }
 {
-    labels::read_atom(host::slot(nodes, l.node, x), 4, k)
+    labels::read_atom(slots::slot(nodes, l.node, x), 4, k)
 }
 
 // Edges.
@@ -90,7 +88,7 @@ pub fn edge_live(l: Layout, nodes: &[u8], edges: &[u8], x: usize) -> bool
     requires { ⌜ x < length (hostOf l (now nodes) (now edges) .edges) ⌝ }
     ensures { λ r. ⌜ r ≡ liveAt (hostOf l (now (nodes .entry)) (now (edges .entry)) .edges) x ⌝ }
 {
-    let b = host::slot(edges, l.edge, x);
+    let b = slots::slot(edges, l.edge, x);
     b[0] != 0
 }
 
@@ -99,7 +97,7 @@ pub fn edge_mark(l: Layout, nodes: &[u8], edges: &[u8], x: usize) -> u8
     requires { ⌜ x < length (hostOf l (now nodes) (now edges) .edges) ⌝ }
     ensures { λ r. ⌜ r ≡ edgeAt (hostOf l (now (nodes .entry)) (now (edges .entry))) x .mark ⌝ }
 {
-    let b = host::slot(edges, l.edge, x);
+    let b = slots::slot(edges, l.edge, x);
     b[1]
 }
 
@@ -108,7 +106,7 @@ pub fn edge_source(l: Layout, nodes: &[u8], edges: &[u8], x: usize) -> usize
     requires { ⌜ x < length (hostOf l (now nodes) (now edges) .edges) ⌝ }
     ensures { λ r. ⌜ r ≡ edgeAt (hostOf l (now (nodes .entry)) (now (edges .entry))) x .source ⌝ }
 {
-    host::slot_number(host::slot(edges, l.edge, x), 4, l.width)
+    slots::slot_number(slots::slot(edges, l.edge, x), 4, l.width)
 }
 
 pub fn edge_target(l: Layout, nodes: &[u8], edges: &[u8], x: usize) -> usize
@@ -117,7 +115,7 @@ pub fn edge_target(l: Layout, nodes: &[u8], edges: &[u8], x: usize) -> usize
     ensures { λ r. ⌜ r ≡ edgeAt (hostOf l (now (nodes .entry)) (now (edges .entry))) x .target ⌝ }
 {
     let w = l.width;
-    host::slot_number(host::slot(edges, l.edge, x), 4 + w, w)
+    slots::slot_number(slots::slot(edges, l.edge, x), 4 + w, w)
 }
 
 pub fn edge_label(l: Layout, nodes: &[u8], edges: &[u8], x: usize) -> Label
@@ -125,7 +123,7 @@ pub fn edge_label(l: Layout, nodes: &[u8], edges: &[u8], x: usize) -> Label
     requires { ⌜ x < length (hostOf l (now nodes) (now edges) .edges) ⌝ }
     ensures { λ r. ⌜ Holds (edgeAt (hostOf l (now (nodes .entry)) (now (edges .entry))) x .label) r ⌝ }
 {
-    labels::read_label(host::slot(edges, l.edge, x), 4 + 2 * l.width)
+    labels::read_label(slots::slot(edges, l.edge, x), 4 + 2 * l.width)
 }
 
 // How many atoms its label has.
@@ -134,7 +132,7 @@ pub fn edge_length(l: Layout, nodes: &[u8], edges: &[u8], x: usize) -> usize
     requires { ⌜ x < length (hostOf l (now nodes) (now edges) .edges) ⌝ }
     ensures { λ r. ⌜ (r ≡ length (edgeAt (hostOf l (now (nodes .entry)) (now (edges .entry))) x .label)) × (r ≤ 8) ⌝ }
 {
-    labels::read_length(host::slot(edges, l.edge, x))
+    labels::read_length(slots::slot(edges, l.edge, x))
 }
 
 // Atom k of its label.
@@ -143,7 +141,7 @@ pub fn edge_atom(l: Layout, nodes: &[u8], edges: &[u8], x: usize, k: usize) -> u
     requires { ⌜ (x < length (hostOf l (now nodes) (now edges) .edges)) × (k < length (edgeAt (hostOf l (now nodes) (now edges)) x .label)) ⌝ }
     ensures { λ r. ⌜ r ≡ getD (edgeAt (hostOf l (now (nodes .entry)) (now (edges .entry))) x .label) k 0 ⌝ }
 {
-    labels::read_atom(host::slot(edges, l.edge, x), 4 + 2 * l.width, k)
+    labels::read_atom(slots::slot(edges, l.edge, x), 4 + 2 * l.width, k)
 }
 
 // What an edge does.
@@ -188,11 +186,11 @@ pub fn edge_arrives(l: Layout, nodes: &[u8], edges: &[u8], t: usize, x: usize) -
     false
 }
 
-// Whether edge x is live and touches slot c. The definition has a rule that it does not look at: any will do.
+// Whether edge x is live and touches slot c.
 pub fn edge_touches(l: Layout, nodes: &[u8], edges: &[u8], c: usize, x: usize) -> bool
     requires { ⌜ Legal l (now nodes) (now edges) ⌝ }
     requires { ⌜ x < length (hostOf l (now nodes) (now edges) .edges) ⌝ }
-    ensures { λ r. ⌜ ((k : Rule) → r ≡ touches (hostOf l (now (nodes .entry)) (now (edges .entry))) k c x) ⌝ }
+    ensures { λ r. ⌜ r ≡ touches (hostOf l (now (nodes .entry)) (now (edges .entry))) c x ⌝ }
 {
     if edge_live(l, nodes, edges, x) {
         if edge_source(l, nodes, edges, x) == c {
@@ -262,7 +260,7 @@ pub fn in_degree(l: Layout, nodes: &[u8], edges: &[u8], t: usize) -> usize
 // How many edges touch slot c, a loop counted once.
 pub fn degree(l: Layout, nodes: &[u8], edges: &[u8], c: usize) -> usize
     requires { ⌜ Legal l (now nodes) (now edges) ⌝ }
-    ensures { λ r. ⌜ ((k : Rule) → r ≡ count (touches (hostOf l (now (nodes .entry)) (now (edges .entry))) k c) (length (hostOf l (now (nodes .entry)) (now (edges .entry)) .edges))) ⌝ }
+    ensures { λ r. ⌜ r ≡ count (touches (hostOf l (now (nodes .entry)) (now (edges .entry))) c) (length (hostOf l (now (nodes .entry)) (now (edges .entry)) .edges)) ⌝ }
 {
     let n = edge_slots(l, edges);
     let mut x: usize = 0;

@@ -1,35 +1,18 @@
--- Laws for the layout test: what the clauses passed so far, and the one that fails, say of a slot; and a table slot by slot.
+-- Laws for the layout test: what the clauses passed so far, and the one that fails, say of a slot.
 use Prim.Native.Nat.{ℕ, _+_, _-_, _*_, _<_, _≤_}
 use mathlib.Core.Path.{_≡_, sym, _∙_, ap}
 use mathlib.Core.List.{List}
 use mathlib.Core.Bool.{Bool, true, false}
-use native.Mathlib.Numerals.{add-one}
 use borrow.Author.Tests.{eq-eqb, ne-eqb, le-leb, lt-leb}
 use lib.Dec.{eqb}
-use lib.ListN.{length, getD, take, drop, drop-of-length-le}
-use lib.Seq.{drop-cons}
-use Rattle.meaning.specs.Basics.{choose, both, either, clauses, every, zeros}
+use lib.ListN.{length, getD, take, drop}
+use Rattle.meaning.specs.Basics.{choose, both, either, clauses, zeros}
 use Rattle.meaning.specs.Numbers.{number}
 use Rattle.meaning.specs.Layout.{Slot, Node, nodeLength, readNodes, liveAt, isNodeMark, isEdgeMark, keepsNode, keepsEdge}
 use Rattle.meaning.specs.Laws.Tests.{both-last}
 use Rattle.meaning.specs.declared.Layout.{Layout}
-use Rattle.host.specs.Host.{states}
-use Rattle.host.specs.States.{live-nodes}
-
--- Every element of a list, one by one.
-
-module _ {A : Type 0} (f : A → Bool) (l : List A) (i : ℕ) (d : A) where
-  pub every-more : i < length l → f (getD l i d) ≡ true → every f (drop i l) ≡ every f (drop (i + 1) l)
-  unfolding every both
-  every-more h e = rw (add-one i, drop-cons l i d h, e)
-
-  pub every-other : i < length l → f (getD l i d) ≡ false → every f (drop i l) ≡ false
-  unfolding every both
-  every-other h e = rw (drop-cons l i d h, e)
-
-  pub every-end : length l ≤ i → every f (drop i l) ≡ true
-  unfolding every
-  every-end h = rw (drop-of-length-le l h)
+use Rattle.slots.specs.Slots.{states}
+use Rattle.slots.specs.States.{live-nodes}
 
 -- A node's slot.
 

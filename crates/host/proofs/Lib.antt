@@ -1,6 +1,1 @@
-mod Bytes
-mod Slots
 mod Keeps
-mod Journal
-mod Held
-mod Answers

@@ -13,7 +13,8 @@ use lib.ListN.{length, take, drop, getD, drop-of-length-le}
 use lib.Seq.{drop-cons}
 use Rattle.meaning.specs.Basics.{both, either, every, isSome}
 use Rattle.meaning.specs.Layout.{isNodeMark, isEdgeMark}
-use Rattle.meaning.specs.Image.{anyTag, leading, only, operand, twoOperands, element, label, anyMark, ruleNode, ruleEdge, ruleGraph, condition, test, isType, types}
+use Rattle.meaning.specs.Image.{anyTag, leading, only, operand, twoOperands, element, label, ruleNode, ruleEdge, ruleGraph, condition, test, isType, types}
+use Rattle.meaning.specs.Tags.{anyMark}
 use Rattle.meaning.specs.Laws.Tests.{both-no, both-yes, either-left, either-right}
 use Rattle.meaning.specs.Laws.Image.{Reading, isSome-of, isSome-no, isSome-after, only-none, only-end, only-full, twoOperands-no, twoOperands-ok, ruleNode-ok, ruleEdge-ok, ruleGraph-no, ruleGraph-ok, related-ok, test-ok, types-ok}
 use Rattle.image.specs.Form.{nodesOf, edgesOf, endOfNodes, relationOf}

@@ -1,8 +1,10 @@
 // The calls, for a driver in C: byte buffers and numbers in, a number out. What each leaves is fixed on all inputs.
 ghost use Rattle.meaning.specs.Layout.{base};
-ghost use Rattle.meaning.specs.Calls.{run, undo};
-ghost use Rattle.host.specs.Host.{Leaves};
+ghost use Rattle.meaning.specs.Calls.{run, undo, lending, lendingBack, Leaves};
 use meaning::Layout;
+
+pub mod running;
+pub mod undo;
 
 // Runs the image's program on the tables, from an empty journal. A result leaves its records in the journal, and reports steps and
 // records; any other end gives the tables back as they came, with an empty journal, and reports the steps.
@@ -15,9 +17,9 @@ pub extern "C" fn nhiemavut_run(
     fuel: u32,
     report: &mut [u8],
 ) -> u32
-    ensures { λ r. ⌜ Leaves (run base (now (nodes .entry)) (now (edges .entry)) (now (journal .entry)) (now (image .entry)) fuel (now (report .entry))) r (now (nodes .exit)) (now (edges .exit)) (now (journal .exit)) (now (report .exit)) ⌝ }
+    ensures { λ r. ⌜ Leaves (run base (lending (now (nodes .entry)) (now (edges .entry)) (now (journal .entry)) (now (image .entry)) fuel (now (report .entry)))) r (now (nodes .exit)) (now (edges .exit)) (now (journal .exit)) (now (report .exit)) ⌝ }
 {
-    host::answer_number(running::run_call(
+    answers::answer_number(running::run_call(
         Layout::base(),
         nodes,
         edges,
@@ -37,7 +39,7 @@ pub extern "C" fn nhiemavut_undo(
     count: u32,
     report: &mut [u8],
 ) -> u32
-    ensures { λ r. ⌜ Leaves (undo base (now (nodes .entry)) (now (edges .entry)) (now (journal .entry)) count (now (report .entry))) r (now (nodes .exit)) (now (edges .exit)) (now (journal .exit)) (now (report .exit)) ⌝ }
+    ensures { λ r. ⌜ Leaves (undo base (lendingBack (now (nodes .entry)) (now (edges .entry)) (now (journal .entry)) count (now (report .entry)))) r (now (nodes .exit)) (now (edges .exit)) (now (journal .exit)) (now (report .exit)) ⌝ }
 {
-    host::answer_number(host::undo_call(Layout::base(), nodes, edges, journal, count, report))
+    answers::answer_number(undo::undo_call(Layout::base(), nodes, edges, journal, count, report))
 }

@@ -15,8 +15,8 @@ use Rattle.meaning.specs.Laws.Tests.{both-yes, both-no, any-of}
 use Rattle.meaning.specs.Laws.Slots.{lowestFree-lt}
 use Rattle.meaning.specs.Laws.Pieces.{length-read}
 use Rattle.meaning.specs.declared.Layout.{Layout}
-use Rattle.host.specs.Host.{states}
-use Rattle.host.specs.States.{live-nodes, live-edges, lowest-nodes, lowest-edges}
+use Rattle.slots.specs.Slots.{states}
+use Rattle.slots.specs.States.{live-nodes, live-edges, lowest-nodes, lowest-edges}
 
 module _ (L : Layout) (sized : Sized L) (bs : List ℕ) where
   -- what a table says by its states, at the slot length of the layout

@@ -17,8 +17,8 @@ use Rattle.meaning.specs.Laws.Pieces.{length-read}
 use Rattle.meaning.specs.declared.Layout.{Layout}
 use Rattle.meaning.specs.declared.Stop.{Stop}
 use Rattle.meaning.specs.declared.Stop.the-variants.{NoNodeRoom, NoEdgeRoom, NoRecordRoom, LabelTooLarge}
-use Rattle.host.specs.Host.{states}
-use Rattle.host.specs.States.{slots-nodes, slots-edges}
+use Rattle.slots.specs.Slots.{states}
+use Rattle.slots.specs.States.{slots-nodes, slots-edges}
 use Rattle.ledger.specs.declared.Applied.{Applied}
 use Rattle.ledger.specs.declared.Applied.the-variants.{Done, Stopped}
 

@@ -6,10 +6,9 @@ use mathlib.Core.List.{List, map, reverse}
 use Prim.Native.Nat.{ℕ, _/_, _^_, _≤_}
 use lib.ListN.{length, getD}
 use Rattle.meaning.specs.Basics.{concat, padded}
-use Rattle.meaning.specs.Layout.{Slot, Node, Edge, free, Change, Sized, nodeLength, edgeLength, recordLength, fitsTable, pieces, readNode, readEdge, readNodes, readEdges, writeNodes, writeEdges, writeRecord}
-use Rattle.meaning.specs.Applying.{Ledger}
-use Rattle.meaning.specs.Commands.{State}
-use Rattle.meaning.specs.Calls.{readRecord}
+use Rattle.meaning.specs.Layout.{Slot, Node, Edge, free, Change, Sized, nodeLength, edgeLength, recordLength, fitsTable, pieces, readNode, readEdge, readNodes, readEdges, hostOf, writeNodes, writeEdges, writeRecord, readRecord}
+use Rattle.meaning.specs.Applying.{Ledger, ledgerAt}
+use Rattle.meaning.specs.Commands.{State, stateAt}
 use Rattle.meaning.specs.Laws.Every.{Every}
 use Rattle.meaning.specs.Laws.Hosts.{LegalNode, LegalEdge, Attached, OnLive}
 use Rattle.meaning.specs.Laws.Records.{mapChange, LegalChange, Within}
@@ -27,11 +26,11 @@ module _ (L : Layout) where
 
   abbrev pub ledgerOf : List ℕ → List ℕ → List ℕ → ℕ → Ledger
   ledgerOf nodes edges journal used =
-      record { host = record { nodes = readNodes L nodes; edges = readEdges L edges }; journal = journalOf journal used }
+      ledgerAt (hostOf L nodes edges) (journalOf journal used)
 
   abbrev pub stateOf : List ℕ → List ℕ → List ℕ → Tally → State
   stateOf nodes edges journal t =
-      record { ledger = ledgerOf nodes edges journal (t .records); fuel = t .fuel; steps = t .steps }
+      stateAt (ledgerOf nodes edges journal (t .records)) (t .fuel) (t .steps)
 
   -- what the bytes keep through every change: each table is its slots as they are written, the journal is the written records
   -- with zeros behind them, and slots and records are legal

@@ -32,8 +32,8 @@ pub fn free_node(
     requires { ⌜ (x < length (now nodes) / nodeLength l) × (used < length (now journal) / recordLength l) ⌝ }
     ensures { λ _. ⌜ Leads l (store (ofNode x free) (ledgerOf l (now (nodes .entry)) (now (edges .entry)) (now (journal .entry)) used)) (now (nodes .exit)) (now (edges .entry)) (now (journal .exit)) (used + 1) ⌝ }
 {
-    host::append(l, journal, used, 1, x, host::slot(&nodes[..], l.node, x));
-    host::free_slot(nodes, l.node, x);
+    journal::append(l, journal, used, 1, x, slots::slot(&nodes[..], l.node, x));
+    slots::free_slot(nodes, l.node, x);
 }
 
 // Edge slot x goes, with its record.
@@ -49,8 +49,8 @@ pub fn free_edge(
     requires { ⌜ (x < length (now edges) / edgeLength l) × (used < length (now journal) / recordLength l) ⌝ }
     ensures { λ _. ⌜ Leads l (store (ofEdge x free) (ledgerOf l (now (nodes .entry)) (now (edges .entry)) (now (journal .entry)) used)) (now (nodes .entry)) (now (edges .exit)) (now (journal .exit)) (used + 1) ⌝ }
 {
-    host::append(l, journal, used, 2, x, host::slot(&edges[..], l.edge, x));
-    host::free_slot(edges, l.edge, x);
+    journal::append(l, journal, used, 2, x, slots::slot(&edges[..], l.edge, x));
+    slots::free_slot(edges, l.edge, x);
 }
 
 // Node slot x takes these values, with its record.
@@ -70,8 +70,8 @@ pub fn store_node(
     requires { ⌜ LegalNode l (record { mark = mark; root = root; label = now label }) ⌝ }
     ensures { λ _. ⌜ Leads l (store (ofNode x (live (record { mark = mark; root = root; label = now (label .entry) }))) (ledgerOf l (now (nodes .entry)) (now (edges .entry)) (now (journal .entry)) used)) (now (nodes .exit)) (now (edges .entry)) (now (journal .exit)) (used + 1) ⌝ }
 {
-    host::append(l, journal, used, 1, x, host::slot(&nodes[..], l.node, x));
-    host::store_node(l, nodes, x, mark, root, label);
+    journal::append(l, journal, used, 1, x, slots::slot(&nodes[..], l.node, x));
+    slots::store_node(l, nodes, x, mark, root, label);
 }
 
 // Edge slot x takes these values, with its record.
@@ -92,8 +92,8 @@ pub fn store_edge(
     requires { ⌜ LegalEdge l (record { mark = mark; source = source; target = target; label = now label }) ⌝ }
     ensures { λ _. ⌜ Leads l (store (ofEdge x (live (record { mark = mark; source = source; target = target; label = now (label .entry) }))) (ledgerOf l (now (nodes .entry)) (now (edges .entry)) (now (journal .entry)) used)) (now (nodes .entry)) (now (edges .exit)) (now (journal .exit)) (used + 1) ⌝ }
 {
-    host::append(l, journal, used, 2, x, host::slot(&edges[..], l.edge, x));
-    host::store_edge(l, edges, x, mark, source, target, label);
+    journal::append(l, journal, used, 2, x, slots::slot(&edges[..], l.edge, x));
+    slots::store_edge(l, edges, x, mark, source, target, label);
 }
 
 // The edges at the m slots from number n on go, in order.
@@ -135,7 +135,7 @@ pub fn add_node(
     requires { ⌜ LegalNode l (record { mark = mark; root = root; label = now label }) ⌝ }
     ensures { λ r. ⌜ (r ≡ lowestFree (readNodes l (now (nodes .entry)))) × Leads l (store (ofNode r (live (record { mark = mark; root = root; label = now (label .entry) }))) (ledgerOf l (now (nodes .entry)) (now (edges .entry)) (now (journal .entry)) used)) (now (nodes .exit)) (now (edges .entry)) (now (journal .exit)) (used + 1) ⌝ }
 {
-    let x = host::lowest_free(&nodes[..], l.node);
+    let x = slots::lowest_free(&nodes[..], l.node);
     store_node(l, nodes, edges, journal, used, x, mark, root, label);
     x
 }
@@ -157,7 +157,7 @@ pub fn add_edge(
     requires { ⌜ LegalEdge l (record { mark = mark; source = source; target = target; label = now label }) ⌝ }
     ensures { λ r. ⌜ (r ≡ lowestFree (readEdges l (now (edges .entry)))) × Leads l (store (ofEdge r (live (record { mark = mark; source = source; target = target; label = now (label .entry) }))) (ledgerOf l (now (nodes .entry)) (now (edges .entry)) (now (journal .entry)) used)) (now (nodes .entry)) (now (edges .exit)) (now (journal .exit)) (used + 1) ⌝ }
 {
-    let x = host::lowest_free(&edges[..], l.edge);
+    let x = slots::lowest_free(&edges[..], l.edge);
     store_edge(
         l,
         nodes,
@@ -178,13 +178,13 @@ fn on_free_node(l: Layout, nodes: &[u8], edges: &[u8], x: usize) -> bool
     requires { ⌜ Sized l ⌝ }
     ensures { λ r. ⌜ r ≡ onFreeNode (record { nodes = readNodes l (now (nodes .entry)); edges = readEdges l (now (edges .entry)) }) x ⌝ }
 {
-    if !host::live_slot(edges, l.edge, x) {
+    if !slots::live_slot(edges, l.edge, x) {
         return false;
     }
-    if !host::live_slot(nodes, l.node, host::edge_source(l, edges, x)) {
+    if !slots::live_slot(nodes, l.node, slots::edge_source(l, edges, x)) {
         return true;
     }
-    !host::live_slot(nodes, l.node, host::edge_target(l, edges, x))
+    !slots::live_slot(nodes, l.node, slots::edge_target(l, edges, x))
 }
 
 // Whether some live edge has an end on a free node.
@@ -221,12 +221,12 @@ pub fn room(
     ensures { λ r. ⌜ stopOf r ≡ lacking «nodes_come» (freeSlots (readNodes l (now (nodes .entry)))) «nodes_go» «edges_come» (freeSlots (readEdges l (now (edges .entry)))) «edges_go» records (length (now (journal .entry)) / recordLength l) ⌝ }
 {
     if nodes_go < nodes_come {
-        if host::free_slots(nodes, l.node) + nodes_go < nodes_come {
+        if slots::free_slots(nodes, l.node) + nodes_go < nodes_come {
             return Applied::Stopped(Stop::NoNodeRoom);
         }
     }
     if edges_go < edges_come {
-        if host::free_slots(edges, l.edge) + edges_go < edges_come {
+        if slots::free_slots(edges, l.edge) + edges_go < edges_come {
             return Applied::Stopped(Stop::NoEdgeRoom);
         }
     }

@@ -11,14 +11,14 @@ use Rattle.meaning.specs.Layout.{base, nodeLength, edgeLength, readNode, readEd
 use Rattle.meaning.specs.Numbers.{number}
 use Rattle.meaning.specs.declared.Layout.{Layout}
 use Rattle.meaning.specs.Image.{program}
-use Rattle.meaning.specs.Calls.{Left, run, runOn, runRefusal, refused, answerNumber, refusalNumber}
+use Rattle.meaning.specs.Calls.{Left, run, runOn, runRefusal, refused, answerNumber, refusalNumber, lending, Leaves}
 use Rattle.meaning.specs.Laws.Numbers.{Bytes}
 use Rattle.meaning.specs.Laws.Pieces.{fits-length, fits-same, length-read}
 use Rattle.meaning.specs.Laws.Calls.{Accepted, accepted}
 use Rattle.meaning.specs.Laws.Undoing.{base-numbered, run-keeps}
 use Rattle.meaning.specs.declared.Refusal.{Refusal}
 use Rattle.meaning.specs.declared.Refusal.the-variants.{ReportLength, NodeTableLength, EdgeTableLength, JournalLength, TooMuchFuel, ImageTooLong, BadHost, BadForm, BadReferences, BadPlacement, BadRecords}
-use Rattle.host.specs.Host.{Leaves, base-sized}
+use Rattle.meaning.specs.Laws.Layout.{base-sized}
 use Rattle.listing.specs.Listing.{letters, outcome, runOutcome, listed, listing}
 use Rattle.listing.specs.Text.{Adds, Lists, Ready}
 use Rattle.listing.specs.Reading.{Inside, Reading, inputIn}
@@ -43,17 +43,17 @@ refusal-answers BadRecords e = omega arith
 
 module _ (nodes edges journal image : List ℕ) (fuel : ℕ) (report : List ℕ) (hn : Bytes nodes) (he : Bytes edges) (hi : Bytes image) where
   abbrev left : Left
-  left = run base nodes edges journal image fuel report
+  left = run base (lending nodes edges journal image fuel report)
 
   -- a run that came to a result was accepted
-  result-accepted : answerNumber (left .answer) ≡ 0 → Accepted base nodes edges journal image fuel report
+  result-accepted : answerNumber (left .answer) ≡ 0 → Accepted base (lending nodes edges journal image fuel report)
   unfolding run runOn refused answerNumber
-  result-accepted e = at (runRefusal base nodes edges journal image fuel report) refl e
+  result-accepted e = at (runRefusal base (lending nodes edges journal image fuel report)) refl e
     where
-      at : (w : Option Refusal) → runRefusal base nodes edges journal image fuel report ≡ w
-          → answerNumber (runOn base w (program image) nodes edges journal fuel report .answer) ≡ 0 → Accepted base nodes edges journal image fuel report
+      at : (w : Option Refusal) → runRefusal base (lending nodes edges journal image fuel report) ≡ w
+          → answerNumber (runOn base w (program image) nodes edges journal fuel report .answer) ≡ 0 → Accepted base (lending nodes edges journal image fuel report)
       at (some w) q z = absurd (refusal-answers w z)
-      at none q z = accepted base nodes edges journal image fuel report q
+      at none q z = accepted base (lending nodes edges journal image fuel report) q
 
   pub result-ready : (n e : List ℕ) → answerNumber (left .answer) ≡ 0 → n ≡ left .nodes → length n ≡ length nodes → e ≡ left .edges → length e ≡ length edges
       → Ready base n e
@@ -76,7 +76,7 @@ module _ {out : List ℕ} {r : ℕ} where
   lists text e h k = record { written = e; within = omega arith; counts = sym (length-take-le r out (omega arith)) }
 
   pub run-listed : (nodes edges journal program : List ℕ) (fuel : ℕ) (L : Layout) (answer : ℕ) (n e j report : List ℕ) → L ≡ base
-      → Leaves (run base nodes edges journal program fuel (replicate 8 0)) answer n e j report
+      → Leaves (run base (lending nodes edges journal program fuel (replicate 8 0))) answer n e j report
       → (take r out ≡ outcome L answer report n e) × (r ≤ 262144) → 262144 ≤ length out
       → Lists (runOutcome nodes edges journal program fuel) out r
   unfolding runOutcome

@@ -11,7 +11,7 @@ use Rattle.meaning.specs.Basics.{choose, isEmpty, ensure, _>>_, _>>=_}
 use Rattle.meaning.specs.Numbers.{number, half, whole}
 use Rattle.meaning.specs.Layout.{Slot, free, live, Node, Edge, base, recordLength, readNodes, readEdges}
 use Rattle.meaning.specs.Image.{expect}
-use Rattle.meaning.specs.Calls.{Left, run, answerNumber}
+use Rattle.meaning.specs.Calls.{Left, run, answerNumber, lending}
 use Rattle.meaning.specs.declared.Layout.{Layout}
 
 -- Words.
@@ -124,7 +124,7 @@ input bs = do
 -- the outcome of the call `run`, with a report of 8 bytes
 unfoldable pub runOutcome : List ℕ → List ℕ → List ℕ → List ℕ → ℕ → List ℕ
 runOutcome nodes edges journal program fuel =
-    let l : Left = run base nodes edges journal program fuel (replicate 8 0) in
+    let l : Left = run base (lending nodes edges journal program fuel (replicate 8 0)) in
     outcome base (answerNumber (l .answer)) (l .report) (l .nodes) (l .edges)
 
 -- the input is run with a journal of that many records, all zero

@@ -5,7 +5,7 @@ ghost use mathlib.Core.Bool.{true};
 ghost use lib.ListN.{length};
 ghost use Prim.Native.Nat.{_<_};
 ghost use Rattle.meaning.specs.Image.{program};
-ghost use Rattle.references.specs.Runs.{For};
+ghost use Rattle.parts.specs.Runs.{For};
 ghost use Rattle.values.specs.Values.{Stored};
 ghost use Rattle.pairs.specs.Pairs.{starts as doesStart, Answers};
 use matching::Matched;
@@ -41,7 +41,7 @@ fn match_first(nodes: &[u8], edges: &[u8], image: &[u8], n: u32)
     let mut lens = [0usize; 6];
     let mut atoms = [0u32; 48];
     let found = repeated(nodes, edges, image, n, &mut plan, &mut lens, &mut atoms);
-    pairs::write_match(references::parts::rule_part(image, 0), found, lens, atoms);
+    pairs::write_match(parts::rule_part(image, 0), found, lens, atoms);
 }
 
 fn match_case(case: &[u8]) {
@@ -49,7 +49,7 @@ fn match_case(case: &[u8]) {
     let edges = cases::part(case, 1);
     let image = cases::part(case, 2);
     if pairs::starts(nodes, edges, image) {
-        if references::parts::rule_count(image) > 0 {
+        if parts::rule_count(image) > 0 {
             match_first(nodes, edges, image, cases::word(case, 3));
         }
     }

@@ -5,7 +5,7 @@ ghost use mathlib.Core.Bool.{true};
 ghost use lib.ListN.{length};
 ghost use Prim.Native.Nat.{_<_};
 ghost use Rattle.meaning.specs.Image.{program};
-ghost use Rattle.references.specs.Runs.{For};
+ghost use Rattle.parts.specs.Runs.{For};
 ghost use Rattle.pairs.specs.Pairs.{starts as doesStart};
 
 fn match_rule(nodes: &[u8], edges: &[u8], image: &[u8], i: usize)
@@ -16,13 +16,13 @@ fn match_rule(nodes: &[u8], edges: &[u8], image: &[u8], i: usize)
     let mut lens = [0usize; 6];
     let mut atoms = [0u32; 48];
     let found = pairs::rule_match(nodes, edges, image, i, &mut plan, &mut lens, &mut atoms);
-    pairs::write_match(references::parts::rule_part(image, i), found, lens, atoms);
+    pairs::write_match(parts::rule_part(image, i), found, lens, atoms);
 }
 
 fn match_rules(nodes: &[u8], edges: &[u8], image: &[u8])
     requires { ⌜ doesStart (now nodes) (now edges) (now image) ≡ true ⌝ }
 {
-    let n = references::parts::rule_count(image);
+    let n = parts::rule_count(image);
     let mut i: usize = 0;
     while i < n {
         match_rule(nodes, edges, image, i);

@@ -9,7 +9,7 @@ use native.Mathlib.Decide.{ℕ-discrete, decLt}
 use borrow.Author.Tests.{eqb-true, not-true}
 use lib.ListN.{length, take, getD, length-map, List·getD-append}
 use lib.Seq.{getD-at, length-take-le, getD-take}
-use Rattle.meaning.specs.Layout.{Host, readNodes, readEdges}
+use Rattle.meaning.specs.Layout.{Host, readNodes, readEdges, hostOf}
 use Rattle.meaning.specs.Image.{Rule}
 use Rattle.meaning.specs.Matching.{leftNodes, leftEdges, leftEdge, nodeSlot, runs}
 use Rattle.meaning.specs.FirstMatch.{joins, linked, nodeFits, fits, candidates}
@@ -17,7 +17,6 @@ use Rattle.meaning.specs.Laws.Tests.{not-so, both-true, any-no, all-no, choose-
 use Rattle.meaning.specs.Laws.Pieces.{length-pieces}
 use Rattle.meaning.specs.Laws.References.{clauses-true}
 use Rattle.meaning.specs.declared.Layout.{Layout}
-use Rattle.graph.specs.Graph.{hostOf}
 use Rattle.fitting.specs.Fitting.{slots}
 use Rattle.matching.specs.Next.{Meets}
 

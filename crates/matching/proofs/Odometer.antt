@@ -9,14 +9,13 @@ use native.Mathlib.Omega.{arith}
 use native.Mathlib.Decide.{ℕ-discrete}
 use lib.ListN.{length, getD, take, set, length-set}
 use lib.Seq.{getD-set-same, getD-set-other}
-use Rattle.meaning.specs.Layout.{Host}
+use Rattle.meaning.specs.Layout.{Host, hostOf}
 use Rattle.meaning.specs.Image.{Rule}
-use Rattle.meaning.specs.Matching.{leftNodes}
+use Rattle.meaning.specs.Matching.{leftNodes, total}
 use Rattle.meaning.specs.FirstMatch.{fits, candidates, complete, firstMatch}
 use Rattle.meaning.specs.declared.Layout.{Layout}
-use Rattle.graph.specs.Graph.{hostOf}
 use Rattle.fitting.specs.Fitting.{Known, Inside, slots}
-use Rattle.matching.specs.Next.{Handed, Ready, total, NextSlot, IsStep}
+use Rattle.matching.specs.Next.{Handed, Ready, NextSlot, IsStep}
 use Rattle.matching.specs.declared.Step.the-variants.{Back}
 use Rattle.matching.specs.declared.Next.the-variants.{At}
 use Rattle.matching.proofs.Plans.{nodes-of}

@@ -15,7 +15,8 @@ use Rattle.meaning.specs.Numbers.{whole}
 use Rattle.meaning.specs.Layout.{Host}
 use Rattle.meaning.specs.Image.{Rule}
 use Rattle.meaning.specs.References.{labels, names, testNames, variablesExist, ruleHolds}
-use Rattle.meaning.specs.FirstMatch.{firstWith, assigned}
+use Rattle.meaning.specs.FirstMatch.{firstWith}
+use Rattle.meaning.specs.Assigned.{assigned}
 use Rattle.meaning.specs.Laws.Tests.{both-true, absent-false, every-true, every-append}
 use Rattle.meaning.specs.Laws.References.{clauses-true, left-plain}
 use Rattle.meaning.specs.Laws.Assignment.{labels-length}
@@ -24,7 +25,7 @@ use Rattle.labels.specs.Labels.{atomsIn, Held}
 use Rattle.labels.specs.declared.Label.{Label}
 use Rattle.fitting.specs.Fitting.{Known, Inside, Full, HasValue}
 use Rattle.fitting.specs.Trials.{full}
-use Rattle.matching.specs.Next.{total}
+use Rattle.meaning.specs.Matching.{total}
 use Rattle.values.specs.Values.{valuesOf, Stored}
 use Rattle.matching.specs.Values.{Copied, HasValues}
 use Rattle.matching.proofs.Plans.{nodes-of, edges-of, levels-of, few-levels}

@@ -6,12 +6,12 @@ use mathlib.Core.Bool.{Bool, true, false, not}
 use mathlib.Core.Option.{Option, some, none}
 use mathlib.Core.List.{List}
 use lib.ListN.{length, getD}
-use Rattle.meaning.specs.Layout.{Host, liveAt}
+use Rattle.meaning.specs.Layout.{Host, liveAt, hostOf}
 use Rattle.meaning.specs.Image.{Rule}
-use Rattle.meaning.specs.Matching.{edgeAt, leftNodes, leftEdges}
+use Rattle.meaning.specs.Matching.{edgeAt, leftNodes, leftEdges, total}
 use Rattle.meaning.specs.FirstMatch.{marksAgree, fits, candidates, complete}
 use Rattle.meaning.specs.declared.Layout.{Layout}
-use Rattle.graph.specs.Graph.{Legal, hostOf}
+use Rattle.graph.specs.Graph.{Legal}
 use Rattle.fitting.specs.Fitting.{Known, Inside, Likely}
 use Rattle.matching.specs.declared.Next.{Next}
 use Rattle.matching.specs.declared.Next.the-variants.{At, Nothing}
@@ -65,9 +65,6 @@ abbrev pub NextLikely : Host → Rule → ℕ → List ℕ → ℕ → ℕ → N
 NextLikely h r sort p i c (At x) =
     (c ≤ x) × (x < candidates h r p) × Likely h r sort p i x true × ((y : ℕ) → c ≤ y → y < x → fits h r p y ≡ false)
 NextLikely h r sort p i c Nothing = (y : ℕ) → c ≤ y → y < candidates h r p → fits h r p y ≡ false
-
-abbrev pub total : Rule → ℕ
-total r = leftNodes r + leftEdges r
 
 -- what there is to do behind the prefix p, at level i
 abbrev pub IsStep : Host → Rule → List ℕ → ℕ → ℕ → Step → Type 0

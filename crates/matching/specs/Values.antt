@@ -7,14 +7,15 @@ use mathlib.Core.Option.{some}
 use mathlib.Core.List.{List}
 use lib.ListN.{length, getD, take, drop}
 use Rattle.meaning.specs.Basics.{absent}
-use Rattle.meaning.specs.Layout.{Host}
+use Rattle.meaning.specs.Layout.{Host, hostOf}
 use Rattle.meaning.specs.Image.{Rule, rule}
 use Rattle.meaning.specs.References.{labels, names}
-use Rattle.meaning.specs.FirstMatch.{firstWith, assigned, firstMatch}
+use Rattle.meaning.specs.FirstMatch.{firstWith, firstMatch}
+use Rattle.meaning.specs.Assigned.{assigned}
 use Rattle.meaning.specs.declared.Layout.{Layout}
-use Rattle.graph.specs.Graph.{hostOf}
 use Rattle.values.specs.Values.{valuesOf, Stored}
-use Rattle.matching.specs.Next.{Of, total, slotsAt}
+use Rattle.matching.specs.Next.{Of, slotsAt}
+use Rattle.meaning.specs.Matching.{total}
 use Rattle.matching.specs.declared.Outcome.the-variants.{Match}
 use Rattle.matching.specs.declared.Matched.{Matched}
 

@@ -1,5 +1,5 @@
 -- Applying a rule at a match: the values of the right side, the checks before any change, the changes with one record each,
--- and the test after them. Rests on FirstMatch.
+-- and the test after them. Rests on Matching and Assigned.
 use mathlib.Core.Bool.{Bool, true, false, not}
 use mathlib.Core.Option.{Option, some, none}
 use mathlib.Core.List.{List, [], _∷_, _++_, map}
@@ -9,9 +9,10 @@ use lib.Dec.{eqb, leb, ltb}
 use Rattle.meaning.specs.Basics.{choose, both, any, concat, isSome, ensure, each, firstFailing, _>>_, _>>=_}
 use Rattle.meaning.specs.Numbers.{sum, difference}
 use Rattle.meaning.specs.Layout.{Slot, free, live, Node, Edge, Host, Change, ofNode, ofEdge, put, liveAt}
-use Rattle.meaning.specs.Image.{RuleNode, RuleEdge, Rule, anyMark}
+use Rattle.meaning.specs.Image.{RuleNode, RuleEdge, Rule}
+use Rattle.meaning.specs.Tags.{anyMark}
 use Rattle.meaning.specs.Matching.{nodeAt, edgeAt, leftNodes, leftEdges, nodeSlot, Assignment, atomOf}
-use Rattle.meaning.specs.FirstMatch.{assigned}
+use Rattle.meaning.specs.Assigned.{assigned}
 use Rattle.meaning.specs.declared.Element.{Element}
 use Rattle.meaning.specs.declared.Element.the-variants.{Constant, Variable, Sum, Difference}
 use Rattle.meaning.specs.declared.Stop.{Stop}
@@ -31,18 +32,26 @@ labelValue most α l = do
   ensure (leb (length (concat parts)) most)
   some (concat parts)
 
+-- the root flag that right node j of rule r takes, from its own and that of its slot in the host
+abbrev pub rootTaken : Rule → ℕ → ℕ → ℕ → ℕ
+rootTaken r j right host = right
+
 -- right node j takes the right side's mark, root and label; any keeps the mark of its slot in the match p
-unfoldable pub rightNode : ℕ → Assignment → Host → List ℕ → ℕ → RuleNode → Option Node
-rightNode most α h p j n = do
+unfoldable pub rightNode : ℕ → Rule → Assignment → Host → List ℕ → ℕ → RuleNode → Option Node
+rightNode most r α h p j n = do
   l ← labelValue most α (n .label)
-  some (record { mark = choose (eqb (n .mark) anyMark) (nodeAt h (nodeSlot p j) .mark) (n .mark); root = n .root; label = l })
+  some (record {
+    mark = choose (eqb (n .mark) anyMark) (nodeAt h (nodeSlot p j) .mark) (n .mark);
+    root = rootTaken r j (n .root) (nodeAt h (nodeSlot p j) .root);
+    label = l;
+  })
 
 -- right nodes, the first of them being node j
-unfoldable pub rightNodes : ℕ → Assignment → Host → List ℕ → ℕ → List RuleNode → Option (List Node)
-rightNodes most α h p j [] = some []
-rightNodes most α h p j (n ∷ l) = do
-  a ← rightNode most α h p j n
-  m ← rightNodes most α h p (suc j) l
+unfoldable pub rightNodes : ℕ → Rule → Assignment → Host → List ℕ → ℕ → List RuleNode → Option (List Node)
+rightNodes most r α h p j [] = some []
+rightNodes most r α h p j (n ∷ l) = do
+  a ← rightNode most r α h p j n
+  m ← rightNodes most r α h p (suc j) l
   some (a ∷ m)
 
 -- a right edge; its ends are still numbers of right nodes
@@ -57,7 +66,7 @@ pub record Right : Type 0 where
 
 unfoldable pub rightSide : ℕ → Host → Rule → List ℕ → Option Right
 rightSide most h r p = do
-  n ← rightNodes most (assigned h r p) h p 0 (r .right .nodes)
+  n ← rightNodes most r (assigned h r p) h p 0 (r .right .nodes)
   e ← each (rightEdge most (assigned h r p)) (r .right .edges)
   some (record { nodes = n; edges = e })
 
@@ -67,6 +76,9 @@ pub record Ledger : Type 0 where
   pub host : Host
   pub journal : List (Change (Slot Node) (Slot Edge))
 
+abbrev pub ledgerAt : Host → List (Change (Slot Node) (Slot Edge)) → Ledger
+ledgerAt h journal = record { host = h; journal = journal }
+
 -- the slot of a change, as it stands
 unfoldable pub standing : Change (Slot Node) (Slot Edge) → Host → Change (Slot Node) (Slot Edge)
 standing (ofNode i s) h = ofNode i (getD (h .nodes) i free)
@@ -74,7 +86,7 @@ standing (ofEdge i s) h = ofEdge i (getD (h .edges) i free)
 
 -- one change with its record
 unfoldable pub store : Change (Slot Node) (Slot Edge) → Ledger → Ledger
-store c g = record { host = put c (g .host); journal = standing c (g .host) ∷ g .journal }
+store c g = ledgerAt (put c (g .host)) (standing c (g .host) ∷ g .journal)
 
 -- changes in order
 unfoldable pub stores : List (Change (Slot Node) (Slot Edge)) → Ledger → Ledger

@@ -1,5 +1,6 @@
 -- The two calls, each a function from all its inputs to all its outputs, refusals in their order included.
 -- Rests on Layout, Image, References, Placement and Commands.
+use mathlib.Core.Path.{_≡_}
 use mathlib.Core.Bool.{Bool, true, false}
 use mathlib.Core.Option.{Option, some, none}
 use mathlib.Core.List.{List, [], _∷_, _++_, map, reverse}
@@ -8,11 +9,11 @@ use lib.ListN.{length, getD, take, drop, replicate}
 use lib.Dec.{eqb, leb, ltb}
 use Rattle.meaning.specs.Basics.{choose, both, either, clauses, every, zeros, concat, padded, isSome, each, firstFailing}
 use Rattle.meaning.specs.Numbers.{number, bytes}
-use Rattle.meaning.specs.Layout.{Tables, Change, ofNode, ofEdge, undone, nodeLength, edgeLength, recordLength, fitsTable, pieces, cut, readNodes, readEdges, writeNodes, writeEdges, writeRecord, keepsLayout}
+use Rattle.meaning.specs.Layout.{Tables, Change, ofNode, ofEdge, undone, nodeLength, edgeLength, recordLength, fitsTable, pieces, cut, hostOf, writeNodes, writeEdges, writeRecord, keepsLayout, readRecord, keepsRecord}
 use Rattle.meaning.specs.Image.{Program, limits, program}
 use Rattle.meaning.specs.References.{references}
 use Rattle.meaning.specs.Placement.{placement}
-use Rattle.meaning.specs.Commands.{Out, exec}
+use Rattle.meaning.specs.Commands.{Out, beginning, exec}
 use Rattle.meaning.specs.declared.Layout.{Layout}
 use Rattle.meaning.specs.declared.Stop.{Stop}
 use Rattle.meaning.specs.declared.Stop.the-variants.{OutOfFuel, NoNodeRoom, NoEdgeRoom, NoRecordRoom, LabelTooLarge, EdgeOnFreeNode}
@@ -52,6 +53,31 @@ answerNumber Fail = 1
 answerNumber (stoppedBy w) = stopNumber w
 answerNumber (Refused w) = refusalNumber w
 
+-- What run is lent: both tables, the journal, the program image, the fuel and the report.
+pub record Lent : Type 0 where
+  pub nodes : List ℕ
+  pub edges : List ℕ
+  pub journal : List ℕ
+  pub image : List ℕ
+  pub fuel : ℕ
+  pub report : List ℕ
+
+abbrev pub lending : List ℕ → List ℕ → List ℕ → List ℕ → ℕ → List ℕ → Lent
+lending nodes edges journal image fuel report =
+    record { nodes = nodes; edges = edges; journal = journal; image = image; fuel = fuel; report = report }
+
+-- What undo is lent: both tables, the journal, the count of records and the report.
+pub record LentBack : Type 0 where
+  pub nodes : List ℕ
+  pub edges : List ℕ
+  pub journal : List ℕ
+  pub count : ℕ
+  pub report : List ℕ
+
+abbrev pub lendingBack : List ℕ → List ℕ → List ℕ → ℕ → List ℕ → LentBack
+lendingBack nodes edges journal count report =
+    record { nodes = nodes; edges = edges; journal = journal; count = count; report = report }
+
 -- What a call leaves: its answer and every buffer.
 pub record Left : Type 0 where
   pub answer : Answer
@@ -60,12 +86,39 @@ pub record Left : Type 0 where
   pub journal : List ℕ
   pub report : List ℕ
 
+-- the number and the buffers are those that a call leaves
+pub record Leaves (l : Left) (number : ℕ) (nodes edges journal report : List ℕ) : Type 0 where
+  pub numbered : number ≡ answerNumber (l .answer)
+  pub nodesLeft : nodes ≡ l .nodes
+  pub edgesLeft : edges ≡ l .edges
+  pub journalLeft : journal ≡ l .journal
+  pub reportLeft : report ≡ l .report
+
 -- steps and records, four bytes each
 abbrev pub reportOf : ℕ → ℕ → List ℕ
 reportOf steps records = bytes 4 steps ++ bytes 4 records
 
 abbrev pub mostFuel : ℕ
 mostFuel = 1000000
+
+-- a refused call leaves tables and journal as they were, and zeros in the report if it has 8 bytes
+unfoldable pub refused : Refusal → List ℕ → List ℕ → List ℕ → List ℕ → Left
+refused w nodes edges journal report =
+    record {
+      answer = Refused w;
+      nodes = nodes;
+      edges = edges;
+      journal = journal;
+      report = choose (eqb (length report) 8) (reportOf 0 0) report;
+    }
+
+unfoldable pub referencesHold : Option Program → Bool
+referencesHold none = false
+referencesHold (some p) = references p
+
+unfoldable pub placementHolds : Option Program → Bool
+placementHolds none = false
+placementHolds (some p) = placement p
 
 module _ (L : Layout) where
   -- The lengths, which both calls look at first (9 to 12).
@@ -77,38 +130,19 @@ module _ (L : Layout) where
       ∷ (fitsTable (recordLength L) (L .records) journal, JournalLength)
       ∷ []
 
-  -- a refused call leaves tables and journal as they were, and zeros in the report if it has 8 bytes
-  unfoldable pub refused : Refusal → List ℕ → List ℕ → List ℕ → List ℕ → Left
-  refused w nodes edges journal report =
-      record {
-        answer = Refused w;
-        nodes = nodes;
-        edges = edges;
-        journal = journal;
-        report = choose (eqb (length report) 8) (reportOf 0 0) report;
-      }
-
   -- Run.
 
-  unfoldable pub referencesHold : Option Program → Bool
-  referencesHold none = false
-  referencesHold (some p) = references p
-
-  unfoldable pub placementHolds : Option Program → Bool
-  placementHolds none = false
-  placementHolds (some p) = placement p
-
   -- the lowest applicable number from 9 to 18
-  unfoldable pub runRefusal : List ℕ → List ℕ → List ℕ → List ℕ → ℕ → List ℕ → Option Refusal
-  runRefusal nodes edges journal image fuel report =
+  unfoldable pub runRefusal : Lent → Option Refusal
+  runRefusal x =
       firstFailing
-      (lengthChecks nodes edges journal report
-      ++ (leb fuel mostFuel, TooMuchFuel)
-      ∷ (leb (length image) (limits .bytes), ImageTooLong)
-      ∷ (keepsLayout L nodes edges, BadHost)
-      ∷ (isSome (program image), BadForm)
-      ∷ (referencesHold (program image), BadReferences)
-      ∷ (placementHolds (program image), BadPlacement)
+      (lengthChecks (x .nodes) (x .edges) (x .journal) (x .report)
+      ++ (leb (x .fuel) mostFuel, TooMuchFuel)
+      ∷ (leb (length (x .image)) (limits .bytes), ImageTooLong)
+      ∷ (keepsLayout L (x .nodes) (x .edges), BadHost)
+      ∷ (isSome (program (x .image)), BadForm)
+      ∷ (referencesHold (program (x .image)), BadReferences)
+      ∷ (placementHolds (program (x .image)), BadPlacement)
       ∷ [])
 
   -- how many records the journal holds
@@ -136,40 +170,18 @@ module _ (L : Layout) where
 
   unfoldable pub started : Program → List ℕ → List ℕ → List ℕ → ℕ → Left
   started p nodes edges journal fuel =
-      let o : Out = exec (L .atoms) (journalRoom journal) (p .rules) (p .main)
-      (record {
-        ledger = record { host = record { nodes = readNodes L nodes; edges = readEdges L edges }; journal = [] };
-        fuel = fuel;
-        steps = 0;
-      }) in
+      let o : Out = exec (L .atoms) (journalRoom journal) (p .rules) (p .main) (beginning (hostOf L nodes edges) fuel) in
       finished (o .end) o nodes edges journal
 
-  unfoldable pub runOn : Option Refusal → Option Program → List ℕ → List ℕ → List ℕ → ℕ → List ℕ → Left
-  runOn (some w) p nodes edges journal fuel report = refused w nodes edges journal report
-  runOn none none nodes edges journal fuel report = refused BadForm nodes edges journal report
-  runOn none (some p) nodes edges journal fuel report = started p nodes edges journal fuel
+  unfoldable pub runOn : Option Refusal → Option Program → Lent → Left
+  runOn (some w) p x = refused w (x .nodes) (x .edges) (x .journal) (x .report)
+  runOn none none x = refused BadForm (x .nodes) (x .edges) (x .journal) (x .report)
+  runOn none (some p) x = started p (x .nodes) (x .edges) (x .journal) (x .fuel)
 
-  unfoldable pub run : List ℕ → List ℕ → List ℕ → List ℕ → ℕ → List ℕ → Left
-  run nodes edges journal image fuel report =
-      runOn (runRefusal nodes edges journal image fuel report) (program image) nodes edges journal fuel report
+  unfoldable pub run : Lent → Left
+  run x = runOn (runRefusal x) (program (x .image)) x
 
-  -- Undo. It looks at kind, filling and slot number of the counted records alone, and puts back the bytes as they are.
-
-  abbrev pub slotOf : List ℕ → ℕ
-  slotOf b = number (take (L .width) (drop (L .width) b))
-
-  unfoldable pub readRecord : List ℕ → Change (List ℕ) (List ℕ)
-  readRecord b =
-      choose (eqb (getD b 0 0) 1) (ofNode (slotOf b) (take (nodeLength L) (drop (2 * L .width) b)))
-      (ofEdge (slotOf b) (take (edgeLength L) (drop (2 * L .width) b)))
-
-  -- the record names a slot of a table of so many nodes and edges
-  unfoldable pub keepsRecord : ℕ → ℕ → List ℕ → Bool
-  keepsRecord nodeSlots edgeSlots b =
-      clauses
-      (either (both (eqb (getD b 0 0) 1) (ltb (slotOf b) nodeSlots)) (both (eqb (getD b 0 0) 2) (ltb (slotOf b) edgeSlots))
-      ∷ zeros (take (L .width - 1) (drop 1 b))
-      ∷ [])
+  -- Undo.
 
   abbrev pub counted : ℕ → List ℕ → List (List ℕ)
   counted count journal = pieces (recordLength L) count journal
@@ -178,29 +190,31 @@ module _ (L : Layout) where
   unfoldable pub keepsRecords : List ℕ → List ℕ → List ℕ → ℕ → Bool
   keepsRecords nodes edges journal count =
       both (leb count (journalRoom journal))
-      (every (keepsRecord (length nodes / nodeLength L) (length edges / edgeLength L)) (counted count journal))
+      (every (keepsRecord L (length nodes / nodeLength L) (length edges / edgeLength L)) (counted count journal))
 
-  unfoldable pub undoRefusal : List ℕ → List ℕ → List ℕ → ℕ → List ℕ → Option Refusal
-  undoRefusal nodes edges journal count report =
-      firstFailing (lengthChecks nodes edges journal report ++ (keepsRecords nodes edges journal count, BadRecords) ∷ [])
+  unfoldable pub undoRefusal : LentBack → Option Refusal
+  undoRefusal y =
+      firstFailing
+      (lengthChecks (y .nodes) (y .edges) (y .journal) (y .report)
+      ++ (keepsRecords (y .nodes) (y .edges) (y .journal) (y .count), BadRecords)
+      ∷ [])
 
   -- both tables as lists of slots, with the counted records stored back from last to first
   unfoldable pub tablesUndone : List ℕ → List ℕ → List ℕ → ℕ → Tables (List ℕ) (List ℕ)
   tablesUndone nodes edges journal count =
-      undone (reverse (map readRecord (counted count journal)))
+      undone (reverse (map (readRecord L) (counted count journal)))
       (record { nodes = cut (nodeLength L) nodes; edges = cut (edgeLength L) edges })
 
-  unfoldable pub undoOn : Option Refusal → List ℕ → List ℕ → List ℕ → ℕ → List ℕ → Left
-  undoOn (some w) nodes edges journal count report = refused w nodes edges journal report
-  undoOn none nodes edges journal count report =
+  unfoldable pub undoOn : Option Refusal → LentBack → Left
+  undoOn (some w) y = refused w (y .nodes) (y .edges) (y .journal) (y .report)
+  undoOn none y =
       record {
         answer = Result;
-        nodes = concat (tablesUndone nodes edges journal count .nodes);
-        edges = concat (tablesUndone nodes edges journal count .edges);
-        journal = replicate (count * recordLength L) 0 ++ drop (count * recordLength L) journal;
-        report = reportOf 0 count;
+        nodes = concat (tablesUndone (y .nodes) (y .edges) (y .journal) (y .count) .nodes);
+        edges = concat (tablesUndone (y .nodes) (y .edges) (y .journal) (y .count) .edges);
+        journal = replicate (y .count * recordLength L) 0 ++ drop (y .count * recordLength L) (y .journal);
+        report = reportOf 0 (y .count);
       }
 
-  unfoldable pub undo : List ℕ → List ℕ → List ℕ → ℕ → List ℕ → Left
-  undo nodes edges journal count report =
-      undoOn (undoRefusal nodes edges journal count report) nodes edges journal count report
+  unfoldable pub undo : LentBack → Left
+  undo y = undoOn (undoRefusal y) y

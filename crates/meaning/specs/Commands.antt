@@ -10,7 +10,7 @@ use Rattle.meaning.specs.Basics.{choose}
 use Rattle.meaning.specs.Layout.{Host}
 use Rattle.meaning.specs.Image.{Rule, Command, ruleSet, sequence, guarded, loop, skip, fail, break, Commands, stop, then}
 use Rattle.meaning.specs.FirstMatch.{firstMatch}
-use Rattle.meaning.specs.Applying.{Ledger, Applied, applied, hindered, apply}
+use Rattle.meaning.specs.Applying.{Ledger, ledgerAt, Applied, applied, hindered, apply}
 use Rattle.meaning.specs.declared.Stop.{Stop}
 use Rattle.meaning.specs.declared.Stop.the-variants.{OutOfFuel}
 use Rattle.meaning.specs.declared.End.{End}
@@ -21,6 +21,13 @@ pub record State : Type 0 where
   pub fuel : ℕ
   pub steps : ℕ
 
+abbrev pub stateAt : Ledger → ℕ → ℕ → State
+stateAt g fuel steps = record { ledger = g; fuel = fuel; steps = steps }
+
+-- the state that a run begins in
+abbrev pub beginning : Host → ℕ → State
+beginning h fuel = stateAt (ledgerAt h []) fuel 0
+
 pub record Out : Type 0 where
   pub end : End
   pub state : State
@@ -30,25 +37,27 @@ ends e s = record { end = e; state = s }
 
 -- host and journal as at s, fuel and steps as at t: what was changed from s to t is undone
 abbrev pub back : State → State → State
-back s t = record { ledger = s .ledger; fuel = t .fuel; steps = t .steps }
+back s t = stateAt (s .ledger) (t .fuel) (t .steps)
 
 -- Entering a command costs one fuel and is one step.
 unfoldable pub enterAt : ℕ → (State → Out) → State → Out
 enterAt zero k s = ends (Stopped OutOfFuel) s
-enterAt (suc f) k s = k (record { ledger = s .ledger; fuel = f; steps = suc (s .steps) })
+enterAt (suc f) k s = k (stateAt (s .ledger) f (suc (s .steps)))
 
 abbrev pub enter : (State → Out) → State → Out
 enter k s = enterAt (s .fuel) k s
 
 -- Rule sets: the first listed rule that has a match.
 
+-- a rule of the image by its number, and the slots of its match
 pub record Chosen : Type 0 where
+  pub number : ℕ
   pub rule : Rule
   pub slots : List ℕ
 
-unfoldable pub orLater : Rule → Option (List ℕ) → Option Chosen → Option Chosen
-orLater r none later = later
-orLater r (some p) later = some (record { rule = r; slots = p })
+unfoldable pub orLater : ℕ → Rule → Option (List ℕ) → Option Chosen → Option Chosen
+orLater i r none later = later
+orLater i r (some p) later = some (record { number = i; rule = r; slots = p })
 
 abbrev pub ruleAt : List Rule → ℕ → Rule
 ruleAt rules i =
@@ -59,10 +68,10 @@ unfoldable pub firstRule : List Rule → Host → List ℕ → Option Chosen
 firstRule rules h [] = none
 firstRule rules h (i ∷ l) =
     let later = firstRule rules h l in
-    orLater (ruleAt rules i) (firstMatch h (ruleAt rules i)) later
+    orLater i (ruleAt rules i) (firstMatch h (ruleAt rules i)) later
 
 unfoldable pub afterApplying : Applied → State → Out
-afterApplying (applied g) s = ends Done (record { ledger = g; fuel = s .fuel; steps = s .steps })
+afterApplying (applied g) s = ends Done (stateAt g (s .fuel) (s .steps))
 afterApplying (hindered w) s = ends (Stopped w) s
 
 -- What follows, by how a command ended. Nothing catches `Stopped`.

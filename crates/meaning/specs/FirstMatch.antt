@@ -1,75 +1,22 @@
 -- The first match of a rule in a host, executable. A candidate is dropped as soon as the placement so far breaks a matching
 -- rule, and a node also where a left edge to an earlier node has no host edge, or where it must go and has edges that must
--- dangle. Rests on Matching and Search.
+-- dangle. Rests on Matching, Assigned and Search.
 use mathlib.Core.Bool.{Bool, true, false, not}
 use mathlib.Core.Option.{Option, some, none}
 use mathlib.Core.List.{List, [], _∷_, _++_, map}
 use Prim.Native.Nat.{ℕ, zero, suc, _+_, _-_, _<_, max}
-use lib.ListN.{length, getD, take, drop}
+use lib.ListN.{length, drop}
 use lib.Dec.{eqb, leb, ltb}
 use Rattle.meaning.specs.Basics.{choose, both, either, clauses, all, any, count, every, absent, same, concat}
 use Rattle.meaning.specs.Layout.{Host, liveAt}
-use Rattle.meaning.specs.Image.{RuleNode, RuleEdge, Rule, anyMark}
-use Rattle.meaning.specs.References.{operandNames, conditionOperands, conditionNodes, labels, isInt, lists, takesList}
-use Rattle.meaning.specs.Matching.{nodeAt, edgeAt, leftNode, leftEdge, leftNodes, leftEdges, nodeSlot, edgeSlot, Assignment, instance, runs, testHolds}
+use Rattle.meaning.specs.Image.{Rule}
+use Rattle.meaning.specs.Tags.{anyMark}
+use Rattle.meaning.specs.References.{operandNames, conditionOperands, conditionNodes, labels, lists}
+use Rattle.meaning.specs.Matching.{nodeAt, edgeAt, leftNode, leftEdge, leftNodes, leftEdges, total, nodeSlot, Assignment, instance, runs, touches, testHolds, rootsAgree}
+use Rattle.meaning.specs.Assigned.{isVariable, assigned}
 use Rattle.meaning.specs.Search.{deep}
 use Rattle.meaning.specs.declared.Element.{Element}
-use Rattle.meaning.specs.declared.Element.the-variants.{Constant, Variable, Sum, Difference}
 use Rattle.meaning.specs.declared.Test.{Test}
-
--- The assignment that a placement gives: a variable has the value that it takes at the first left item that has it.
-
-unfoldable pub isVariable : ℕ → Element → Bool
-isVariable v (Constant c) = false
-isVariable v (Variable w) = eqb w v
-isVariable v (Sum a b) = false
-isVariable v (Difference a b) = false
-
--- how many atoms an element takes, where a list takes `spare` of them
-abbrev pub share : Rule → ℕ → Element → ℕ
-share r spare e = choose (takesList r e) spare 1
-
--- how many atoms are left for a list, of n in all
-abbrev pub spare : Rule → List Element → ℕ → ℕ
-spare r l n = n - (length l - lists r l)
-
--- what variable v takes of the atoms at its first occurrence in the label
-unfoldable pub taken : Rule → ℕ → ℕ → List Element → List ℕ → Option (List ℕ)
-taken r v n [] atoms = none
-taken r v n (e ∷ l) atoms =
-    let later = taken r v n l (drop (share r n e) atoms) in
-    choose (isVariable v e) (some (take (share r n e) atoms)) later
-
--- a left label and the host label that it is placed on
-pub record Item : Type 0 where
-  pub pattern : List Element
-  pub atoms : List ℕ
-
-unfoldable pub paired : List (List Element) → List (List ℕ) → List Item
-paired [] ms = []
-paired (l ∷ ls) [] = []
-paired (l ∷ ls) (m ∷ ms) = record { pattern = l; atoms = m } ∷ paired ls ms
-
--- the host labels of a placement, or of the front of one: nodes', then edges'
-abbrev pub hostLabels : Host → Rule → List ℕ → List (List ℕ)
-hostLabels h r p =
-    map (λ x. nodeAt h x .label) (take (leftNodes r) p) ++ map (λ x. edgeAt h x .label) (drop (leftNodes r) p)
-
-abbrev pub placedItems : Host → Rule → List ℕ → List Item
-placedItems h r p = paired (labels (r .left)) (hostLabels h r p)
-
-unfoldable pub orElse : Option (List ℕ) → List ℕ → List ℕ
-orElse none d = d
-orElse (some l) d = l
-
--- a variable that no item has: one atom for an int, none for a list
-unfoldable pub valueFrom : Rule → List Item → Assignment
-valueFrom r [] v = choose (isInt r v) (0 ∷ []) []
-valueFrom r (i ∷ is) v =
-    orElse (taken r v (spare r (i .pattern) (length (i .atoms))) (i .pattern) (i .atoms)) (valueFrom r is v)
-
-abbrev pub assigned : Host → Rule → List ℕ → Assignment
-assigned h r p = valueFrom r (placedItems h r p)
 
 -- Candidates.
 
@@ -124,17 +71,13 @@ module _ (h : Host) (r : Rule) where
       let found = any (joins p k) (length (h .edges)) in
       choose (eqb (max (leftEdge r k .source) (leftEdge r k .target)) i) found true
 
-  -- edge x is live and touches node slot c
-  unfoldable pub touches : ℕ → ℕ → Bool
-  touches c x = both (liveAt (h .edges) x) (either (eqb (edgeAt h x .source) c) (eqb (edgeAt h x .target) c))
-
   unfoldable pub leftTouches : ℕ → ℕ → Bool
   leftTouches i k = either (eqb (leftEdge r k .source) i) (eqb (leftEdge r k .target) i)
 
   -- left node i stays, or slot c is touched by no more edges than left node i
   unfoldable pub canGo : ℕ → ℕ → Bool
   canGo i c =
-      either (ltb i (r .interface)) (leb (count (touches c) (length (h .edges))) (count (leftTouches i) (leftEdges r)))
+      either (ltb i (r .interface)) (leb (count (touches h c) (length (h .edges))) (count (leftTouches i) (leftEdges r)))
 
   -- slot c can stand for left node i behind the prefix p
   unfoldable pub nodeFits : List ℕ → ℕ → ℕ → Bool
@@ -143,7 +86,7 @@ module _ (h : Host) (r : Rule) where
       (liveAt (h .nodes) c
       ∷ absent c p
       ∷ marksAgree (leftNode r i .mark) (nodeAt h c .mark)
-      ∷ eqb (leftNode r i .root) (nodeAt h c .root)
+      ∷ rootsAgree r (leftNode r i .root) (nodeAt h c .root)
       ∷ labelAgrees r (assigned h r (p ++ c ∷ [])) (leftNode r i .label) (nodeAt h c .label)
       ∷ all (linked (p ++ c ∷ []) i) (leftEdges r)
       ∷ canGo i c
@@ -171,7 +114,7 @@ module _ (h : Host) (r : Rule) where
 
   -- edge x touches the slot of left node j, which goes
   unfoldable pub touchesGone : List ℕ → ℕ → ℕ → Bool
-  touchesGone p x j = both (leb (r .interface) j) (touches (nodeSlot p j) x)
+  touchesGone p x j = both (leb (r .interface) j) (touches h (nodeSlot p j) x)
 
   -- edge x would dangle: it touches a node that goes, and is not placed itself
   unfoldable pub dangles : List ℕ → ℕ → Bool
@@ -183,4 +126,4 @@ module _ (h : Host) (r : Rule) where
 
   -- the first match, as its node slots in left order and then its edge slots
   unfoldable pub firstMatch : Option (List ℕ)
-  firstMatch = deep candidates fits complete (leftNodes r + leftEdges r) [] 0
+  firstMatch = deep candidates fits complete (total r) [] 0

@@ -1,5 +1,5 @@
 -- The program image: the tree that it stands for, and the reader of bytes, which succeeds exactly on what has the form
--- of document 01 (answer 16). Rests on Basics, Numbers and, for marks, Layout.
+-- of document 01 (answer 16). Rests on Basics, Numbers, Tags and, for marks, Layout.
 use mathlib.Core.Bool.{Bool, true, false}
 use mathlib.Core.Option.{Option, some, none}
 use mathlib.Core.List.{List, [], _∷_}
@@ -9,6 +9,7 @@ use lib.Dec.{eqb, leb}
 use Rattle.meaning.specs.Basics.{choose, both, either, every, isEmpty, ensure, _>>_, _>>=_}
 use Rattle.meaning.specs.Numbers.{number}
 use Rattle.meaning.specs.Layout.{isNodeMark, isEdgeMark}
+use Rattle.meaning.specs.Tags.{ruleTag, variablesTag, leftTag, rightTag, interfaceTag, testsTag, nodeTag, edgeTag, constantTag, variableTag, sumTag, differenceTag, edgeTestTag, inDegreeTag, outDegreeTag, relationTag, ruleSetTag, sequenceTag, ifTag, tryTag, loopTag, skipTag, failTag, breakTag, intType, listType, equalRelation, lessRelation, anyMark}
 use Rattle.meaning.specs.declared.Operand.{Operand}
 use Rattle.meaning.specs.declared.Operand.the-variants.{Constant as constantOperand, Variable as variableOperand}
 use Rattle.meaning.specs.declared.Element.{Element}
@@ -155,8 +156,8 @@ oneByte bs = do
 
 unfoldable pub operand : ℕ → List ℕ → Option Operand
 operand tag bs =
-    choose (eqb tag 0x30) (constant bs >>= λ c. some (constantOperand c))
-    (choose (eqb tag 0x31) (oneByte bs >>= λ v. some (variableOperand v)) none)
+    choose (eqb tag constantTag) (constant bs >>= λ c. some (constantOperand c))
+    (choose (eqb tag variableTag) (oneByte bs >>= λ v. some (variableOperand v)) none)
 
 pub record Pair : Type 0 where
   pub first : Operand
@@ -174,18 +175,15 @@ twoOperands bs = only anyTag operand 2 bs >>= asPair
 
 unfoldable pub element : ℕ → List ℕ → Option Element
 element tag bs =
-    choose (eqb tag 0x30) (constant bs >>= λ c. some (Constant c))
-    (choose (eqb tag 0x31) (oneByte bs >>= λ v. some (Variable v))
-    (choose (eqb tag 0x32) (twoOperands bs >>= λ p. some (Sum (p .first) (p .second)))
-    (choose (eqb tag 0x33) (twoOperands bs >>= λ p. some (Difference (p .first) (p .second))) none)))
+    choose (eqb tag constantTag) (constant bs >>= λ c. some (Constant c))
+    (choose (eqb tag variableTag) (oneByte bs >>= λ v. some (Variable v))
+    (choose (eqb tag sumTag) (twoOperands bs >>= λ p. some (Sum (p .first) (p .second)))
+    (choose (eqb tag differenceTag) (twoOperands bs >>= λ p. some (Difference (p .first) (p .second))) none)))
 
 unfoldable pub label : List ℕ → Option (List Element)
 label bs = only anyTag element (limits .elements) bs
 
 -- Graphs. Mark 6, any, is legal in form on nodes and edges.
-
-abbrev pub anyMark : ℕ
-anyMark = 6
 
 unfoldable pub ruleNode : List ℕ → Option RuleNode
 ruleNode bs = do
@@ -206,24 +204,24 @@ ruleEdge bs = do
 -- nodes, then edges
 unfoldable pub ruleGraph : List ℕ → Option RuleGraph
 ruleGraph bs = do
-  n ← leading (eqb 0x20) (λ tag. ruleNode) (limits .nodes) bs
-  e ← only (eqb 0x21) (λ tag. ruleEdge) (limits .edges) (n .rest)
+  n ← leading (eqb nodeTag) (λ tag. ruleNode) (limits .nodes) bs
+  e ← only (eqb edgeTag) (λ tag. ruleEdge) (limits .edges) (n .rest)
   some (record { nodes = n .items; edges = e })
 
 -- Tests. The first byte says whether the test is negated.
 
 unfoldable pub relation : ℕ → Pair → Option Condition
 relation kind p =
-    choose (eqb kind 1) (some (Equal (p .first) (p .second)))
-    (choose (eqb kind 2) (some (Less (p .first) (p .second))) none)
+    choose (eqb kind equalRelation) (some (Equal (p .first) (p .second)))
+    (choose (eqb kind lessRelation) (some (Less (p .first) (p .second))) none)
 
 -- the condition of a test, from its tag and the bytes behind the first
 unfoldable pub condition : ℕ → List ℕ → Option Condition
 condition tag bs =
-    choose (eqb tag 0x40) (ensure (eqb (length bs) 2) >> some (Edge (getD bs 0 0) (getD bs 1 0)))
-    (choose (eqb tag 0x41) (ensure (eqb (length bs) 3) >> some (InDegree (getD bs 0 0) (number (drop 1 bs))))
-    (choose (eqb tag 0x42) (ensure (eqb (length bs) 3) >> some (OutDegree (getD bs 0 0) (number (drop 1 bs))))
-    (choose (eqb tag 0x43) (ensure (leb 1 (length bs)) >> (twoOperands (drop 1 bs) >>= relation (getD bs 0 0))) none)))
+    choose (eqb tag edgeTestTag) (ensure (eqb (length bs) 2) >> some (Edge (getD bs 0 0) (getD bs 1 0)))
+    (choose (eqb tag inDegreeTag) (ensure (eqb (length bs) 3) >> some (InDegree (getD bs 0 0) (number (drop 1 bs))))
+    (choose (eqb tag outDegreeTag) (ensure (eqb (length bs) 3) >> some (OutDegree (getD bs 0 0) (number (drop 1 bs))))
+    (choose (eqb tag relationTag) (ensure (leb 1 (length bs)) >> (twoOperands (drop 1 bs) >>= relation (getD bs 0 0))) none)))
 
 unfoldable pub test : ℕ → List ℕ → Option Test
 test tag bs = do
@@ -235,7 +233,7 @@ test tag bs = do
 -- Rules: exactly 0x11 to 0x15.
 
 unfoldable pub isType : ℕ → Bool
-isType t = either (eqb t 1) (eqb t 2)
+isType t = either (eqb t intType) (eqb t listType)
 
 unfoldable pub types : List ℕ → Option (List ℕ)
 types bs = do
@@ -245,11 +243,11 @@ types bs = do
 
 unfoldable pub rule : List ℕ → Option Rule
 rule bs = do
-  v ← expect 0x11 bs
-  l ← expect 0x12 (v .rest)
-  r ← expect 0x13 (l .rest)
-  k ← expect 0x14 (r .rest)
-  t ← expect 0x15 (k .rest)
+  v ← expect variablesTag bs
+  l ← expect leftTag (v .rest)
+  r ← expect rightTag (l .rest)
+  k ← expect interfaceTag (r .rest)
+  t ← expect testsTag (k .rest)
   ensure (isEmpty (t .rest))
   variables ← types (v .payload)
   left ← ruleGraph (l .payload)
@@ -294,20 +292,20 @@ unfoldable pub command : ℕ → ℕ → List ℕ → Option Command
 command zero tag bs = none
 command (suc n) tag bs =
     let parts = only anyTag (command n) (limits .commands) bs in
-    choose (eqb tag 0x50) (asRuleSet bs)
-    (choose (eqb tag 0x51) (parts >>= asSequence)
-    (choose (eqb tag 0x52) (parts >>= asGuarded false)
-    (choose (eqb tag 0x53) (parts >>= asGuarded true)
-    (choose (eqb tag 0x54) (parts >>= asLoop)
-    (choose (eqb tag 0x55) (leaf skip bs)
-    (choose (eqb tag 0x56) (leaf fail bs)
-    (choose (eqb tag 0x57) (leaf break bs) none)))))))
+    choose (eqb tag ruleSetTag) (asRuleSet bs)
+    (choose (eqb tag sequenceTag) (parts >>= asSequence)
+    (choose (eqb tag ifTag) (parts >>= asGuarded false)
+    (choose (eqb tag tryTag) (parts >>= asGuarded true)
+    (choose (eqb tag loopTag) (parts >>= asLoop)
+    (choose (eqb tag skipTag) (leaf skip bs)
+    (choose (eqb tag failTag) (leaf fail bs)
+    (choose (eqb tag breakTag) (leaf break bs) none)))))))
 
 -- The whole image: rules, then one command, then nothing.
 
 unfoldable pub program : List ℕ → Option Program
 program bs = do
-  r ← leading (eqb 0x10) (λ tag. rule) (limits .rules) bs
+  r ← leading (eqb ruleTag) (λ tag. rule) (limits .rules) bs
   d ← field (r .rest)
   ensure (isEmpty (d .rest))
   c ← command (limits .depth) (d .tag) (d .payload)

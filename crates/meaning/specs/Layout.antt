@@ -5,7 +5,7 @@ use mathlib.Core.List.{List, [], _∷_, _++_, map}
 use mathlib.Core.Path.{_≡_}
 use Prim.Native.Nat.{ℕ, zero, suc, _+_, _-_, _*_, _/_, _%_, _≤_}
 use lib.ListN.{length, getD, set, take, drop, replicate}
-use lib.Dec.{eqb, leb}
+use lib.Dec.{eqb, leb, ltb}
 use Rattle.meaning.specs.Basics.{choose, both, either, clauses, every, zeros, concat, padded}
 use Rattle.meaning.specs.Numbers.{number, bytes}
 use Rattle.meaning.specs.declared.Layout.{Layout}
@@ -66,20 +66,61 @@ isNodeMark m = leb m 4
 unfoldable pub isEdgeMark : ℕ → Bool
 isEdgeMark m = either (leb m 3) (eqb m 5)
 
+-- Places of a slot's bytes. Behind the four of its head an edge has its ends, then both have the atoms.
+
+abbrev pub statePlace : ℕ
+statePlace = 0
+
+abbrev pub markPlace : ℕ
+markPlace = 1
+
+-- a node's root flag; zero in an edge
+abbrev pub rootPlace : ℕ
+rootPlace = 2
+
+-- the label's length
+abbrev pub lengthPlace : ℕ
+lengthPlace = 3
+
+abbrev pub headLength : ℕ
+headLength = 4
+
+-- a record's kind
+abbrev pub kindPlace : ℕ
+kindPlace = 0
+
+-- an atom's bytes
+abbrev pub atomLength : ℕ
+atomLength = 4
+
 -- Sizes in bytes.
+
+-- the most atoms of a label that code makes room for, at any layout
+abbrev pub mostAtoms : ℕ
+mostAtoms = 8
 
 -- document 01's layout: four atoms, two bytes to a slot number
 abbrev pub base : Layout
 base = record { atoms = 4; width = 2; node = 20; edge = 24; change = 28; nodes = 512; edges = 1024; records = 1024 }
 
 module _ (L : Layout) where
+  -- where an edge's source, its target and its atoms begin
+  abbrev pub sourcePlace : ℕ
+  sourcePlace = headLength
+
+  abbrev pub targetPlace : ℕ
+  targetPlace = headLength + L .width
+
+  abbrev pub edgeAtoms : ℕ
+  edgeAtoms = headLength + 2 * L .width
+
   -- state, mark, root, label length, the atoms
   abbrev pub nodeLength : ℕ
-  nodeLength = 4 + 4 * L .atoms
+  nodeLength = headLength + atomLength * L .atoms
 
   -- state, mark, zero, label length, source, target, the atoms
   abbrev pub edgeLength : ℕ
-  edgeLength = 4 + 2 * L .width + 4 * L .atoms
+  edgeLength = edgeAtoms + atomLength * L .atoms
 
   -- kind (filled with zeros to the width), slot number, the bytes before
   abbrev pub recordLength : ℕ
@@ -111,22 +152,22 @@ cut w bs = pieces w (length bs / w) bs
 
 -- n atoms from the front
 abbrev pub atoms : ℕ → List ℕ → List ℕ
-atoms n bs = map number (pieces 4 n bs)
+atoms n bs = map number (pieces atomLength n bs)
 
 unfoldable pub readNode : List ℕ → Slot Node
 readNode b =
-    choose (eqb (getD b 0 0) 0) free
-    (live (record { mark = getD b 1 0; root = getD b 2 0; label = atoms (getD b 3 0) (drop 4 b) }))
+    choose (eqb (getD b statePlace 0) 0) free
+    (live (record { mark = getD b markPlace 0; root = getD b rootPlace 0; label = atoms (getD b lengthPlace 0) (drop headLength b) }))
 
 module _ (L : Layout) where
   unfoldable pub readEdge : List ℕ → Slot Edge
   readEdge b =
-      choose (eqb (getD b 0 0) 0) free
+      choose (eqb (getD b statePlace 0) 0) free
       (live (record {
-        mark = getD b 1 0;
-        source = number (take (L .width) (drop 4 b));
-        target = number (take (L .width) (drop (4 + L .width) b));
-        label = atoms (getD b 3 0) (drop (4 + 2 * L .width) b);
+        mark = getD b markPlace 0;
+        source = number (take (L .width) (drop (sourcePlace L) b));
+        target = number (take (L .width) (drop (targetPlace L) b));
+        label = atoms (getD b lengthPlace 0) (drop (edgeAtoms L) b);
       }))
 
   abbrev pub readNodes : List ℕ → List (Slot Node)
@@ -135,10 +176,14 @@ module _ (L : Layout) where
   abbrev pub readEdges : List ℕ → List (Slot Edge)
   readEdges bs = map readEdge (cut (edgeLength L) bs)
 
+  -- the host that two tables hold
+  abbrev pub hostOf : List ℕ → List ℕ → Host
+  hostOf nodes edges = record { nodes = readNodes nodes; edges = readEdges edges }
+
 -- Slots to bytes: what is not used is zero, and a free slot is all zero.
 
 abbrev pub atomBytes : List ℕ → List ℕ
-atomBytes l = concat (map (bytes 4) l)
+atomBytes l = concat (map (bytes atomLength) l)
 
 unfoldable pub nodeBytes : Slot Node → List ℕ
 nodeBytes free = []
@@ -170,31 +215,50 @@ module _ (L : Layout) where
   writeRecord (ofNode i s) = recordBytes 1 i (writeNode s)
   writeRecord (ofEdge i s) = recordBytes 2 i (writeEdge s)
 
+-- Reading a record back. Undo looks at kind, filling and slot number alone, and takes the bytes before as they are.
+
+module _ (L : Layout) where
+  abbrev pub slotOf : List ℕ → ℕ
+  slotOf b = number (take (L .width) (drop (L .width) b))
+
+  unfoldable pub readRecord : List ℕ → Change (List ℕ) (List ℕ)
+  readRecord b =
+      choose (eqb (getD b kindPlace 0) 1) (ofNode (slotOf b) (take (nodeLength L) (drop (2 * L .width) b)))
+      (ofEdge (slotOf b) (take (edgeLength L) (drop (2 * L .width) b)))
+
+  -- the record names a slot of a table of so many nodes and edges
+  unfoldable pub keepsRecord : ℕ → ℕ → List ℕ → Bool
+  keepsRecord nodeSlots edgeSlots b =
+      clauses
+      (either (both (eqb (getD b kindPlace 0) 1) (ltb (slotOf b) nodeSlots)) (both (eqb (getD b kindPlace 0) 2) (ltb (slotOf b) edgeSlots))
+      ∷ zeros (take (L .width - 1) (drop 1 b))
+      ∷ [])
+
 -- The test that a host keeps the layout (answer 15), clause by clause.
 
 module _ (L : Layout) where
   unfoldable pub keepsNode : List ℕ → Bool
   keepsNode b =
-      choose (eqb (getD b 0 0) 0) (zeros b)
+      choose (eqb (getD b statePlace 0) 0) (zeros b)
       (clauses
-      (eqb (getD b 0 0) 1
-      ∷ isNodeMark (getD b 1 0)
-      ∷ leb (getD b 2 0) 1
-      ∷ leb (getD b 3 0) (L .atoms)
-      ∷ zeros (drop (4 + 4 * getD b 3 0) b)
+      (eqb (getD b statePlace 0) 1
+      ∷ isNodeMark (getD b markPlace 0)
+      ∷ leb (getD b rootPlace 0) 1
+      ∷ leb (getD b lengthPlace 0) (L .atoms)
+      ∷ zeros (drop (headLength + atomLength * getD b lengthPlace 0) b)
       ∷ []))
 
   unfoldable pub keepsEdge : List (Slot Node) → List ℕ → Bool
   keepsEdge nodes b =
-      choose (eqb (getD b 0 0) 0) (zeros b)
+      choose (eqb (getD b statePlace 0) 0) (zeros b)
       (clauses
-      (eqb (getD b 0 0) 1
-      ∷ isEdgeMark (getD b 1 0)
-      ∷ eqb (getD b 2 0) 0
-      ∷ leb (getD b 3 0) (L .atoms)
-      ∷ liveAt nodes (number (take (L .width) (drop 4 b)))
-      ∷ liveAt nodes (number (take (L .width) (drop (4 + L .width) b)))
-      ∷ zeros (drop (4 + 2 * L .width + 4 * getD b 3 0) b)
+      (eqb (getD b statePlace 0) 1
+      ∷ isEdgeMark (getD b markPlace 0)
+      ∷ eqb (getD b rootPlace 0) 0
+      ∷ leb (getD b lengthPlace 0) (L .atoms)
+      ∷ liveAt nodes (number (take (L .width) (drop (sourcePlace L) b)))
+      ∷ liveAt nodes (number (take (L .width) (drop (targetPlace L) b)))
+      ∷ zeros (drop (edgeAtoms L + atomLength * getD b lengthPlace 0) b)
       ∷ []))
 
   unfoldable pub keepsLayout : List ℕ → List ℕ → Bool

@@ -7,10 +7,11 @@ use mathlib.Core.List.{List, [], _∷_, _++_, map}
 use Prim.Native.Nat.{ℕ, _+_, _<_, _≤_}
 use lib.ListN.{length, getD}
 use lib.Dec.{eqb}
-use Rattle.meaning.specs.Basics.{choose, both, any, count, every, same, concat}
+use Rattle.meaning.specs.Basics.{choose, both, either, any, count, every, same, concat}
 use Rattle.meaning.specs.Numbers.{less}
 use Rattle.meaning.specs.Layout.{Slot, free, live, Node, Edge, Host, liveAt}
-use Rattle.meaning.specs.Image.{RuleNode, RuleEdge, Rule, anyMark}
+use Rattle.meaning.specs.Image.{RuleNode, RuleEdge, Rule}
+use Rattle.meaning.specs.Tags.{anyMark}
 use Rattle.meaning.specs.References.{isInt}
 use Rattle.meaning.specs.declared.Operand.{Operand}
 use Rattle.meaning.specs.declared.Operand.the-variants.{Constant as constantOperand, Variable as variableOperand}
@@ -50,6 +51,10 @@ leftNodes r = length (r .left .nodes)
 abbrev pub leftEdges : Rule → ℕ
 leftEdges r = length (r .left .edges)
 
+-- how many items there are
+abbrev pub total : Rule → ℕ
+total r = leftNodes r + leftEdges r
+
 abbrev pub nodeSlot : List ℕ → ℕ → ℕ
 nodeSlot p i = getD p i 0
 
@@ -83,6 +88,10 @@ module _ (h : Host) where
   unfoldable pub runs : ℕ → ℕ → ℕ → Bool
   runs s t x = both (liveAt (h .edges) x) (both (eqb (edgeAt h x .source) s) (eqb (edgeAt h x .target) t))
 
+  -- edge x is live and touches node slot c
+  unfoldable pub touches : ℕ → ℕ → Bool
+  touches c x = both (liveAt (h .edges) x) (either (eqb (edgeAt h x .source) c) (eqb (edgeAt h x .target) c))
+
   unfoldable pub leaves : ℕ → ℕ → Bool
   leaves s x = both (liveAt (h .edges) x) (eqb (edgeAt h x .source) s)
 
@@ -110,10 +119,14 @@ module _ (h : Host) where
 abbrev pub MarksAgree : ℕ → ℕ → Type 0
 MarksAgree left mark = (left ≡ anyMark) ⊎ (left ≡ mark)
 
+-- a left node's root flag agrees with a host node's, in rule r
+abbrev pub rootsAgree : Rule → ℕ → ℕ → Bool
+rootsAgree r left host = eqb left host
+
 -- p is a match of rule r in host h
 pub record Match (h : Host) (r : Rule) (p : List ℕ) : Type 0 where
   -- a different live node slot for each left node, a different live edge slot for each left edge
-  pub size : length p ≡ leftNodes r + leftEdges r
+  pub size : length p ≡ total r
   pub nodesLive : (i : ℕ) → i < leftNodes r → liveAt (h .nodes) (nodeSlot p i) ≡ true
   pub edgesLive : (k : ℕ) → k < leftEdges r → liveAt (h .edges) (edgeSlot r p k) ≡ true
   pub nodesApart : (i j : ℕ) → i < j → j < leftNodes r → nodeSlot p i ≡ nodeSlot p j → ⊥
@@ -122,7 +135,7 @@ pub record Match (h : Host) (r : Rule) (p : List ℕ) : Type 0 where
   pub nodeMarks : (i : ℕ) → i < leftNodes r → MarksAgree (leftNode r i .mark) (nodeAt h (nodeSlot p i) .mark)
   pub edgeMarks : (k : ℕ) → k < leftEdges r → MarksAgree (leftEdge r k .mark) (edgeAt h (edgeSlot r p k) .mark)
   -- 2. root flags are equal both ways
-  pub roots : (i : ℕ) → i < leftNodes r → leftNode r i .root ≡ nodeAt h (nodeSlot p i) .root
+  pub roots : (i : ℕ) → i < leftNodes r → rootsAgree r (leftNode r i .root) (nodeAt h (nodeSlot p i) .root) ≡ true
   -- 3. sources and targets correspond
   pub sources : (k : ℕ) → k < leftEdges r → edgeAt h (edgeSlot r p k) .source ≡ nodeSlot p (leftEdge r k .source)
   pub targets : (k : ℕ) → k < leftEdges r → edgeAt h (edgeSlot r p k) .target ≡ nodeSlot p (leftEdge r k .target)
@@ -137,3 +150,9 @@ pub record Match (h : Host) (r : Rule) (p : List ℕ) : Type 0 where
       → (k : ℕ) × (k < leftEdges r) × (edgeSlot r p k ≡ x)
   -- 6. every test holds in the host before the change
   pub tests : every (testHolds h p assignment) (r .tests) ≡ true
+
+-- document 01's order: number by number, p is before q
+abbrev pub Before : List ℕ → List ℕ → Type 0
+Before [] q = ⊥
+Before (a ∷ p) [] = ⊥
+Before (a ∷ p) (b ∷ q) = (a < b) ⊎ ((a ≡ b) × Before p q)

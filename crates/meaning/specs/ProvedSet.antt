@@ -7,7 +7,7 @@ use lib.ListN.{length, replicate}
 use Rattle.meaning.specs.Basics.{padded}
 use Rattle.meaning.specs.Numbers.{bytes}
 use Rattle.meaning.specs.Layout.{base, nodeLength, edgeLength, recordLength}
-use Rattle.meaning.specs.Calls.{Left, run, answerNumber, reportOf}
+use Rattle.meaning.specs.Calls.{Left, run, answerNumber, reportOf, lending}
 use Rattle.meaning.specs.Computing.{computing}
 
 -- A case: what is lent, and what the paper expects. The journal is lent full of ones, the report full of sevens.
@@ -29,7 +29,7 @@ pub record Case : Type 0 where
 
 abbrev pub given : Case → Expected
 given c =
-    let l : Left = run base (c .nodes) (c .edges) (replicate (c .records * recordLength base) 1) (c .image) (c .fuel) (replicate 8 7) in
+    let l : Left = run base (lending (c .nodes) (c .edges) (replicate (c .records * recordLength base) 1) (c .image) (c .fuel) (replicate 8 7)) in
     record { answer = answerNumber (l .answer); nodes = l .nodes; edges = l .edges; journal = l .journal; report = l .report }
 
 -- Bytes of slots and of records.

@@ -6,7 +6,8 @@ use Prim.Native.Nat.{ℕ, zero, suc}
 use lib.ListN.{length, getD, drop}
 use lib.Dec.{eqb, leb, ltb}
 use Rattle.meaning.specs.Basics.{choose, both, either, clauses, all, every, absent, concat}
-use Rattle.meaning.specs.Image.{RuleNode, RuleEdge, RuleGraph, Rule, Program, Command, ruleSet, sequence, guarded, loop, skip, fail, break, Commands, stop, then, anyMark}
+use Rattle.meaning.specs.Tags.{intType, listType, anyMark}
+use Rattle.meaning.specs.Image.{RuleNode, RuleEdge, RuleGraph, Rule, Program, Command, ruleSet, sequence, guarded, loop, skip, fail, break, Commands, stop, then}
 use Rattle.meaning.specs.declared.Operand.{Operand}
 use Rattle.meaning.specs.declared.Operand.the-variants.{Constant as constantOperand, Variable as variableOperand}
 use Rattle.meaning.specs.declared.Element.{Element}
@@ -64,12 +65,12 @@ testOperands r = concat (map (λ t. conditionOperands (t .condition)) (r .tests)
 abbrev pub testNames : Rule → List ℕ
 testNames r = concat (map operandNames (testOperands r))
 
--- the type of a variable: 1 int, 2 list
+-- the type of a variable
 abbrev pub isInt : Rule → ℕ → Bool
-isInt r v = eqb (getD (r .variables) v 0) 1
+isInt r v = eqb (getD (r .variables) v 0) intType
 
 abbrev pub isList : Rule → ℕ → Bool
-isList r v = eqb (getD (r .variables) v 0) 2
+isList r v = eqb (getD (r .variables) v 0) listType
 
 -- The tests.
 

@@ -1,7 +1,6 @@
 -- A search for the first list of slots in document 01's order, level by level, over any test of a slot behind a prefix.
 use Prim.Native.Nat.{ℕ, zero, suc, _-_, _<_}
 use mathlib.Core.Path.{_≡_}
-use mathlib.Core.Logic.{_⊎_}
 use mathlib.Core.Bool.{Bool, true, false}
 use mathlib.Core.Option.{Option, some, none}
 use mathlib.Core.List.{List, [], _∷_, _++_}
@@ -35,9 +34,3 @@ module _ (bound : List ℕ → ℕ) (ok : List ℕ → ℕ → Bool) (full : Lis
   abbrev pub Ext : List ℕ → List ℕ → Type 0
   Ext p [] = full p ≡ true
   Ext p (c ∷ q) = (c < bound p) × (ok p c ≡ true) × Ext (p ++ c ∷ []) q
-
--- document 01's order: number by number, p is before q
-abbrev pub Before : List ℕ → List ℕ → Type 0
-Before [] q = ⊥
-Before (a ∷ p) [] = ⊥
-Before (a ∷ p) (b ∷ q) = (a < b) ⊎ ((a ≡ b) × Before p q)

@@ -78,6 +78,12 @@ pub struct Tally {
     pub records: usize,
 }
 
+// How a command ended, and the tally then.
+pub struct Ran {
+    pub end: End,
+    pub tally: Tally,
+}
+
 impl Tally {
     pub fn new(fuel: usize) -> Self
         ensures { λ r. ⌜ r ≡ record { fuel = fuel; steps = 0; records = 0 } ⌝ }

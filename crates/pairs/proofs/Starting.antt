@@ -10,15 +10,16 @@ use lib.ListN.{length, getD}
 use Rattle.meaning.specs.Layout.{base}
 use Rattle.meaning.specs.Image.{Rule, Program, rule, program}
 use Rattle.meaning.specs.References.{ruleHolds, references}
-use Rattle.meaning.specs.Calls.{runRefusal, reportOf}
+use Rattle.meaning.specs.Calls.{runRefusal, reportOf, lending}
 use Rattle.meaning.specs.Laws.Tests.{both-true, every-true}
 use Rattle.meaning.specs.Laws.Calls.{Accepted, accepted}
 use Rattle.meaning.specs.declared.Layout.{Layout}
 use Rattle.meaning.specs.declared.Refusal.{Refusal}
-use Rattle.host.specs.Host.{refusalOf, base-sized}
-use Rattle.host.specs.declared.Checked.{Checked}
-use Rattle.host.specs.declared.Checked.the-variants.{Fine, Refused}
-use Rattle.references.specs.Runs.{For}
+use Rattle.answers.specs.Answers.{refusalOf}
+use Rattle.meaning.specs.Laws.Layout.{base-sized}
+use Rattle.answers.specs.declared.Checked.{Checked}
+use Rattle.answers.specs.declared.Checked.the-variants.{Fine, Refused}
+use Rattle.parts.specs.Runs.{For}
 use Rattle.graph.specs.Graph.{Legal}
 use Rattle.plan.specs.Plan.{IsRule}
 use Rattle.matching.specs.Values.{IsFirst}
@@ -26,7 +27,7 @@ use Rattle.matching.specs.declared.Matched.{Matched}
 use Rattle.pairs.specs.Pairs.{isFine, starts, Answers}
 
 module _ (nodes edges image : List ℕ) where
-  module _ (check : Checked) (right : refusalOf check ≡ runRefusal base nodes edges [] image 0 (reportOf 0 0)) where
+  module _ (check : Checked) (right : refusalOf check ≡ runRefusal base (lending nodes edges [] image 0 (reportOf 0 0))) where
     pub starts-fine : check ≡ Fine → true ≡ starts nodes edges image
     unfolding starts refusalOf isFine
     starts-fine e = ap isFine (sym (ap refusalOf e) ∙ right)
@@ -41,9 +42,9 @@ module _ (nodes edges image : List ℕ) where
   fine (some w) e = let z : _≡_ {A = ℕ} 0 1 = cc in absurd (omega arith)
 
   module _ (start : starts nodes edges image ≡ true) where
-    taken : Accepted base nodes edges [] image 0 (reportOf 0 0)
+    taken : Accepted base (lending nodes edges [] image 0 (reportOf 0 0))
     unfolding starts
-    taken = accepted base nodes edges [] image 0 (reportOf 0 0) (fine _ start)
+    taken = accepted base (lending nodes edges [] image 0 (reportOf 0 0)) (fine _ start)
 
     pub legal : (l : Layout) → l ≡ base → Legal l nodes edges
     legal l e = rw e (record { sized = base-sized; few = omega arith; nodesFit = taken .nodesFit; edgesFit = taken .edgesFit; keeps = taken .layout })

@@ -6,15 +6,16 @@ use mathlib.Core.List.{List, []}
 use Prim.Native.Nat.{ℕ}
 use lib.ListN.{getD, take}
 use Rattle.meaning.specs.Basics.{absent}
-use Rattle.meaning.specs.Layout.{base}
+use Rattle.meaning.specs.Layout.{base, hostOf}
 use Rattle.meaning.specs.Image.{Rule, program}
 use Rattle.meaning.specs.References.{names}
-use Rattle.meaning.specs.FirstMatch.{assigned, firstMatch}
-use Rattle.meaning.specs.Calls.{runRefusal, reportOf}
+use Rattle.meaning.specs.Assigned.{assigned}
+use Rattle.meaning.specs.FirstMatch.{firstMatch}
+use Rattle.meaning.specs.Calls.{runRefusal, reportOf, lending}
 use Rattle.meaning.specs.declared.Refusal.{Refusal}
-use Rattle.references.specs.Runs.{For}
-use Rattle.graph.specs.Graph.{hostOf}
-use Rattle.matching.specs.Next.{total, slotsAt}
+use Rattle.parts.specs.Runs.{For}
+use Rattle.meaning.specs.Matching.{total}
+use Rattle.matching.specs.Next.{slotsAt}
 use Rattle.values.specs.Values.{valuesOf, Stored}
 use Rattle.matching.specs.declared.Outcome.{Outcome}
 use Rattle.matching.specs.declared.Outcome.the-variants.{Match, NoMatch}
@@ -30,7 +31,7 @@ isMatch NoMatch = false
 
 -- no number from 9 to 18 applies to the host and the image, at no fuel and no journal
 unfoldable pub starts : List ℕ → List ℕ → List ℕ → Bool
-starts nodes edges image = isFine (runRefusal base nodes edges [] image 0 (reportOf 0 0))
+starts nodes edges image = isFine (runRefusal base (lending nodes edges [] image 0 (reportOf 0 0)))
 
 -- the first match of the rule of number i, with the values of the variables that occur on the left
 pub record Answers (nodes edges image : List ℕ) (i : ℕ) (x : Matched) (lens atoms : List ℕ) : Type 0 where

@@ -4,10 +4,10 @@ ghost use mathlib.Core.Bool.{true};
 ghost use lib.ListN.{length};
 ghost use Prim.Native.Nat.{_+_, _<_, _≤_};
 ghost use Rattle.meaning.specs.Image.{program};
-ghost use Rattle.references.specs.Runs.{For};
+ghost use Rattle.parts.specs.Runs.{For};
 ghost use Rattle.values.specs.Values.{Stored};
 ghost use Rattle.pairs.specs.Pairs.{isMatch, starts as doesStart, Answers};
-use host::Checked;
+use answers::Checked;
 use matching::Matched;
 use matching::Outcome;
 use meaning::Layout;
@@ -39,7 +39,7 @@ pub fn rule_match(
     requires { ⌜ (length (now plan) ≡ 102) × Stored (now lens) (now atoms) ⌝ }
     ensures { λ x. ⌜ (length (now (plan .exit)) ≡ 102) × Answers (now (nodes .entry)) (now (edges .entry)) (now (image .entry)) i x (now (lens .exit)) (now (atoms .exit)) ⌝ }
 {
-    let rule = references::parts::rule_part(image, i);
+    let rule = parts::rule_part(image, i);
     matching::first_match(Layout::base(), nodes, edges, rule, plan, lens, atoms)
 }
 
@@ -97,8 +97,8 @@ fn write_values(lens: [usize; 6], atoms: [u32; 48], n: usize) {
 pub fn write_match(rule: &[u8], found: Matched, lens: [usize; 6], atoms: [u32; 48]) -> bool
     ensures { λ r. ⌜ r ≡ isMatch (found .outcome) ⌝ }
 {
-    let items = references::parts::count_fields(references::parts::left_part(rule));
-    let variables = references::parts::variables_part(rule);
+    let items = parts::count_fields(parts::left_part(rule));
+    let variables = parts::variables_part(rule);
     let outcome = found.outcome;
     match outcome {
         Outcome::Match => {

@@ -22,7 +22,7 @@ use Rattle.meaning.specs.declared.Condition.{Condition}
 use Rattle.meaning.specs.declared.Condition.the-variants.{Edge, InDegree, OutDegree, Equal, Less}
 use Rattle.meaning.specs.declared.Test.{Test}
 use Rattle.fields.specs.Laws.{Lies}
-use Rattle.references.specs.Runs.{Run, run-none, run-some, run-there}
+use Rattle.parts.specs.Runs.{Run, run-none, run-some, run-there}
 use Rattle.plan.specs.Plan.{testOf, Named, AllLabelled, Planned, Valued, Decides, operandDecided, decidedBy}
 use Rattle.plan.proofs.Places.{drop-head, tests-run}
 use Rattle.plan.proofs.Variables.{first-low}

@@ -14,9 +14,9 @@ use Rattle.meaning.specs.References.{ruleHolds}
 use Rattle.meaning.specs.Laws.Tests.{some-inj}
 use Rattle.meaning.specs.Laws.Image.Parsed.{oneByte-is, ruleGraph-is, rule-few}
 use Rattle.fields.specs.Laws.{Lies}
-use Rattle.references.specs.Runs.{Run, nthPart, run-none, run-some, run-there}
-use Rattle.references.specs.Rows.{Item, node as nodeItem, edge as edgeItem, items as itemsOf, graphItem, item-is, graph-run, rule-parted}
-use Rattle.references.proofs.Loops.{part-in}
+use Rattle.parts.specs.Runs.{Run, nthPart, run-none, run-some, run-there}
+use Rattle.parts.specs.Rows.{Item, node as nodeItem, edge as edgeItem, items as itemsOf, graphItem, item-is, graph-run, rule-parted}
+use Rattle.parts.proofs.Loops.{part-in}
 use Rattle.plan.specs.Plan.{Placed, nodeOf, edgeOf, Items, Laid, IsRule, Part}
 use Rattle.plan.proofs.Places.{drop-head, inner, part-length, part-byte}
 use Rattle.plan.proofs.Stores.{other, stored, items-kept}

@@ -10,10 +10,10 @@ use lib.ListN.{length, getD, set, length-set}
 use Rattle.meaning.specs.Image.{Rule, element, label}
 use Rattle.meaning.specs.declared.Element.{Element}
 use Rattle.meaning.specs.declared.Element.the-variants.{Constant as constantElement}
-use Rattle.references.specs.Runs.{run-none}
-use Rattle.labels.specs.Labels.{Begins, behind, Counted}
-use Rattle.labels.specs.Walks.{spells-label, shorter}
-use Rattle.labels.specs.declared.Counts.{Counts}
+use Rattle.parts.specs.Runs.{run-none}
+use Rattle.parts.specs.Elements.{Begins, behind, Counted}
+use Rattle.parts.specs.Walks.{spells-label, shorter}
+use Rattle.parts.specs.declared.Counts.{Counts}
 use Rattle.plan.specs.Plan.{Named, labelOf, Alone, FreshBy, Sorts, Labelled, OnlyLabel}
 use Rattle.plan.specs.declared.Sort.{Sort}
 use Rattle.plan.specs.declared.Sort.the-variants.{Length, Constant}

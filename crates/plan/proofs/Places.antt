@@ -17,8 +17,8 @@ use Rattle.meaning.specs.declared.Test.{Test}
 use Rattle.fields.specs.Fields.{nthField}
 use Rattle.fields.specs.declared.Found.{Found}
 use Rattle.fields.specs.declared.Found.the-variants.{Field}
-use Rattle.references.specs.Runs.{Run, only-run, nthPart, nthTag, nth-item, part-field, tag-field}
-use Rattle.references.proofs.Loops.{NoField, no-part, nth-in}
+use Rattle.parts.specs.Runs.{Run, only-run, nthPart, nthTag, nth-item, part-field, tag-field}
+use Rattle.parts.proofs.Loops.{NoField, no-part, nth-in}
 use Rattle.plan.specs.Plan.{Placed, testOf, Laid, HasItem, HasNode, HasEdge, Marked, Part}
 
 -- Parts of bytes.

@@ -12,7 +12,8 @@ use lib.ListN.{length, getD, take, drop}
 use Rattle.meaning.specs.Basics.{choose, either}
 use Rattle.meaning.specs.Image.{Rule, field, element, anyTag, label}
 use Rattle.meaning.specs.References.{isList, takesList}
-use Rattle.meaning.specs.FirstMatch.{isVariable, has, firstWith}
+use Rattle.meaning.specs.Assigned.{isVariable}
+use Rattle.meaning.specs.FirstMatch.{has, firstWith}
 use Rattle.meaning.specs.Laws.Tests.{choose-true, choose-false}
 use Rattle.meaning.specs.Laws.Image.{element-other}
 use Rattle.meaning.specs.Laws.Image.Parsed.{element-30, element-31, element-32, element-33}
@@ -20,7 +21,7 @@ use Rattle.meaning.specs.declared.Element.{Element}
 use Rattle.meaning.specs.declared.Element.the-variants.{Constant, Sum, Difference}
 use Rattle.meaning.specs.declared.Operand.{Operand}
 use Rattle.fields.specs.Laws.{Lies}
-use Rattle.references.specs.Runs.{Run, only-run, run-none, run-some, run-there}
+use Rattle.parts.specs.Runs.{Run, only-run, run-none, run-some, run-there}
 use Rattle.plan.specs.Plan.{singlesBefore, listsBefore, Occurring}
 use Rattle.plan.specs.declared.Occurs.{Occurs}
 use Rattle.plan.specs.declared.Occurs.the-variants.{Behind, Nowhere}

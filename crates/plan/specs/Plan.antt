@@ -17,7 +17,8 @@ use Rattle.meaning.specs.Basics.{choose, concat}
 use Rattle.meaning.specs.Image.{RuleNode, RuleEdge, RuleGraph, Rule, only, anyTag, ruleNode, ruleEdge, ruleGraph, types, test, rule}
 use Rattle.meaning.specs.References.{operandNames, conditionOperands, conditionNodes, labels, lists, takesList, ruleHolds}
 use Rattle.meaning.specs.Matching.{leftNode, leftEdge, leftNodes, leftEdges}
-use Rattle.meaning.specs.FirstMatch.{isVariable, has, firstWith, highest, decidedAt}
+use Rattle.meaning.specs.Assigned.{isVariable}
+use Rattle.meaning.specs.FirstMatch.{has, firstWith, highest, decidedAt}
 use Rattle.meaning.specs.Laws.Every.{Every}
 use Rattle.meaning.specs.declared.Operand.{Operand}
 use Rattle.meaning.specs.declared.Operand.the-variants.{Constant as constantOperand, Variable as variableOperand}
@@ -26,7 +27,7 @@ use Rattle.meaning.specs.declared.Condition.the-variants.{Edge}
 use Rattle.meaning.specs.declared.Test.{Test}
 use Rattle.meaning.specs.declared.Element.{Element}
 use Rattle.meaning.specs.declared.Element.the-variants.{Constant as constantElement, Variable}
-use Rattle.references.specs.Runs.{nthPart}
+use Rattle.parts.specs.Runs.{nthPart}
 use Rattle.plan.specs.declared.Occurs.{Occurs}
 use Rattle.plan.specs.declared.Occurs.the-variants.{Behind, Nowhere}
 use Rattle.plan.specs.declared.Sort.{Sort}

@@ -9,12 +9,12 @@ ghost use lib.ListN.{length, getD};
 ghost use Rattle.meaning.specs.Image.{Rule, RuleGraph, ruleGraph, element, label};
 ghost use Rattle.meaning.specs.References.{labels, takesList};
 ghost use Rattle.meaning.specs.Matching.{leftNode, leftEdge};
-ghost use Rattle.meaning.specs.FirstMatch.{isVariable};
+ghost use Rattle.meaning.specs.Assigned.{isVariable};
 ghost use Rattle.meaning.specs.declared.Element.{Element};
 ghost use Rattle.plan.specs.Plan.{Placed, Items, Named, Planned, IsRule, HasGraph, IsLaid, IsNamed, HasItem, HasNode, HasEdge, For, Marked, testOf, Valued, decidedBy, Decides, Part, Plans, operandDecided, Occurring, FirstAt, Sorts, Labelled, OnlyLabel, AllLabelled, IsLabelled};
 use fields::Found;
-use labels::Counts;
-use labels::Front;
+use parts::Counts;
+use parts::Front;
 use meaning::Condition;
 use meaning::Element;
 use meaning::Operand;
@@ -97,7 +97,7 @@ pub fn test(rule: &[u8], plan: &[usize; 102], t: usize) -> Test
             condition: Condition::Edge(0, 0),
         };
     };
-    references::reading::read_test(tag, fields::part(tests, s, e))
+    parts::reading::read_test(tag, fields::part(tests, s, e))
 }
 
 // The counts of the label of item j.
@@ -296,7 +296,7 @@ fn sort_of(types: &[u8], plan: &[usize; 102], j: usize, p: &[u8]) -> Sort
     requires { ⌜ length (now plan) ≡ 102 ⌝ }
     ensures { λ s. ⌜ ((l : List Element) → label (now (p .entry)) ≡ some l → Sorts (length (now (types .entry))) (now (plan .entry)) j l s) ⌝ }
 {
-    let front = labels::first_element(p);
+    let front = parts::elements::first_element(p);
     match front {
         Front::First(e, end) => {
             if end < p.len() {
@@ -330,7 +330,7 @@ fn plan_label(rule: &[u8], plan: &mut [usize; 102], j: usize)
 {
     let kinds = types(rule, plan);
     let p = pattern(rule, plan, j);
-    let c = labels::shape(kinds, p);
+    let c = parts::elements::shape(kinds, p);
     plan[42 + j] = c.elements;
     plan[54 + j] = c.lists;
     let s = sort_of(kinds, plan, j, p);
@@ -375,7 +375,7 @@ fn plan_tests(rule: &[u8], plan: &mut [usize; 102])
         let Found::Field(tag, s, e) = found else {
             return;
         };
-        let x = references::reading::read_test(tag, fields::part(tests, s, e));
+        let x = parts::reading::read_test(tag, fields::part(tests, s, e));
         let c = x.condition;
         let n = decided(plan, c);
         plan[34 + t] = n;

@@ -8,10 +8,11 @@ use Rattle.meaning.specs.Layout.{Host, base}
 use Rattle.meaning.specs.Image.{Rule}
 use Rattle.meaning.specs.Applying.{Ledger, applied, apply}
 use Rattle.meaning.specs.Commands.{ruleAt}
-use Rattle.meaning.specs.Inference.{NoMatch, FirstCalled}
-use Rattle.meaning.specs.Demands.Met.{met}
-use Rattle.meaning.specs.Demands.Ours.{ours}
-use Rattle.meaning.specs.Demands.{Lent, Interpreter, Bytewise, Demand1, Demand2}
+use Rattle.demands.specs.Inference.{NoMatch, FirstCalled}
+use Rattle.demands.specs.Met.{met}
+use Rattle.demands.specs.Ours.{ours}
+use Rattle.meaning.specs.Calls.{Lent}
+use Rattle.demands.specs.Demands.{Interpreter, Bytewise, Demand1, Demand2}
 use Rattle.meaning.specs.Laws.Hosts.{LegalHost}
 use Rattle.meaning.specs.Laws.Legality.{LegalLedger}
 use Rattle.meaning.specs.Laws.LegalCommands.{LegalRules, legal-rule, legal-sound}

@@ -18,13 +18,13 @@ use Rattle.meaning.specs.Image.{Rule, ruleSet}
 use Rattle.meaning.specs.Matching.{nodeIn, edgeIn, Match}
 use Rattle.meaning.specs.Applying.{Ledger, applied, apply}
 use Rattle.meaning.specs.Commands.{State, Chosen, ruleAt, firstRule}
-use Rattle.meaning.specs.Inference
-use Rattle.meaning.specs.Inference.{NoMatch, FirstCalled, Does}
+use Rattle.demands.specs.Inference
+use Rattle.demands.specs.Inference.{NoMatch, FirstCalled, Does}
 use Rattle.meaning.specs.Laws.Layout.{Words}
 use Rattle.meaning.specs.Laws.Hosts.{LegalNode, LegalEdge, Attached, OnLive, LegalHost, liveAt-lt}
 use Rattle.meaning.specs.Laws.Pieces.{getD-map}
-use Rattle.meaning.specs.Laws.FurtherCommands.{Sound}
-use Rattle.meaning.specs.Laws.Inference.{called-none, none-called, called-some}
+use Rattle.meaning.specs.Laws.References.{Sound}
+use Rattle.demands.specs.Laws.Inference.{called-none, none-called, called-some}
 use Rattle.meaning.specs.declared.Layout.{Layout}
 use Rattle.meaning.specs.declared.End.{End}
 use Rattle.meaning.specs.declared.End.the-variants.{Done, Failed}

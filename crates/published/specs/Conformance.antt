@@ -9,10 +9,10 @@ use Prim.Native.Nat.{ℕ}
 use native.Mathlib.Omega.{arith}
 use Rattle.meaning.specs.Layout.{base}
 use Rattle.meaning.specs.Image.{Program, program}
-use Rattle.meaning.specs.Calls.{Left, answerNumber, run}
-use Rattle.meaning.specs.Demands.{Lent, Bytewise}
-use Rattle.meaning.specs.Demands.Ours.{ours}
-use Rattle.meaning.specs.Demands.Met.{met}
+use Rattle.meaning.specs.Calls.{Left, answerNumber, run, lending, Lent}
+use Rattle.demands.specs.Demands.{Bytewise}
+use Rattle.demands.specs.Ours.{ours}
+use Rattle.demands.specs.Met.{met}
 use Rattle.meaning.specs.Laws.Numbers.{Bytes}
 use Rattle.meaning.specs.Laws.Undoing.{base-numbered}
 use Rattle.meaning.specs.declared.Answer.the-variants.{Result, Fail}
@@ -48,7 +48,7 @@ module _ (nodes edges journal image : List ℕ) (fuel : ℕ) (report : List ℕ)
   bytewise = record { nodes = hn; edges = he; image = hi }
 
   abbrev left : Left
-  left = run base nodes edges journal image fuel report
+  left = run base (lending nodes edges journal image fuel report)
 
   pub run-result : left .answer ≡ Result → CanComeTo nodes edges image (graph (held (left .nodes) (left .edges)))
   unfolding answerNumber

@@ -11,8 +11,8 @@ use Rattle.meaning.specs.Image
 use Rattle.meaning.specs.Image.{Rule, Command, ruleSet, guarded, Commands}
 use Rattle.meaning.specs.Applying.{Ledger, applied, apply}
 use Rattle.meaning.specs.Commands.{State, ruleAt}
-use Rattle.meaning.specs.Inference
-use Rattle.meaning.specs.Inference.{NoMatch, FirstCalled, holding, Runs, Does, Follows}
+use Rattle.demands.specs.Inference
+use Rattle.demands.specs.Inference.{NoMatch, FirstCalled, holding, Runs, Does, Follows}
 use Rattle.meaning.specs.declared.End.{End}
 use Rattle.meaning.specs.declared.End.the-variants.{Done, Failed}
 use Rattle.published.specs.Semantics.{ComSeq, ⟨_∣_⟩, result, failure, [call₁], [call₂], [if₁], [if₂], [try₁], [try₂], [alap₁], [alap₂], [alap₃], [skip], [fail], last, here, comSeq, inOrder, followed}

@@ -11,7 +11,8 @@ use lib.Dec.{eqb}
 use lib.ListN.{length}
 use Rattle.meaning.specs.Basics.{either}
 use Rattle.meaning.specs.Layout.{isNodeMark, isEdgeMark}
-use Rattle.meaning.specs.Image.{Rule, anyMark}
+use Rattle.meaning.specs.Image.{Rule}
+use Rattle.meaning.specs.Tags.{anyMark}
 use Rattle.meaning.specs.References.{ruleHolds}
 use Rattle.meaning.specs.Laws.Tests.{choose-lt, choose-le, either-not}
 use Rattle.meaning.specs.Laws.Every.{Every, Every-at}

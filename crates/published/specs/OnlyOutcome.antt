@@ -13,10 +13,9 @@ use Rattle.meaning.specs.Layout.{base}
 use Rattle.meaning.specs.Image
 use Rattle.meaning.specs.Image.{Rule, Command, Commands, Program, program}
 use Rattle.meaning.specs.Commands.{ruleAt}
-use Rattle.meaning.specs.Calls.{Left, answerNumber, run}
-use Rattle.meaning.specs.Demands.{Lent}
-use Rattle.meaning.specs.Demands.Ours.{ours, good}
-use Rattle.meaning.specs.Demands.First.{run-settled}
+use Rattle.meaning.specs.Calls.{Left, answerNumber, run, lending, Lent}
+use Rattle.demands.specs.Ours.{ours, good}
+use Rattle.demands.specs.First.{run-settled}
 use Rattle.meaning.specs.Laws.Tests.{some-inj}
 use Rattle.meaning.specs.Laws.Numbers.{Bytes}
 use Rattle.meaning.specs.Laws.Values.{LegalRule}
@@ -142,7 +141,7 @@ module _ (nodes edges journal image : List ℕ) (fuel : ℕ) (report : List ℕ)
     lent = record { nodes = nodes; edges = edges; journal = journal; image = image; fuel = fuel; report = report }
 
     abbrev left : Left
-    left = run base nodes edges journal image fuel report
+    left = run base (lending nodes edges journal image fuel report)
 
     abbrev Comes : Outcome Graph → Type 0
     Comes X = ⟦_⟧ Graph Applied (comSeq (p .rules) (p .main)) (held nodes edges) X

@@ -13,10 +13,11 @@ use Rattle.meaning.specs.Image.{Rule, Command, Program, program}
 use Rattle.meaning.specs.Placement.{breaksLie, placement}
 use Rattle.meaning.specs.Applying.{Ledger, applied, apply}
 use Rattle.meaning.specs.Commands.{State, Out, ruleAt, exec}
-use Rattle.meaning.specs.Inference.{NoMatch, FirstCalled, Runs}
-use Rattle.meaning.specs.Demands.{Lent, Outcome, Interpreter, Bytewise, stopAnswer, refusal, start, Means, leaves, Demand1, Demand2}
-use Rattle.meaning.specs.Demands.Ours.{Good, good}
-use Rattle.meaning.specs.Demands.First.{refusal-answer}
+use Rattle.demands.specs.Inference.{NoMatch, FirstCalled, Runs}
+use Rattle.meaning.specs.Calls.{Lent}
+use Rattle.demands.specs.Demands.{Outcome, Interpreter, Bytewise, stopAnswer, refusal, start, Means, leaves, Demand1, Demand2}
+use Rattle.demands.specs.Ours.{Good, good}
+use Rattle.demands.specs.First.{refusal-answer}
 use Rattle.meaning.specs.Laws.Pieces.{fits-length}
 use Rattle.meaning.specs.Laws.Hosts.{LegalHost, read-write-nodes, read-write-edges}
 use Rattle.meaning.specs.Laws.Commands.{exec-unbroken}
@@ -24,7 +25,7 @@ use Rattle.meaning.specs.Laws.Values.{LegalRule}
 use Rattle.meaning.specs.Laws.Legality.{LegalLedger, apply-legal}
 use Rattle.meaning.specs.Laws.LegalCommands.{LegalRules, legal-rule, legal-sound}
 use Rattle.meaning.specs.Laws.LegalImage.{program-legal}
-use Rattle.meaning.specs.Laws.Inference.{exec-runs, runs-exec}
+use Rattle.demands.specs.Laws.Inference.{exec-runs, runs-exec}
 use Rattle.meaning.specs.Laws.Undoing.{Numbered, start-legal}
 use Rattle.meaning.specs.declared.Layout.{Layout}
 use Rattle.meaning.specs.declared.Stop.{Stop}

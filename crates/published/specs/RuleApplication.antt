@@ -15,7 +15,8 @@ use lib.ListN.{length, getD}
 use lib.Dec.{eqb, ltb}
 use Rattle.meaning.specs.Basics.{choose}
 use Rattle.meaning.specs.Numbers.{sum, difference, less}
-use Rattle.meaning.specs.Image.{RuleNode, RuleEdge, RuleGraph, Rule, anyMark}
+use Rattle.meaning.specs.Image.{RuleNode, RuleEdge, RuleGraph, Rule}
+use Rattle.meaning.specs.Tags.{anyMark}
 use Rattle.meaning.specs.References.{isInt}
 use Rattle.meaning.specs.Commands.{ruleAt}
 use Rattle.meaning.specs.Laws.Every.{Every}

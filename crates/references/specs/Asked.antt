@@ -5,7 +5,8 @@ use Prim.Native.Nat.{ℕ, _+_}
 use lib.ListN.{length, getD}
 use lib.Dec.{eqb, leb, ltb}
 use Rattle.meaning.specs.Basics.{choose, both, either, every, absent}
-use Rattle.meaning.specs.Image.{RuleGraph, Rule, Command, ruleSet, sequence, guarded, loop, skip, fail, break, Commands, stop, then, anyMark}
+use Rattle.meaning.specs.Image.{RuleGraph, Rule, Command, ruleSet, sequence, guarded, loop, skip, fail, break, Commands, stop, then}
+use Rattle.meaning.specs.Tags.{anyMark}
 use Rattle.meaning.specs.References.{operandNames, elementOperands, elementNames, conditionOperands, conditionNodes, isPlain, endsExist, testNodesExist, interfaceFits, leftPlain, leftSimple, operandsInt, variablesOnLeft, anyPlaced, ruleHolds}
 use Rattle.meaning.specs.declared.Operand.{Operand}
 use Rattle.meaning.specs.declared.Operand.the-variants.{Constant as constantOperand, Variable as variableOperand}
@@ -19,7 +20,7 @@ use Rattle.references.specs.declared.Check.{Check}
 use Rattle.references.specs.declared.Check.the-variants.{Elements, Lists, Nodes, Marks}
 use Rattle.references.specs.declared.Demand.{Demand}
 use Rattle.references.specs.declared.Demand.the-variants.{Rules, Breaks}
-use Rattle.references.specs.Rows.{Item, node, edge, items, Part, ruleOf, mainOf}
+use Rattle.parts.specs.Rows.{itemLabel, Item, node, edge, items, Part, ruleOf, mainOf}
 
 -- Elements and operands; `ts` are the types of the variables.
 
@@ -52,10 +53,6 @@ listsIn ts [] = 0
 listsIn ts (e ∷ l) = listOf ts e + listsIn ts l
 
 -- Items of a graph, and tests.
-
-unfoldable pub itemLabel : Item → List Element
-itemLabel (node n) = n .label
-itemLabel (edge e) = e .label
 
 unfoldable pub endsBelow : ℕ → Item → Bool
 endsBelow n (node x) = true

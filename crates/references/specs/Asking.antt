@@ -9,8 +9,7 @@ use borrow.Author.Tests.{lt-ltb, le-ltb}
 use lib.ListN.{length, getD, take, drop}
 use lib.Dec.{eqb, leb, ltb}
 use Rattle.meaning.specs.Basics.{choose, both, every, absent}
-use Rattle.meaning.specs.Image.{label, element}
-use Rattle.meaning.specs.Image.{field, anyTag}
+use Rattle.meaning.specs.Image.{label, element, field, anyTag}
 use Rattle.meaning.specs.References.{operandNames, elementOperands, elementNames, conditionOperands, conditionNodes, isPlain}
 use Rattle.meaning.specs.Laws.Tests.{every-append, both-yes, both-no, both-last, choose-eq, choose-ne}
 use Rattle.meaning.specs.declared.Operand.{Operand}
@@ -24,9 +23,9 @@ use Rattle.references.specs.declared.Ask.{Ask}
 use Rattle.references.specs.declared.Ask.the-variants.{Named, Int, Lacks, Plain}
 use Rattle.references.specs.declared.Check.{Check}
 use Rattle.references.specs.declared.Check.the-variants.{Elements, Lists, Nodes, Marks}
-use Rattle.references.specs.Runs.{For, Run, only-run, run-none, run-some, run-there}
-use Rattle.references.specs.Rows.{Item, node, edge, graphItem, item-is, node-is, edge-is}
-use Rattle.references.specs.Asked.{intOperand, operandAsked, elementAsked, listOf, listsIn, itemLabel, endsBelow, edgeMarked, itemAsked, conditionAsked}
+use Rattle.parts.specs.Runs.{For, Run, only-run, run-none, run-some, run-there}
+use Rattle.parts.specs.Rows.{Item, node, edge, graphItem, item-is, node-is, edge-is, itemLabel}
+use Rattle.references.specs.Asked.{intOperand, operandAsked, elementAsked, listOf, listsIn, endsBelow, edgeMarked, itemAsked, conditionAsked}
 
 pub both-below : (a b n : ℕ) → a < n → ltb b n ≡ both (ltb a n) (ltb b n)
 both-below a b n h = sym (both-yes _ _ (lt-ltb a n h))
@@ -279,16 +278,6 @@ module _ {ts bs : List ℕ} {at n : ℕ} (w : Listing ts bs at n) where
 -- Items.
 
 module _ (tag : ℕ) (bs : List ℕ) where
-  pub label-node : (rest : List ℕ) → tag ≡ 0x20 → rest ≡ drop 2 bs → For (graphItem tag bs) (λ i. label rest ≡ some (itemLabel i))
-  unfolding itemLabel
-  label-node rest h q (node n) e = ap label q ∙ node-is bs n (item-is tag bs (node n) e .1) .labelled
-  label-node rest h q (edge n) e = let t = item-is tag bs (edge n) e .0 in absurd (omega arith)
-
-  pub label-edge : (rest : List ℕ) → (tag ≡ 0x20 → ⊥) → rest ≡ drop 3 bs → For (graphItem tag bs) (λ i. label rest ≡ some (itemLabel i))
-  unfolding itemLabel
-  label-edge rest h q (node n) e = absurd (h (item-is tag bs (node n) e .0))
-  label-edge rest h q (edge n) e = ap label q ∙ edge-is bs n (item-is tag bs (edge n) e .1) .labelled
-
   pub ends-node : (n : ℕ) → tag ≡ 0x20 → For (graphItem tag bs) (λ i. true ≡ endsBelow n i)
   unfolding endsBelow
   ends-node n h (node x) e = refl

@@ -17,10 +17,10 @@ use Rattle.meaning.specs.References.{ruleHolds, rulesExist, allRulesExist, refe
 use Rattle.meaning.specs.Placement.{breaksLie, allBreaksLie, placement}
 use Rattle.meaning.specs.Laws.Tests.{both-yes, both-no, both-last, choose-eq, choose-ne}
 use Rattle.meaning.specs.Laws.Image.Parsed.{command-tag, command-50, command-51, command-52, command-53, command-54, command-55, command-56, command-57}
-use Rattle.fields.specs.Laws.{Lies}
+use Rattle.fields.specs.Laws.{Lies, past}
 use Rattle.references.specs.declared.Demand.{Demand}
 use Rattle.references.specs.declared.Demand.the-variants.{Rules, Breaks}
-use Rattle.references.specs.Runs.{For, Run, only-run, run-none, run-some, run-there}
+use Rattle.parts.specs.Runs.{For, Run, only-run, run-none, run-some, run-there}
 use Rattle.references.specs.Asked.{numbersAsked, breakAsked, inBody, inGuard, commandAsked, commandsAsked, partsAsked, ofFirst}
 
 -- The two demands.
@@ -67,10 +67,6 @@ sequence-parts d (c ∷ l) = ap (both (commandAsked d c)) (sequence-parts d l)
 empty-parts : (n : ℕ) → only anyTag (command n) 16 [] ≡ some []
 unfolding only leading _>>=_ ensure _>>_ isEmpty
 empty-parts n = refl
-
--- a number that is none of four in a row lies behind them
-pub past : (low t : ℕ) → (t ≡ low → ⊥) → (t ≡ low + 1 → ⊥) → (t ≡ low + 2 → ⊥) → (t ≡ low + 3 → ⊥) → low ≤ t → low + 4 ≤ t
-past low t h0 h1 h2 h3 k = omega arith
 
 behind-all : {t : ℕ} → t ≤ 0x57 → 0x58 ≤ t → ⊥
 behind-all h k = omega arith

@@ -1,6 +1,3 @@
-pub mod Runs
-pub mod Rows
-pub mod Reading
 pub mod Asked
 pub mod Asking
 pub mod Ties

@@ -9,7 +9,8 @@ use borrow.Author.Tests.{ltb-true, lt-ltb, le-ltb, le-leb, lt-leb, eq-eqb, ne-eq
 use lib.ListN.{length, getD}
 use lib.Dec.{eqb, leb, ltb}
 use Rattle.meaning.specs.Basics.{choose, both, either, clauses, all, every, absent, concat}
-use Rattle.meaning.specs.Image.{RuleGraph, Rule, Program, rule, anyMark}
+use Rattle.meaning.specs.Image.{RuleGraph, Rule, Program, rule}
+use Rattle.meaning.specs.Tags.{anyMark}
 use Rattle.meaning.specs.References.{operandNames, elementOperands, elementNames, conditionOperands, labels, elements, names, testOperands, testNames, takesList, lists, operandInt, variablesExist, endsExist, testNodesExist, interfaceFits, leftPlain, leftSimple, operandsInt, variablesOnLeft, anyKept, anyPlaced, ruleHolds}
 use Rattle.meaning.specs.Laws.Tests.{both-true, both-yes, both-no, both-last, either-left, either-right, every-append, every-map, every-true, absent-true, absent-false, all-of, all-no}
 use Rattle.meaning.specs.declared.Operand.{Operand}
@@ -19,9 +20,9 @@ use Rattle.meaning.specs.declared.Element.the-variants.{Constant, Variable, Sum
 use Rattle.references.specs.declared.Ask.{Ask}
 use Rattle.references.specs.declared.Ask.the-variants.{Named, Int, Lacks, Plain}
 use Rattle.references.specs.declared.Check.the-variants.{Elements, Lists, Nodes, Marks}
-use Rattle.references.specs.Runs.{For}
-use Rattle.references.specs.Rows.{Item, node, edge, items, markAt, ruleOf, mainOf, imagePart, imageParts, part-is, no-command}
-use Rattle.references.specs.Asked.{intOperand, operandAsked, elementAsked, listOf, listsIn, itemLabel, endsBelow, edgeMarked, itemAsked, graphAsked, conditionAsked, testAsked, rightAsked, keptOnLeft, nodesAsked, labelsAsked, partHolds}
+use Rattle.parts.specs.Runs.{For}
+use Rattle.parts.specs.Rows.{Item, node, edge, items, markAt, ruleOf, mainOf, imagePart, imageParts, part-is, no-command, itemLabel}
+use Rattle.references.specs.Asked.{intOperand, operandAsked, elementAsked, listOf, listsIn, endsBelow, edgeMarked, itemAsked, graphAsked, conditionAsked, testAsked, rightAsked, keptOnLeft, nodesAsked, labelsAsked, partHolds}
 use Rattle.references.specs.Asking.{absent-append}
 
 -- Tests over lists.

@@ -9,13 +9,11 @@ ghost use Rattle.meaning.specs.Image.{only, anyTag, label, ruleGraph, test};
 ghost use Rattle.meaning.specs.declared.Operand.the-variants.{Constant as constantOperand, Variable as variableOperand};
 ghost use Rattle.meaning.specs.declared.Element.the-variants.{Variable};
 ghost use Rattle.references.specs.declared.Check.the-variants.{Elements, Nodes};
-ghost use Rattle.references.specs.Runs.{For};
-ghost use Rattle.references.specs.Rows.{graphItem};
-ghost use Rattle.references.specs.Asked.{operandAsked, elementAsked, listOf, listsIn, itemLabel, endsBelow, edgeMarked, itemAsked, graphAsked, conditionAsked, testAsked};
+ghost use Rattle.parts.specs.Runs.{For};
+ghost use Rattle.parts.specs.Rows.{graphItem, itemLabel};
+ghost use Rattle.references.specs.Asked.{operandAsked, elementAsked, listOf, listsIn, endsBelow, edgeMarked, itemAsked, graphAsked, conditionAsked, testAsked};
 use crate::Ask;
 use crate::Check;
-use crate::parts;
-use crate::reading;
 use fields::Found;
 use meaning::Condition;
 use meaning::Element;
@@ -96,7 +94,7 @@ pub fn label_holds(ask: Ask, p: &[u8], types: &[u8]) -> bool
         let Found::Field(tag, start, end) = found else {
             return false;
         };
-        let e = reading::read_element(tag, fields::part(p, start, end));
+        let e = parts::reading::read_element(tag, fields::part(p, start, end));
         if element_holds(ask, e, types) {
             at = end;
         } else {
@@ -129,21 +127,11 @@ pub fn lists_in(p: &[u8], types: &[u8]) -> usize
         let Found::Field(tag, start, end) = found else {
             return n;
         };
-        let e = reading::read_element(tag, fields::part(p, start, end));
+        let e = parts::reading::read_element(tag, fields::part(p, start, end));
         n += list_of(e, types);
         at = end;
     }
     n
-}
-
-// The label of a node or an edge, from its tag and payload.
-pub fn label_part(tag: u8, p: &[u8]) -> &[u8]
-    ensures { λ r. ⌜ For (graphItem tag (now (p .entry))) (λ i. label (now r) ≡ some (itemLabel i)) ⌝ }
-{
-    if tag == 0x20 {
-        return parts::behind(p, 2);
-    }
-    parts::behind(p, 3)
 }
 
 pub fn both_below(a: usize, b: usize, n: usize) -> bool
@@ -180,8 +168,8 @@ pub fn item_holds(check: Check, tag: u8, p: &[u8], types: &[u8]) -> bool
     ensures { λ r. ⌜ For (graphItem tag (now (p .entry))) (λ i. r ≡ itemAsked check (now (types .entry)) i) ⌝ }
 {
     match check {
-        Check::Elements(ask) => label_holds(ask, label_part(tag, p), types),
-        Check::Lists => lists_in(label_part(tag, p), types) <= 1,
+        Check::Elements(ask) => label_holds(ask, parts::label_part(tag, p), types),
+        Check::Lists => lists_in(parts::label_part(tag, p), types) <= 1,
         Check::Nodes(n) => ends_exist(tag, p, n),
         Check::Marks => edge_marked(tag, p),
     }
@@ -249,7 +237,7 @@ pub fn tests_hold(check: Check, p: &[u8], types: &[u8]) -> bool
         let Found::Field(tag, start, end) = found else {
             return false;
         };
-        let t = reading::read_test(tag, fields::part(p, start, end));
+        let t = parts::reading::read_test(tag, fields::part(p, start, end));
         let c = t.condition;
         if condition_holds(check, c, types) {
             at = end;

@@ -3,10 +3,9 @@ ghost use mathlib.Core.Path.{_≡_};
 ghost use lib.Dec.{ltb};
 ghost use Rattle.meaning.specs.Basics.{every};
 ghost use Rattle.meaning.specs.Image.{only, anyTag, command, program};
-ghost use Rattle.references.specs.Runs.{For};
+ghost use Rattle.parts.specs.Runs.{For};
 ghost use Rattle.references.specs.Asked.{numbersAsked, breakAsked, inBody, inGuard, ofFirst, commandAsked, partsAsked};
 use crate::Demand;
-use crate::parts;
 use fields::Found;
 
 pub fn numbers_below(p: &[u8], n: usize) -> bool

@@ -4,12 +4,10 @@ ghost use mathlib.Core.Path.{_≡_};
 ghost use Rattle.meaning.specs.Image.{program};
 ghost use Rattle.meaning.specs.References.{references};
 ghost use Rattle.meaning.specs.Placement.{placement};
-ghost use Rattle.references.specs.Runs.{For};
+ghost use Rattle.parts.specs.Runs.{For};
 
 pub mod asking;
 pub mod commands;
-pub mod parts;
-pub mod reading;
 pub mod rules;
 
 // What is asked of every element of a label, and of every operand.

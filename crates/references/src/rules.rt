@@ -4,13 +4,12 @@ ghost use mathlib.Core.Bool.{true};
 ghost use Rattle.meaning.specs.Basics.{both, every};
 ghost use Rattle.meaning.specs.Image.{ruleGraph, rule, program};
 ghost use Rattle.meaning.specs.References.{variablesExist, endsExist, testNodesExist, interfaceFits, leftPlain, leftSimple, operandsInt, variablesOnLeft, anyKept, anyPlaced, ruleHolds};
-ghost use Rattle.references.specs.Runs.{For};
-ghost use Rattle.references.specs.Rows.{imagePart};
+ghost use Rattle.parts.specs.Runs.{For};
+ghost use Rattle.parts.specs.Rows.{imagePart};
 ghost use Rattle.references.specs.Asked.{graphAsked, rightAsked, keptOnLeft, nodesAsked, labelsAsked, partHolds};
 use crate::Ask;
 use crate::Check;
 use crate::asking;
-use crate::parts;
 use fields::Found;
 
 // What is asked of the right side and the tests.

@@ -12,15 +12,15 @@ use Rattle.meaning.specs.declared.Layout.{Layout}
 use Rattle.meaning.specs.declared.Refusal.{Refusal}
 use Rattle.meaning.specs.declared.Refusal.the-variants.{TooMuchFuel, ImageTooLong, BadHost, BadForm, BadReferences, BadPlacement}
 
-module _ (L : Layout) where
-  -- form, references, placement: 16, 17, 18
-  abbrev pub imageChecks : List ℕ → List (Bool × Refusal)
-  imageChecks image =
-      (isSome (program image), BadForm)
-      ∷ (referencesHold L (program image), BadReferences)
-      ∷ (placementHolds L (program image), BadPlacement)
-      ∷ []
+-- form, references, placement: 16, 17, 18
+abbrev pub imageChecks : List ℕ → List (Bool × Refusal)
+imageChecks image =
+    (isSome (program image), BadForm)
+    ∷ (referencesHold (program image), BadReferences)
+    ∷ (placementHolds (program image), BadPlacement)
+    ∷ []
 
+module _ (L : Layout) where
   -- lengths and fuel: 9 to 14
   abbrev pub sizeChecks : List ℕ → List ℕ → List ℕ → List ℕ → ℕ → List ℕ → List (Bool × Refusal)
   sizeChecks nodes edges journal image fuel report =

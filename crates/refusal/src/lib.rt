@@ -2,17 +2,16 @@
 ghost use mathlib.Core.Path.{_≡_};
 ghost use Rattle.meaning.specs.Basics.{firstFailing};
 ghost use Rattle.meaning.specs.Layout.{Sized, base};
-ghost use Rattle.meaning.specs.Calls.{runRefusal};
-ghost use Rattle.meaning.specs.declared.Layout.{Layout};
-ghost use Rattle.host.specs.Host.{refusalOf};
+ghost use Rattle.meaning.specs.Calls.{runRefusal, lending};
+ghost use Rattle.answers.specs.Answers.{refusalOf};
 ghost use Rattle.refusal.specs.Checks.{sizeChecks, imageChecks, contentChecks};
-use host::Checked;
+use answers::Checked;
 use meaning::Layout;
 use meaning::Refusal;
 
 // Form, references and placement of an image: 16, 17, 18.
 pub fn image_check(image: &[u8]) -> Checked
-    ensures { λ r. ⌜ ((l : Layout) → refusalOf r ≡ firstFailing (imageChecks l (now (image .entry)))) ⌝ }
+    ensures { λ r. ⌜ refusalOf r ≡ firstFailing (imageChecks (now (image .entry))) ⌝ }
 {
     if image::form_ok(image) {
         if references::references_ok(image) {
@@ -39,7 +38,7 @@ pub fn length_check(
     requires { ⌜ Sized l ⌝ }
     ensures { λ r. ⌜ refusalOf r ≡ firstFailing (sizeChecks l (now (nodes .entry)) (now (edges .entry)) (now (journal .entry)) (now (image .entry)) fuel (now (report .entry))) ⌝ }
 {
-    let fit = host::lengths(l, nodes, edges, journal, report);
+    let fit = answers::lengths(l, nodes, edges, journal, report);
     match fit {
         Checked::Refused(w) => fit,
         Checked::Fine => {
@@ -76,7 +75,7 @@ pub fn run_check(
     report: &[u8],
 ) -> Checked
     requires { ⌜ Sized l ⌝ }
-    ensures { λ r. ⌜ refusalOf r ≡ runRefusal l (now (nodes .entry)) (now (edges .entry)) (now (journal .entry)) (now (image .entry)) fuel (now (report .entry)) ⌝ }
+    ensures { λ r. ⌜ refusalOf r ≡ runRefusal l (lending (now (nodes .entry)) (now (edges .entry)) (now (journal .entry)) (now (image .entry)) fuel (now (report .entry))) ⌝ }
 {
     let fit = length_check(l, nodes, edges, journal, image, fuel, report);
     match fit {
@@ -94,7 +93,7 @@ pub fn run_refusal(
     fuel: u32,
     report: &[u8],
 ) -> Checked
-    ensures { λ r. ⌜ refusalOf r ≡ runRefusal base (now (nodes .entry)) (now (edges .entry)) (now (journal .entry)) (now (image .entry)) fuel (now (report .entry)) ⌝ }
+    ensures { λ r. ⌜ refusalOf r ≡ runRefusal base (lending (now (nodes .entry)) (now (edges .entry)) (now (journal .entry)) (now (image .entry)) fuel (now (report .entry))) ⌝ }
 {
     run_check(Layout::base(), nodes, edges, journal, image, fuel, report)
 }

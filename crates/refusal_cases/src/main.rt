@@ -1,12 +1,12 @@
 // Writes, for each of the stored cases on standard input, the number that refuses the run, 0 where it would start. A case
 // holds nodes, edges, journal, fuel, program and report.
-use host::Checked;
+use answers::Checked;
 use meaning::Answer;
 
 fn number_of(check: Checked) -> u32 {
     match check {
         Checked::Fine => 0,
-        Checked::Refused(why) => host::answer_number(Answer::Refused(why)),
+        Checked::Refused(why) => answers::answer_number(Answer::Refused(why)),
     }
 }
 

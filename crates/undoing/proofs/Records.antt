@@ -9,14 +9,13 @@ use native.Mathlib.Omega.{arith}
 use lib.ListN.{length, take, drop, replicate, length-append, replicate-append-replicate}
 use lib.Seq.{take-at, drop-at}
 use Rattle.meaning.specs.Basics.{every, concat, padded}
-use Rattle.meaning.specs.Layout.{Slot, Node, Edge, Change, recordLength, writeRecord}
-use Rattle.meaning.specs.Calls.{keepsRecord}
+use Rattle.meaning.specs.Layout.{Slot, Node, Edge, Change, recordLength, writeRecord, keepsRecord}
 use Rattle.meaning.specs.Laws.Tests.{every-drop}
 use Rattle.meaning.specs.Laws.Every.{Every, Every-parts}
 use Rattle.meaning.specs.Laws.Pieces.{pieces-drop, concat-append}
 use Rattle.meaning.specs.Laws.Records.{LegalChange, Within, Every-reverse, keeps-records, length-written, counted-written}
 use Rattle.meaning.specs.declared.Layout.{Layout}
-use Rattle.host.specs.Host.{recordsFrom, clearedFrom}
+use Rattle.journal.specs.Journal.{recordsFrom, clearedFrom}
 use Rattle.ledger.specs.Running.{changeOf, journalOf}
 use Rattle.ledger.specs.Steps.{changeOf-write}
 

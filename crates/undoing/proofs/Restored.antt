@@ -8,9 +8,8 @@ use native.Mathlib.Nat.{div-mul-le-self, mul-le-mul-right}
 use native.Mathlib.Omega.{arith}
 use lib.ListN.{length, take, length-append}
 use Rattle.meaning.specs.Basics.{every, concat, padded}
-use Rattle.meaning.specs.Layout.{Slot, Node, Edge, Host, Change, undone, nodeLength, edgeLength, recordLength, fitsTable, readNodes, readEdges, writeNodes, writeEdges, writeRecord}
+use Rattle.meaning.specs.Layout.{Slot, Node, Edge, Host, Change, undone, nodeLength, edgeLength, recordLength, fitsTable, readNodes, readEdges, writeNodes, writeEdges, writeRecord, keepsRecord}
 use Rattle.meaning.specs.Applying.{Ledger}
-use Rattle.meaning.specs.Calls.{keepsRecord}
 use Rattle.meaning.specs.Laws.Every.{Every, Every-parts}
 use Rattle.meaning.specs.Laws.Pieces.{fits-length, fits-same}
 use Rattle.meaning.specs.Laws.Layout.{length-padded}
@@ -18,8 +17,8 @@ use Rattle.meaning.specs.Laws.Hosts.{LegalHost, read-write-nodes, read-write-ed
 use Rattle.meaning.specs.Laws.Records.{LegalChange, Within, length-written}
 use Rattle.meaning.specs.Laws.Restoring.{From, from-host}
 use Rattle.meaning.specs.declared.Layout.{Layout}
-use Rattle.host.specs.Host.{tablesOf, recordsFrom, putBack, clearedFrom}
-use Rattle.host.specs.Restores.{restores-bytes}
+use Rattle.journal.specs.Journal.{tablesOf, recordsFrom, putBack, clearedFrom}
+use Rattle.journal.specs.Restores.{restores-bytes}
 use Rattle.ledger.specs.Running.{journalOf, ledgerOf, Held, Running}
 use Rattle.ledger.specs.Whole.{records-count, running-legal}
 use Rattle.undoing.specs.Undone.{Undone}

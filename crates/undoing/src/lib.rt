@@ -17,5 +17,5 @@ pub fn back_to(
     requires { ⌜ mark ≤ used ⌝ }
     ensures { λ _. ⌜ Undone l (now (nodes .entry)) (now (edges .entry)) (now (journal .entry)) used mark (now (nodes .exit)) (now (edges .exit)) (now (journal .exit)) ⌝ }
 {
-    host::undo_to(l, nodes, edges, journal, used, mark);
+    journal::undo_to(l, nodes, edges, journal, used, mark);
 }

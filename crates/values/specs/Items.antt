@@ -1,24 +1,25 @@
 -- Right nodes and edges by number: their marks, roots, ends and labels, and that a label's value in hand is theirs.
 -- Rests on Laws and Right.
 use mathlib.Core.Path.{_≡_, refl, sym, _∙_}
-use mathlib.Core.Option.{Option, some}
-use mathlib.Core.List.{List, [], _∷_}
-use Prim.Native.Nat.{ℕ, zero, suc, _+_, _<_}
+use mathlib.Core.Option.{some}
+use mathlib.Core.List.{List}
+use Prim.Native.Nat.{ℕ, _+_, _<_}
 use native.Mathlib.Omega.{arith}
 use lib.Dec.{eqb}
 use lib.ListN.{length, getD}
 use Rattle.meaning.specs.Basics.{choose, each}
 use Rattle.meaning.specs.Layout.{Node, Edge, Host}
-use Rattle.meaning.specs.Image.{RuleNode, RuleEdge, Rule, anyMark, ruleNode, ruleEdge}
+use Rattle.meaning.specs.Image.{RuleNode, RuleEdge, Rule, ruleNode, ruleEdge}
+use Rattle.meaning.specs.Tags.{anyMark}
 use Rattle.meaning.specs.References.{names}
 use Rattle.meaning.specs.Matching.{nodeAt, nodeSlot, Assignment}
-use Rattle.meaning.specs.FirstMatch.{assigned}
-use Rattle.meaning.specs.Applying.{labelValue, rightNode, rightNodes, rightEdge, Right, rightSide}
+use Rattle.meaning.specs.Assigned.{assigned}
+use Rattle.meaning.specs.Applying.{labelValue, rootTaken, rightNode, rightNodes, rightEdge, Right, rightSide}
 use Rattle.meaning.specs.Laws.Tests.{some-inj, bind-some}
+use Rattle.meaning.specs.Laws.Applying.{each-at, nodes-at}
 use Rattle.labels.specs.Labels.{atomsIn}
-use Rattle.references.specs.Runs.{For}
-use Rattle.references.specs.Rows.{node, edge, graphItem}
-use Rattle.references.specs.Asked.{itemLabel}
+use Rattle.parts.specs.Runs.{For}
+use Rattle.parts.specs.Rows.{node, edge, graphItem, itemLabel}
 use Rattle.values.specs.Values.{Agree, valueIn}
 use Rattle.values.specs.Laws.{value-some}
 use Rattle.values.specs.Right.{label-same, node-names, edge-names, node-item, edge-item}
@@ -26,39 +27,10 @@ use Rattle.values.specs.declared.Valued.{Valued}
 
 -- One of many.
 
-each-at : {A B : Type 0} (f : A → Option B) (l : List A) (m : List B) → each f l ≡ some m → (i : ℕ) → i < length l → (d : A) (b : B)
-    → f (getD l i d) ≡ some (getD m i b)
-unfolding each
-each-at f [] m q i h d b = absurd (omega arith)
-each-at f (a ∷ l) m q zero h d b =
-    let t = bind-some (f a) _ m q in
-    let u = bind-some (each f l) _ m (t .2) in
-    rw (some-inj m (t .0 ∷ u .0) (sym (u .2))) (t .1)
-each-at f (a ∷ l) m q (suc i) h d b =
-    let t = bind-some (f a) _ m q in
-    let u = bind-some (each f l) _ m (t .2) in
-    rw (some-inj m (t .0 ∷ u .0) (sym (u .2))) (each-at f l (u .0) (u .1) i (omega arith) d b)
-
-module _ (most : ℕ) (α : Assignment) (h : Host) (p : List ℕ) where
-  nodes-at : (j : ℕ) (l : List RuleNode) (m : List Node) → rightNodes most α h p j l ≡ some m → (i : ℕ) → i < length l → (d : RuleNode) (b : Node)
-      → rightNode most α h p (j + i) (getD l i d) ≡ some (getD m i b)
-  unfolding rightNodes
-  nodes-at j [] m q i k d b = absurd (omega arith)
-  nodes-at j (n ∷ l) m q zero k d b =
-      let t = bind-some (rightNode most α h p j n) _ m q in
-      let u = bind-some (rightNodes most α h p (suc j) l) _ m (t .2) in
-      let z : j + zero ≡ j = omega arith in
-      rw (some-inj m (t .0 ∷ u .0) (sym (u .2)), z) (t .1)
-  nodes-at j (n ∷ l) m q (suc i) k d b =
-      let t = bind-some (rightNode most α h p j n) _ m q in
-      let u = bind-some (rightNodes most α h p (suc j) l) _ m (t .2) in
-      let z : j + suc i ≡ suc j + i = omega arith in
-      rw (some-inj m (t .0 ∷ u .0) (sym (u .2)), z) (nodes-at (suc j) l (u .0) (u .1) i (omega arith) d b)
-
 -- the value of right node j, and of a right edge
-pub record NodeValue (most : ℕ) (α : Assignment) (h : Host) (p : List ℕ) (j : ℕ) (n : RuleNode) (a : Node) : Type 0 where
+pub record NodeValue (most : ℕ) (r : Rule) (α : Assignment) (h : Host) (p : List ℕ) (j : ℕ) (n : RuleNode) (a : Node) : Type 0 where
   pub mark : a .mark ≡ choose (eqb (n .mark) anyMark) (nodeAt h (nodeSlot p j) .mark) (n .mark)
-  pub root : a .root ≡ n .root
+  pub root : a .root ≡ rootTaken r j (n .root) (nodeAt h (nodeSlot p j) .root)
   pub label : labelValue most α (n .label) ≡ some (a .label)
 
 pub record EdgeValue (most : ℕ) (α : Assignment) (e : RuleEdge) (a : Edge) : Type 0 where
@@ -67,8 +39,8 @@ pub record EdgeValue (most : ℕ) (α : Assignment) (e : RuleEdge) (a : Edge) : 
   pub target : a .target ≡ e .target
   pub label : labelValue most α (e .label) ≡ some (a .label)
 
-module _ (most : ℕ) (α : Assignment) where
-  node-value : (h : Host) (p : List ℕ) (j : ℕ) (n : RuleNode) (a : Node) → rightNode most α h p j n ≡ some a → NodeValue most α h p j n a
+module _ (most : ℕ) (r : Rule) (α : Assignment) where
+  node-value : (h : Host) (p : List ℕ) (j : ℕ) (n : RuleNode) (a : Node) → rightNode most r α h p j n ≡ some a → NodeValue most r α h p j n a
   unfolding rightNode
   node-value h p j n a q =
       let t = bind-some (labelValue most α (n .label)) _ a q in
@@ -83,23 +55,23 @@ module _ (most : ℕ) (α : Assignment) where
 -- The right side.
 
 module _ (most : ℕ) (h : Host) (r : Rule) (p : List ℕ) (right : Right) (q : rightSide most h r p ≡ some right) where
-  sides : (rightNodes most (assigned h r p) h p 0 (r .right .nodes) ≡ some (right .nodes)) × (each (rightEdge most (assigned h r p)) (r .right .edges) ≡ some (right .edges))
+  sides : (rightNodes most r (assigned h r p) h p 0 (r .right .nodes) ≡ some (right .nodes)) × (each (rightEdge most (assigned h r p)) (r .right .edges) ≡ some (right .edges))
   unfolding rightSide
   sides =
-      let t = bind-some (rightNodes most (assigned h r p) h p 0 (r .right .nodes)) _ right q in
+      let t = bind-some (rightNodes most r (assigned h r p) h p 0 (r .right .nodes)) _ right q in
       let u = bind-some (each (rightEdge most (assigned h r p)) (r .right .edges)) _ right (t .2) in
       rw (some-inj right (record { nodes = t .0; edges = u .0 }) (sym (u .2))) (t .1, u .1)
 
   pub node-at : (j : ℕ) → j < length (r .right .nodes) → (d : RuleNode) (b : Node)
-      → NodeValue most (assigned h r p) h p j (getD (r .right .nodes) j d) (getD (right .nodes) j b)
+      → NodeValue most r (assigned h r p) h p j (getD (r .right .nodes) j d) (getD (right .nodes) j b)
   node-at j k d b =
       let z : 0 + j ≡ j = omega arith in
-      node-value most (assigned h r p) h p j _ _ (rw z at (nodes-at most (assigned h r p) h p 0 (r .right .nodes) (right .nodes) (sides .0) j k d b))
+      node-value most r (assigned h r p) h p j _ _ (rw z at (nodes-at most r (assigned h r p) h p 0 (r .right .nodes) (right .nodes) (sides .0) j k d b))
 
   pub edge-at : (j : ℕ) → j < length (r .right .edges) → (d : RuleEdge) (b : Edge)
       → EdgeValue most (assigned h r p) (getD (r .right .edges) j d) (getD (right .edges) j b)
   edge-at j k d b =
-      edge-value most (assigned h r p) _ _ (each-at (rightEdge most (assigned h r p)) (r .right .edges) (right .edges) (sides .1) j k d b)
+      edge-value most r (assigned h r p) _ _ (each-at (rightEdge most (assigned h r p)) (r .right .edges) (right .edges) (sides .1) j k d b)
 
   -- a value in hand, read from the item's bytes under values that agree with the match's
   module _ (α : Assignment) (agree : Agree α (assigned h r p) (names (r .right))) (bs : List ℕ) (v : Valued) where

@@ -24,11 +24,12 @@ use Rattle.meaning.specs.declared.Operand.{Operand}
 use Rattle.meaning.specs.declared.Operand.the-variants.{Constant as constantOperand, Variable as variableOperand}
 use Rattle.meaning.specs.declared.Element.{Element}
 use Rattle.meaning.specs.declared.Element.the-variants.{Constant, Variable, Sum, Difference}
-use Rattle.labels.specs.Labels.{atomsIn, Held, Holds, Spells, Next}
+use Rattle.labels.specs.Labels.{atomsIn, Held, Holds}
+use Rattle.parts.specs.Elements.{Spells, Next}
 use Rattle.labels.specs.Laws.{Filled, filled-more, filled-all, held-length}
-use Rattle.labels.specs.Walks.{spells-label}
+use Rattle.parts.specs.Walks.{spells-label}
 use Rattle.labels.specs.declared.Label.{Label}
-use Rattle.references.specs.Runs.{For}
+use Rattle.parts.specs.Runs.{For}
 use Rattle.values.specs.Values.{valuesOf, Stored, asOption, lowered, ofAtom, valueIn, Kept, fitting}
 use Rattle.values.specs.declared.Atom.{Atom}
 use Rattle.values.specs.declared.Atom.the-variants.{Word, Outside}

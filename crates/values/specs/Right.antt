@@ -12,7 +12,7 @@ use Rattle.meaning.specs.Layout.{Host}
 use Rattle.meaning.specs.Image.{RuleNode, RuleEdge, RuleGraph, Rule, ruleNode, ruleEdge}
 use Rattle.meaning.specs.References.{operandNames, elementNames, labels, names}
 use Rattle.meaning.specs.Matching.{Assignment, atomOf}
-use Rattle.meaning.specs.FirstMatch.{assigned}
+use Rattle.meaning.specs.Assigned.{assigned}
 use Rattle.meaning.specs.Applying.{elementValue, labelValue, rightNode, rightNodes, rightEdge, rightSide}
 use Rattle.meaning.specs.Laws.Tests.{every-append, every-map}
 use Rattle.meaning.specs.Laws.Every.{Every, Every-in, Every-parts, Every-map}
@@ -22,8 +22,7 @@ use Rattle.meaning.specs.declared.Operand.{Operand}
 use Rattle.meaning.specs.declared.Operand.the-variants.{Constant as constantOperand, Variable as variableOperand}
 use Rattle.meaning.specs.declared.Element.{Element}
 use Rattle.meaning.specs.declared.Element.the-variants.{Constant, Variable, Sum, Difference}
-use Rattle.references.specs.Rows.{node, edge, graphItem, items}
-use Rattle.references.specs.Asked.{itemLabel}
+use Rattle.parts.specs.Rows.{node, edge, graphItem, items, itemLabel}
 use Rattle.values.specs.Values.{Agree, labelNames, allHeld}
 
 -- A label's value hangs on the variables that it names.
@@ -111,16 +110,16 @@ both-sides f g =
     every-append f (map (λ n. n .label) (g .nodes)) (map (λ e. e .label) (g .edges))
     ∙ rw (every-map f (λ n. n .label) (g .nodes), every-map f (λ e. e .label) (g .edges))
 
-module _ (most : ℕ) (α : Assignment) where
-  node-held : (h : Host) (p : List ℕ) (j : ℕ) (n : RuleNode) → isSome (rightNode most α h p j n) ≡ isSome (labelValue most α (n .label))
+module _ (most : ℕ) (r : Rule) (α : Assignment) where
+  node-held : (h : Host) (p : List ℕ) (j : ℕ) (n : RuleNode) → isSome (rightNode most r α h p j n) ≡ isSome (labelValue most α (n .label))
   unfolding rightNode
   node-held h p j n = isSome-map (labelValue most α (n .label)) _
 
-  nodes-held : (h : Host) (p : List ℕ) (j : ℕ) (l : List RuleNode) → isSome (rightNodes most α h p j l) ≡ every (λ n. isSome (labelValue most α (n .label))) l
+  nodes-held : (h : Host) (p : List ℕ) (j : ℕ) (l : List RuleNode) → isSome (rightNodes most r α h p j l) ≡ every (λ n. isSome (labelValue most α (n .label))) l
   unfolding rightNodes every isSome
   nodes-held h p j [] = refl
   nodes-held h p j (n ∷ l) =
-      isSome-then (rightNode most α h p j n) _ (isSome (rightNodes most α h p (suc j) l)) (λ b. isSome-map (rightNodes most α h p (suc j) l) _)
+      isSome-then (rightNode most r α h p j n) _ (isSome (rightNodes most r α h p (suc j) l)) (λ b. isSome-map (rightNodes most r α h p (suc j) l) _)
       ∙ rw (node-held h p j n, nodes-held h p (suc j) l)
 
   edges-held : (l : List RuleEdge) → isSome (each (rightEdge most α) l) ≡ every (λ e. isSome (labelValue most α (e .label))) l
@@ -135,8 +134,8 @@ module _ (most : ℕ) (α : Assignment) where
 pub right-held : (most : ℕ) (h : Host) (r : Rule) (p : List ℕ) → isSome (rightSide most h r p) ≡ allHeld most (assigned h r p) (r .right)
 unfolding rightSide allHeld
 right-held most h r p =
-    isSome-then (rightNodes most (assigned h r p) h p 0 (r .right .nodes)) _ (isSome (each (rightEdge most (assigned h r p)) (r .right .edges))) (λ n. isSome-map (each (rightEdge most (assigned h r p)) (r .right .edges)) _)
-    ∙ rw (nodes-held most (assigned h r p) h p 0 (r .right .nodes), edges-held most (assigned h r p) (r .right .edges))
+    isSome-then (rightNodes most r (assigned h r p) h p 0 (r .right .nodes)) _ (isSome (each (rightEdge most (assigned h r p)) (r .right .edges))) (λ n. isSome-map (each (rightEdge most (assigned h r p)) (r .right .edges)) _)
+    ∙ rw (nodes-held most r (assigned h r p) h p 0 (r .right .nodes), edges-held most r (assigned h r p) (r .right .edges))
     (sym (both-sides (λ l. isSome (labelValue most (assigned h r p) l)) (r .right)))
 
 -- so has it where the labels can be held under values that agree with the match's at the names of the right side

@@ -9,12 +9,11 @@ ghost use Rattle.meaning.specs.Matching.{atomOf};
 ghost use Rattle.meaning.specs.Applying.{elementValue, labelValue};
 ghost use Rattle.meaning.specs.Laws.Layout.{Words};
 ghost use Rattle.labels.specs.Labels.{atomsIn, Held, Holds};
-ghost use Rattle.references.specs.Runs.{For};
-ghost use Rattle.references.specs.Rows.{graphItem};
-ghost use Rattle.references.specs.Asked.{itemLabel};
+ghost use Rattle.parts.specs.Runs.{For};
+ghost use Rattle.parts.specs.Rows.{graphItem, itemLabel};
 ghost use Rattle.values.specs.Values.{valuesOf, Stored, asOption, lowered, valueIn, Kept, ofAtom, fitting, allHeld};
 use fields::Found;
-use labels::Front;
+use parts::Front;
 use labels::Label;
 use meaning::Element;
 use meaning::Operand;
@@ -188,7 +187,7 @@ pub fn label_value(most: usize, lens: &[usize; 6], atoms: &[u32; 48], p: &[u8]) 
     let mut rest = p;
     let mut so_far = labels::none();
     loop {
-        let front = labels::first_element(rest);
+        let front = parts::elements::first_element(rest);
         match front {
             Front::First(e, end) => {
                 let v = element_value(lens, atoms, e);
@@ -222,7 +221,7 @@ pub fn item_value(most: usize, lens: &[usize; 6], atoms: &[u32; 48], tag: u8, p:
     requires { ⌜ Stored (now lens) (now atoms) × (most ≤ 8) ⌝ }
     ensures { λ r. ⌜ Kept most r × For (graphItem tag (now (p .entry))) (λ i. valueIn r ≡ labelValue most (valuesOf (now (lens .entry)) (now (atoms .entry))) (itemLabel i)) ⌝ }
 {
-    label_value(most, lens, atoms, references::asking::label_part(tag, p))
+    label_value(most, lens, atoms, parts::label_part(tag, p))
 }
 
 // Whether all labels of a right graph can be held.

@@ -6,7 +6,7 @@ use Prim.Native.Nat.{ℕ, _+_, _-_, _*_, _<_}
 use native.Mathlib.Omega.{arith}
 use borrow.Author.Needs.{needs}
 use lib.ListN.{length}
-use Rattle.references.proofs.Loops.{a-field, nearer, no-field, part-in}
+use Rattle.parts.proofs.Loops.{a-field, nearer, no-field, part-in}
 use Rattle.commands.specs.declared.Kind.the-variants.{RuleSet, Sequence, Guarded, Loop, Leaf}
 use Rattle.commands.specs.Parts.{listed, row-of, guarded-of, loop-of, nth-known, nth-shorter}
 use Rattle.commands.specs.Turns.{Going, Looping, is-kind, which-less, mark-below, fuel-less, out-of-fuel, begun-spent, paid-call, paid-row, paid-guarded, paid-loop, paid-leaf, row-start, row-over, row-cut, here-known, here-shorter, row-next, row-stop, guarded-stop, begun-settled, guarded-go, loop-start, loop-over, loop-next, loop-stop}
@@ -32,8 +32,8 @@ use Rattle.commands.proofs.part_after.Reads as part-after-reads
 use Rattle.commands.proofs.settle.Reads as settle-reads
 use Rattle.fields.proofs.part.Reads as part-reads
 use Rattle.fields.proofs.read_field.Reads as read-field-reads
-use Rattle.references.proofs.parts.nth_part.Reads as nth-part-reads
-use Rattle.references.proofs.parts.nth_tag.Reads as nth-tag-reads
+use Rattle.parts.proofs.nth_part.Reads as nth-part-reads
+use Rattle.parts.proofs.nth_tag.Reads as nth-tag-reads
 use Rattle.tally.proofs.entered.Reads as entered-reads
 use Rattle.commands.proofs.+run_command+run_guarded+run_loop+run_row.{statement}
 use Rattle.commands.proofs.+run_command+run_guarded+run_loop+run_row.Tie.{close}

@@ -4,7 +4,7 @@ use Prim.Native.Nat.{ℕ, _≤_}
 use native.Mathlib.Omega.{arith}
 use borrow.Author.Needs.{needs}
 use Rattle.meaning.specs.Basics.{choose}
-use Rattle.references.specs.Commanding.{past}
+use Rattle.fields.specs.Laws.{past}
 use Rattle.commands.proofs.kind_of.Statement.{statement}
 use Rattle.commands.proofs.kind_of.Tie as tie
 

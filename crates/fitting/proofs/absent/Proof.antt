@@ -3,7 +3,7 @@ use Prim.Native.Nat.{_-_, _≤_}
 use mathlib.Core.Path.{_≡_, refl, sym, _∙_}
 use lib.ListN.{take, drop}
 use Rattle.meaning.specs.Basics.{absent}
-use Rattle.fitting.proofs.Loops.{absent-here, absent-next, absent-end}
+use Rattle.meaning.specs.Laws.Loops.{absent-here, absent-next, absent-end}
 use borrow.Author.Needs.{needs}
 use native.Mathlib.Omega.{arith}
 use Rattle.fitting.proofs.absent.Statement.{statement}

@@ -6,10 +6,10 @@ use borrow.Author.Tests.{not-true, not-false}
 use lib.ListN.{take}
 use Rattle.meaning.specs.Basics.{every}
 use Rattle.meaning.specs.Matching.{testHolds}
-use Rattle.meaning.specs.FirstMatch.{assigned}
-use Rattle.graph.specs.Graph.{hostOf}
+use Rattle.meaning.specs.Assigned.{assigned}
+use Rattle.meaning.specs.Layout.{hostOf}
 use Rattle.fitting.specs.Fitting.{Full}
-use Rattle.fitting.proofs.Loops.{every-next, every-end, every-fails}
+use Rattle.meaning.specs.Laws.Loops.{every-next, every-end, every-fails}
 use Rattle.fitting.proofs.Decisions.{noTest, whole-test}
 use native.Mathlib.Omega.{arith}
 use Rattle.fitting.proofs.all_tests.Statement.{statement}

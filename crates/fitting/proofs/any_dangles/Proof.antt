@@ -7,9 +7,9 @@ use Rattle.meaning.specs.Basics.{any}
 use Rattle.meaning.specs.Image.{Rule}
 use Rattle.meaning.specs.Matching.{leftNodes, leftEdges}
 use Rattle.meaning.specs.FirstMatch.{dangles}
-use Rattle.graph.specs.Graph.{hostOf}
+use Rattle.meaning.specs.Layout.{hostOf}
 use Rattle.fitting.specs.Fitting.{Numbers}
-use Rattle.fitting.proofs.Loops.{any-yes, any-next, any-end}
+use Rattle.meaning.specs.Laws.Loops.{any-yes, any-next, any-end}
 use borrow.Author.Needs.{needs}
 use native.Mathlib.Omega.{arith}
 use Rattle.fitting.proofs.any_dangles.Statement.{statement}

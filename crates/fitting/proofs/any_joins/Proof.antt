@@ -3,10 +3,10 @@ use Prim.Native.Nat.{_-_, _≤_}
 use mathlib.Core.Path.{_≡_, refl}
 use mathlib.Core.Bool.{false}
 use Rattle.meaning.specs.Basics.{any}
-use Rattle.graph.specs.Graph.{hostOf}
+use Rattle.meaning.specs.Layout.{hostOf}
 use Rattle.plan.specs.Plan.{For}
 use Rattle.fitting.specs.Fitting.{joinsAt}
-use Rattle.fitting.proofs.Loops.{any-yes, any-next, any-end}
+use Rattle.meaning.specs.Laws.Loops.{any-yes, any-next, any-end}
 use borrow.Author.Needs.{needs}
 use native.Mathlib.Omega.{arith}
 use Rattle.fitting.proofs.any_joins.Statement.{statement}

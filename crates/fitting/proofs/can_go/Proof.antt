@@ -25,7 +25,7 @@ left-degree-requires c κs = search needs
 returns-2 : tie.Need-returns-2
 unfolding canGo either
 returns-2 c =
-    λ r q. rw (le-ltb (c .before .before .before .before .before .before .before .args .i) (r .interface) (omega (arith, q .interface, c .before .before .if1 .left)), ← (c .before .degree .ensures r), ← (c .left-degree .ensures r q _))
+    λ r q. rw (le-ltb (c .before .before .before .before .before .before .before .args .i) (r .interface) (omega (arith, q .interface, c .before .before .if1 .left)), ← (c .before .degree .ensures), ← (c .left-degree .ensures r q _))
 
 pub can-go-spec : {M : Type 1} → statement M
 can-go-spec =

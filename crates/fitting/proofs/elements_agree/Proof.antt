@@ -5,8 +5,8 @@ use lib.ListN.{length}
 use mathlib.Core.Path.{sym}
 use Rattle.labels.specs.Labels.{atomsIn}
 use Rattle.labels.specs.Laws.{held-length}
-use Rattle.labels.specs.Walks.{opens-first, opens-nothing, shorter}
-use Rattle.graph.specs.Graph.{hostOf}
+use Rattle.parts.specs.Walks.{opens-first, opens-nothing, shorter}
+use Rattle.meaning.specs.Layout.{hostOf}
 use Rattle.fitting.specs.Fitting.{HasElements}
 use Rattle.fitting.proofs.Agreeing.{upto-within, Comparing, comparing-start, comparing-element, comparing-fails, comparing-next, comparing-end}
 use borrow.Author.Needs.{needs}

@@ -5,7 +5,7 @@ use Rattle.meaning.specs.Basics.{count}
 use Rattle.meaning.specs.Layout.{Host}
 use Rattle.meaning.specs.FirstMatch.{leftTouches}
 use Rattle.plan.specs.Plan.{For}
-use Rattle.fitting.proofs.Loops.{count-yes, count-no, count-end}
+use Rattle.meaning.specs.Laws.Loops.{count-yes, count-no, count-end}
 use native.Mathlib.Omega.{arith}
 use Rattle.fitting.proofs.left_degree.Statement.{statement}
 use Rattle.fitting.proofs.left_degree.Tie as tie

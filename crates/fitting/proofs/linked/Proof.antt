@@ -5,9 +5,9 @@ use mathlib.Core.Bool.{true}
 use borrow.Author.Tests.{not-true, not-false}
 use Rattle.meaning.specs.Basics.{all}
 use Rattle.meaning.specs.FirstMatch.{linked}
-use Rattle.graph.specs.Graph.{hostOf}
+use Rattle.meaning.specs.Layout.{hostOf}
 use Rattle.fitting.specs.Fitting.{Tried}
-use Rattle.fitting.proofs.Loops.{all-fails, all-next, all-end}
+use Rattle.meaning.specs.Laws.Loops.{all-fails, all-next, all-end}
 use native.Mathlib.Omega.{arith}
 use Rattle.fitting.proofs.linked.Statement.{statement}
 use Rattle.fitting.proofs.linked.Tie as tie

@@ -5,7 +5,7 @@ use mathlib.Core.List.{List}
 use Prim.Native.Nat.{ℕ, _-_, _<_, _≤_}
 use Rattle.meaning.specs.FirstMatch.{nodeFits}
 use Rattle.meaning.specs.Matching.{leftNodes}
-use Rattle.graph.specs.Graph.{hostOf}
+use Rattle.meaning.specs.Layout.{hostOf}
 use Rattle.fitting.specs.Fitting.{Known}
 use Rattle.fitting.proofs.Candidates.{passed-more}
 use borrow.Author.Needs.{needs}

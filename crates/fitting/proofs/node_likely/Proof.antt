@@ -4,9 +4,8 @@ use mathlib.Core.Path.{_≡_, sym, _∙_}
 use borrow.Author.Tests.{not-true, not-false}
 use lib.ListN.{length, take}
 use lib.Seq.{length-take-le}
-use Rattle.meaning.specs.Layout.{Host}
+use Rattle.meaning.specs.Layout.{Host, hostOf}
 use Rattle.meaning.specs.Matching.{leftNodes}
-use Rattle.graph.specs.Graph.{hostOf}
 use Rattle.fitting.specs.Fitting.{Known, Tried}
 use Rattle.fitting.proofs.Candidates.{nodeCandidate, triedItem, used-node, unlinked, likely-node}
 use borrow.Author.Needs.{needs}

@@ -7,10 +7,10 @@ use Prim.Native.Nat.{_+_}
 use borrow.Author.Tests.{not-true, not-false}
 use lib.ListN.{length, getD, take}
 use lib.Seq.{length-take-le}
-use Rattle.meaning.specs.Layout.{Host}
+use Rattle.meaning.specs.Layout.{Host, hostOf}
 use Rattle.meaning.specs.Matching.{leftNodes}
-use Rattle.meaning.specs.FirstMatch.{assigned, labelAgrees}
-use Rattle.graph.specs.Graph.{hostOf}
+use Rattle.meaning.specs.Assigned.{assigned}
+use Rattle.meaning.specs.FirstMatch.{labelAgrees}
 use Rattle.plan.specs.Plan.{labelOf}
 use Rattle.fitting.specs.Fitting.{Known, labelAt, Tried}
 use Rattle.fitting.proofs.Candidates.{item-there, triedItem, alone-agrees, compared-is, compared-no, left-tests}

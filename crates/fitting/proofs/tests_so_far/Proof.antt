@@ -7,9 +7,9 @@ use borrow.Author.Tests.{not-true, not-false}
 use lib.ListN.{length, take}
 use Rattle.meaning.specs.Basics.{every}
 use Rattle.meaning.specs.FirstMatch.{testsSoFar}
-use Rattle.graph.specs.Graph.{hostOf}
+use Rattle.meaning.specs.Layout.{hostOf}
 use Rattle.fitting.specs.Fitting.{Tried}
-use Rattle.fitting.proofs.Loops.{every-next, every-end, every-fails}
+use Rattle.meaning.specs.Laws.Loops.{every-next, every-end, every-fails}
 use Rattle.fitting.proofs.Decisions.{noTest, soFar, tried-test, so-far-yes, so-far-no}
 use native.Mathlib.Omega.{arith}
 use Rattle.fitting.proofs.tests_so_far.Statement.{statement}

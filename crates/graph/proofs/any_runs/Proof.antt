@@ -6,8 +6,8 @@ use native.Mathlib.Omega.{arith}
 use borrow.Author.Needs.{needs}
 use Rattle.meaning.specs.Basics.{any}
 use Rattle.meaning.specs.Matching.{runs}
-use Rattle.graph.specs.Graph.{hostOf}
-use Rattle.graph.proofs.Counts.{any-yes, any-no, any-end}
+use Rattle.meaning.specs.Layout.{hostOf}
+use Rattle.meaning.specs.Laws.Loops.{any-yes, any-next, any-end}
 use Rattle.graph.proofs.any_runs.Statement.{statement}
 use Rattle.graph.proofs.any_runs.Tie as tie
 
@@ -37,7 +37,7 @@ loop-less : tie.Need-loop-less Inv-loop μ-loop
 loop-less c = omega arith
 
 loop-again : tie.Need-loop-again Inv-loop μ-loop
-loop-again c = (omega arith, any-no _ _ (c .before .edge-runs .ensures) (c .if1 .left) (c .before .before .before .loop .inv .1))
+loop-again c = (omega arith, any-next _ _ (c .before .edge-runs .ensures) (c .if1 .left) (c .before .before .before .loop .inv .1))
 
 returns-2 : tie.Need-returns-2 Inv-loop μ-loop
 returns-2 c = rw (← (c .before .before .edge-slots .ensures)) (any-end _ _ _ (omega arith) (c .before .loop .inv .1))

@@ -4,15 +4,14 @@ use mathlib.Core.Path.{_≡_, refl}
 use native.Mathlib.Omega.{arith}
 use borrow.Author.Needs.{needs}
 use Rattle.meaning.specs.Basics.{count}
-use Rattle.meaning.specs.Image.{Rule}
-use Rattle.meaning.specs.FirstMatch.{touches}
-use Rattle.graph.specs.Graph.{hostOf}
-use Rattle.graph.proofs.Counts.{count-yes, count-no, count-end}
+use Rattle.meaning.specs.Matching.{touches}
+use Rattle.meaning.specs.Layout.{hostOf}
+use Rattle.meaning.specs.Laws.Loops.{count-yes, count-no, count-end}
 use Rattle.graph.proofs.degree.Statement.{statement}
 use Rattle.graph.proofs.degree.Tie as tie
 
 abbrev Inv-loop : tie.InvT-loop
-Inv-loop l nodes edges c n x₀ d₀ x d = (x ≤ n) × (d ≤ x) × ((k : Rule) → d ≡ count (touches (hostOf l nodes edges) k c) x)
+Inv-loop l nodes edges c n x₀ d₀ x d = (x ≤ n) × (d ≤ x) × (d ≡ count (touches (hostOf l nodes edges) c) x)
 
 abbrev μ-loop : tie.MeasureT-loop
 μ-loop l nodes edges c n x₀ d₀ x d = n - x
@@ -22,7 +21,7 @@ edge-slots-requires c κs = c .before .before .pre .sized
 
 loop-holds : tie.Need-loop-holds Inv-loop μ-loop
 unfolding count
-loop-holds c = (omega arith, omega arith, λ k. refl)
+loop-holds c = (omega arith, omega arith, refl)
 
 edge-touches-requires : tie.Need-edge-touches-requires Inv-loop μ-loop
 edge-touches-requires c κs = (c .before .before .before .before .before .pre, omega (arith, c .before .before .edge-slots .ensures))
@@ -40,7 +39,7 @@ loop-again : tie.Need-loop-again Inv-loop μ-loop
 loop-again c =
     let e = c .before .edge-touches .ensures in
     let i = c .before .before .before .loop .inv .2 in
-    (omega arith, omega arith, λ k. count-yes _ _ (e k) (c .if1 .taken) _ (i k))
+    (omega arith, omega arith, count-yes _ _ e (c .if1 .taken) _ i)
 
 add-x-2 : tie.Need-add-x-2 Inv-loop μ-loop
 add-x-2 c = search needs
@@ -52,10 +51,10 @@ loop-again-2 : tie.Need-loop-again-2 Inv-loop μ-loop
 loop-again-2 c =
     let e = c .before .edge-touches .ensures in
     let i = c .before .before .before .loop .inv .2 in
-    (omega arith, omega arith, λ k. count-no _ _ (e k) (c .if1 .left) _ (i k))
+    (omega arith, omega arith, count-no _ _ e (c .if1 .left) _ i)
 
 returns : tie.Need-returns Inv-loop μ-loop
-returns c = λ k. rw (← (c .before .before .edge-slots .ensures)) (count-end _ _ _ (omega arith) _ (c .before .loop .inv .2 k))
+returns c = rw (← (c .before .before .edge-slots .ensures)) (count-end _ _ _ (omega arith) _ (c .before .loop .inv .2))
 
 pub degree-spec : {M : Type 1} → statement M
 degree-spec =

@@ -2,7 +2,7 @@
 use borrow.Author.Tests.{eq-eqb, ne-eqb}
 use borrow.Author.Needs.{needs}
 use Rattle.meaning.specs.Basics.{both, either}
-use Rattle.meaning.specs.FirstMatch.{touches}
+use Rattle.meaning.specs.Matching.{touches}
 use Rattle.graph.proofs.edge_touches.Statement.{statement}
 use Rattle.graph.proofs.edge_touches.Tie as tie
 
@@ -15,7 +15,7 @@ edge-source-requires c κs = search needs
 returns : tie.Need-returns
 unfolding touches both either
 returns c =
-    λ k. rw (
+    rw (
       ← (c .before .before .before .edge-live .ensures),
       ← (c .before .edge-source .ensures),
       c .before .before .if1 .taken,
@@ -28,7 +28,7 @@ edge-target-requires c κs = search needs
 returns-2 : tie.Need-returns-2
 unfolding touches both either
 returns-2 c =
-    λ k. rw (
+    rw (
       ← (c .before .before .before .before .edge-live .ensures),
       ← (c .before .before .edge-source .ensures),
       ← (c .edge-target .ensures),
@@ -38,7 +38,7 @@ returns-2 c =
 
 returns-3 : tie.Need-returns-3
 unfolding touches both
-returns-3 c = λ k. rw (← (c .before .edge-live .ensures), c .if1 .left)
+returns-3 c = rw (← (c .before .edge-live .ensures), c .if1 .left)
 
 pub edge-touches-spec : {M : Type 1} → statement M
 edge-touches-spec =

@@ -5,8 +5,8 @@ use native.Mathlib.Omega.{arith}
 use borrow.Author.Needs.{needs}
 use Rattle.meaning.specs.Basics.{count}
 use Rattle.meaning.specs.Matching.{arrives, inDegree}
-use Rattle.graph.specs.Graph.{hostOf}
-use Rattle.graph.proofs.Counts.{count-yes, count-no, count-end}
+use Rattle.meaning.specs.Layout.{hostOf}
+use Rattle.meaning.specs.Laws.Loops.{count-yes, count-no, count-end}
 use Rattle.graph.proofs.in_degree.Statement.{statement}
 use Rattle.graph.proofs.in_degree.Tie as tie
 

@@ -9,7 +9,7 @@ use lib.ListN.{length, drop}
 use Rattle.meaning.specs.Laws.Pieces.{length-pieces}
 use Rattle.meaning.specs.Layout.{keepsEdge, readNodes, cut}
 use Rattle.meaning.specs.Basics.{every}
-use Rattle.host.proofs.Keeps.{every-more, every-other, every-end}
+use Rattle.meaning.specs.Laws.Loops.{every-onward, every-stops, every-done}
 use Rattle.host.proofs.keep_edges.Statement.{statement}
 use Rattle.host.proofs.keep_edges.Tie as tie
 
@@ -43,7 +43,7 @@ loop-again c =
     let c7 = c4 .before .before .before in
     let a = c7 .args in
     let f = keepsEdge (a .l) (readNodes (a .l) (a .nodes .now)) in
-    (omega arith, c4 .loop .inv .1 ∙ every-more f (cut (a .l .edge) (a .edges .now)) (c4 .loop .i) [] (rw length-pieces (search needs)) (ap f (sym (c .before .before .slot .ensures .0)) ∙ sym (c .before .keeps-edge .ensures) ∙ c .if1 .taken))
+    (omega arith, c4 .loop .inv .1 ∙ every-onward f (cut (a .l .edge) (a .edges .now)) (c4 .loop .i) [] (rw length-pieces (search needs)) (ap f (sym (c .before .before .slot .ensures .0)) ∙ sym (c .before .keeps-edge .ensures) ∙ c .if1 .taken))
 
 returns : tie.Need-returns Inv-loop μ-loop
 returns c =
@@ -51,13 +51,13 @@ returns c =
     let c7 = c4 .before .before .before in
     let a = c7 .args in
     let f = keepsEdge (a .l) (readNodes (a .l) (a .nodes .now)) in
-    rw (← (c7 .pre .edge)) (sym (c4 .loop .inv .1 ∙ every-other f (cut (a .l .edge) (a .edges .now)) (c4 .loop .i) [] (rw length-pieces (search needs)) (ap f (sym (c .before .before .slot .ensures .0)) ∙ sym (c .before .keeps-edge .ensures) ∙ c .if1 .left)))
+    rw (← (c7 .pre .edge)) (sym (c4 .loop .inv .1 ∙ every-stops f (cut (a .l .edge) (a .edges .now)) (c4 .loop .i) [] (rw length-pieces (search needs)) (ap f (sym (c .before .before .slot .ensures .0)) ∙ sym (c .before .keeps-edge .ensures) ∙ c .if1 .left)))
 
 returns-2 : tie.Need-returns-2 Inv-loop μ-loop
 returns-2 c =
     let a = c .before .before .before .before .args in
     let f = keepsEdge (a .l) (readNodes (a .l) (a .nodes .now)) in
-    rw (← (c .before .before .before .before .pre .edge)) (sym (c .before .loop .inv .1 ∙ every-end f (cut (a .l .edge) (a .edges .now)) (c .before .loop .i) [] (rw length-pieces (search needs))))
+    rw (← (c .before .before .before .before .pre .edge)) (sym (c .before .loop .inv .1 ∙ every-done f (cut (a .l .edge) (a .edges .now)) (c .before .loop .i) [] (rw length-pieces (search needs))))
 
 pub keep-edges-spec : {M : Type 1} → statement M
 keep-edges-spec =

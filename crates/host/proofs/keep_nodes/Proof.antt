@@ -9,7 +9,7 @@ use lib.ListN.{length, drop}
 use Rattle.meaning.specs.Laws.Pieces.{length-pieces}
 use Rattle.meaning.specs.Layout.{keepsNode, cut}
 use Rattle.meaning.specs.Basics.{every}
-use Rattle.host.proofs.Keeps.{every-more, every-other, every-end}
+use Rattle.meaning.specs.Laws.Loops.{every-onward, every-stops, every-done}
 use Rattle.host.proofs.keep_nodes.Statement.{statement}
 use Rattle.host.proofs.keep_nodes.Tie as tie
 
@@ -42,19 +42,19 @@ loop-again c =
     let c4 = c .before .before .before .before in
     let c6 = c4 .before .before in
     let a = c6 .args in
-    (omega arith, c4 .loop .inv .1 ∙ every-more (keepsNode (a .l)) (cut (a .l .node) (a .nodes .now)) (c4 .loop .i) [] (rw length-pieces (search needs)) (ap (keepsNode (a .l)) (sym (c .before .before .slot .ensures .0)) ∙ sym (c .before .keeps-node .ensures) ∙ c .if1 .taken))
+    (omega arith, c4 .loop .inv .1 ∙ every-onward (keepsNode (a .l)) (cut (a .l .node) (a .nodes .now)) (c4 .loop .i) [] (rw length-pieces (search needs)) (ap (keepsNode (a .l)) (sym (c .before .before .slot .ensures .0)) ∙ sym (c .before .keeps-node .ensures) ∙ c .if1 .taken))
 
 returns : tie.Need-returns Inv-loop μ-loop
 returns c =
     let c4 = c .before .before .before .before in
     let c6 = c4 .before .before in
     let a = c6 .args in
-    rw (← (c6 .pre .node)) (sym (c4 .loop .inv .1 ∙ every-other (keepsNode (a .l)) (cut (a .l .node) (a .nodes .now)) (c4 .loop .i) [] (rw length-pieces (search needs)) (ap (keepsNode (a .l)) (sym (c .before .before .slot .ensures .0)) ∙ sym (c .before .keeps-node .ensures) ∙ c .if1 .left)))
+    rw (← (c6 .pre .node)) (sym (c4 .loop .inv .1 ∙ every-stops (keepsNode (a .l)) (cut (a .l .node) (a .nodes .now)) (c4 .loop .i) [] (rw length-pieces (search needs)) (ap (keepsNode (a .l)) (sym (c .before .before .slot .ensures .0)) ∙ sym (c .before .keeps-node .ensures) ∙ c .if1 .left)))
 
 returns-2 : tie.Need-returns-2 Inv-loop μ-loop
 returns-2 c =
     let a = c .before .before .before .args in
-    rw (← (c .before .before .before .pre .node)) (sym (c .before .loop .inv .1 ∙ every-end (keepsNode (a .l)) (cut (a .l .node) (a .nodes .now)) (c .before .loop .i) [] (rw length-pieces (search needs))))
+    rw (← (c .before .before .before .pre .node)) (sym (c .before .loop .inv .1 ∙ every-done (keepsNode (a .l)) (cut (a .l .node) (a .nodes .now)) (c .before .loop .i) [] (rw length-pieces (search needs))))
 
 pub keep-nodes-spec : {M : Type 1} → statement M
 keep-nodes-spec =

@@ -1,6 +1,6 @@
 -- `interpreter::nhiemavut_run` meets its contract: programs run in document 01's layout, and the call leaves what the definition says.
 use borrow.Author.Needs.{needs}
-use Rattle.running.specs.Run.{base-runs}
+use Rattle.interpreter.specs.Run.{base-runs}
 use Rattle.interpreter.proofs.nhiemavut_run.Statement.{statement}
 use Rattle.interpreter.proofs.nhiemavut_run.Tie as tie
 

@@ -4,11 +4,12 @@ use mathlib.Core.Path.{_≡_, ap}
 use native.Mathlib.Omega.{arith}
 use borrow.Author.Needs.{needs}
 use lib.ListN.{length, take}
-use Rattle.meaning.specs.FirstMatch.{assigned}
+use Rattle.meaning.specs.Assigned.{assigned}
 use Rattle.labels.specs.Labels.{Holds}
-use Rattle.graph.specs.Graph.{hostOf}
+use Rattle.meaning.specs.Layout.{hostOf}
 use Rattle.fitting.specs.Fitting.{Known}
-use Rattle.matching.specs.Next.{Of, total}
+use Rattle.matching.specs.Next.{Of}
+use Rattle.meaning.specs.Matching.{total}
 use Rattle.values.specs.Values.{Stored}
 use Rattle.matching.specs.Values.{HasValues}
 use Rattle.matching.proofs.Plans.{levels-of}

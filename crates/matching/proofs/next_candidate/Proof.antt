@@ -5,7 +5,7 @@ use native.Mathlib.Omega.{arith}
 use native.Mathlib.Nat.{le-refl}
 use borrow.Author.Needs.{needs}
 use Rattle.meaning.specs.Matching.{leftEdges}
-use Rattle.graph.specs.Graph.{hostOf}
+use Rattle.meaning.specs.Layout.{hostOf}
 use Rattle.matching.proofs.Plans.{nodes-of, edges-of, has-edge, has-item, level-room}
 use Rattle.matching.proofs.Links.{unreached, unleft}
 use Rattle.matching.proofs.next_candidate.Statement.{statement}

@@ -4,7 +4,7 @@ use mathlib.Core.Path.{_≡_}
 use native.Mathlib.Omega.{arith}
 use borrow.Author.Needs.{needs}
 use lib.ListN.{length}
-use Rattle.graph.specs.Graph.{hostOf}
+use Rattle.meaning.specs.Layout.{hostOf}
 use Rattle.matching.specs.Next.{Meets}
 use Rattle.matching.proofs.Links.{ends-more}
 use Rattle.matching.proofs.next_end.Statement.{statement}

@@ -6,7 +6,7 @@ use native.Mathlib.Omega.{arith}
 use borrow.Author.Needs.{needs}
 use lib.ListN.{length, take}
 use Rattle.meaning.specs.FirstMatch.{fits, candidates}
-use Rattle.graph.specs.Graph.{hostOf}
+use Rattle.meaning.specs.Layout.{hostOf}
 use Rattle.fitting.specs.Fitting.{Known}
 use Rattle.matching.specs.Next.{Of}
 use Rattle.matching.proofs.Plans.{nodes-of, level-room}

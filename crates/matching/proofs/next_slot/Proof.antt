@@ -7,7 +7,7 @@ use borrow.Author.Needs.{needs}
 use lib.ListN.{length, getD, take}
 use Rattle.meaning.specs.Matching.{leftNodes}
 use Rattle.meaning.specs.FirstMatch.{fits, candidates}
-use Rattle.graph.specs.Graph.{hostOf}
+use Rattle.meaning.specs.Layout.{hostOf}
 use Rattle.fitting.specs.Fitting.{Known, slots}
 use Rattle.matching.specs.Next.{Of, NextLikely}
 use Rattle.matching.specs.declared.Next.the-variants.{At}

@@ -6,7 +6,7 @@ use native.Mathlib.Omega.{arith}
 use native.Mathlib.Nat.{le-refl}
 use borrow.Author.Needs.{needs}
 use lib.ListN.{getD, take}
-use Rattle.graph.specs.Graph.{hostOf}
+use Rattle.meaning.specs.Layout.{hostOf}
 use Rattle.fitting.specs.Fitting.{Known}
 use Rattle.matching.specs.Next.{Of, IsStep}
 use Rattle.matching.specs.declared.Step.the-variants.{Full, Take}

@@ -1,20 +1,21 @@
 -- Laws of Applying: what a store records, what holds where a rule was applied, how many records that took, and that nothing
 -- hinders an application for want of fuel. Rests on Applying.
-use Prim.Native.Nat.{ℕ, suc, _+_, _≤_}
+use Prim.Native.Nat.{ℕ, zero, suc, _+_, _<_, _≤_}
 use mathlib.Core.Path.{_≡_, refl, sym, _∙_, ap}
 use mathlib.Core.List.{List, [], _∷_, _++_}
 use mathlib.Core.Bool.{Bool, true, false, not}
 use mathlib.Core.Option.{Option, some, none}
 use native.Mathlib.Omega.{arith}
 use borrow.Author.Tests.{leb-true}
-use lib.ListN.{length, take, length-append, length-take, length-drop, length-map}
-use Rattle.meaning.specs.Basics.{choose, any, firstFailing}
+use lib.ListN.{length, getD, take, length-append, length-take, length-drop, length-map}
+use Rattle.meaning.specs.Basics.{choose, any, each, firstFailing}
 use Rattle.meaning.specs.Layout.{Slot, live, Node, Edge, Host, Change, ofNode, ofEdge, put}
 use Rattle.meaning.specs.Image.{RuleNode, Rule}
 use Rattle.meaning.specs.Matching.{leftNodes, leftEdges, Assignment}
-use Rattle.meaning.specs.FirstMatch.{assigned}
+use Rattle.meaning.specs.Assigned.{assigned}
 use Rattle.meaning.specs.Applying.{rightNode, rightNodes, Right, rightSide, Ledger, standing, store, stores, lowestFree, freeSlots, nodesChange, addNodes, between, addEdges, changed, newNodes, goneNodes, recordsOf, hindrance, onFreeNode, applied, hindered, tested, unhindered, apply}
 use Rattle.meaning.specs.Laws.Tests.{some-inj, bind-some, each-some}
+use Rattle.meaning.specs.Laws.Checks.{firstFailing-none}
 use Rattle.meaning.specs.declared.Stop.{Stop}
 use Rattle.meaning.specs.declared.Stop.the-variants.{OutOfFuel, NoNodeRoom, NoEdgeRoom, NoRecordRoom, LabelTooLarge, EdgeOnFreeNode}
 
@@ -43,23 +44,52 @@ stores-records (c ∷ l) g = let h = stores-records l (store c g) in omega arith
 
 -- The right side has as many nodes and edges as the rule's.
 
-pub rightNodes-some : (most : ℕ) (α : Assignment) (h : Host) (p : List ℕ) (j : ℕ) (l : List RuleNode) (m : List Node)
-    → rightNodes most α h p j l ≡ some m → length m ≡ length l
+pub each-at : {A B : Type 0} (f : A → Option B) (l : List A) (m : List B) → each f l ≡ some m → (i : ℕ) → i < length l → (d : A) (b : B)
+    → f (getD l i d) ≡ some (getD m i b)
+unfolding each
+each-at f [] m q i h d b = absurd (omega arith)
+each-at f (a ∷ l) m q zero h d b =
+    let t = bind-some (f a) _ m q in
+    let u = bind-some (each f l) _ m (t .2) in
+    rw (some-inj m (t .0 ∷ u .0) (sym (u .2))) (t .1)
+each-at f (a ∷ l) m q (suc i) h d b =
+    let t = bind-some (f a) _ m q in
+    let u = bind-some (each f l) _ m (t .2) in
+    rw (some-inj m (t .0 ∷ u .0) (sym (u .2))) (each-at f l (u .0) (u .1) i (omega arith) d b)
+
+module _ (most : ℕ) (r : Rule) (α : Assignment) (h : Host) (p : List ℕ) where
+  pub nodes-at : (j : ℕ) (l : List RuleNode) (m : List Node) → rightNodes most r α h p j l ≡ some m → (i : ℕ) → i < length l → (d : RuleNode) (b : Node)
+      → rightNode most r α h p (j + i) (getD l i d) ≡ some (getD m i b)
+  unfolding rightNodes
+  nodes-at j [] m q i k d b = absurd (omega arith)
+  nodes-at j (n ∷ l) m q zero k d b =
+      let t = bind-some (rightNode most r α h p j n) _ m q in
+      let u = bind-some (rightNodes most r α h p (suc j) l) _ m (t .2) in
+      let z : j + zero ≡ j = omega arith in
+      rw (some-inj m (t .0 ∷ u .0) (sym (u .2)), z) (t .1)
+  nodes-at j (n ∷ l) m q (suc i) k d b =
+      let t = bind-some (rightNode most r α h p j n) _ m q in
+      let u = bind-some (rightNodes most r α h p (suc j) l) _ m (t .2) in
+      let z : j + suc i ≡ suc j + i = omega arith in
+      rw (some-inj m (t .0 ∷ u .0) (sym (u .2)), z) (nodes-at (suc j) l (u .0) (u .1) i (omega arith) d b)
+
+pub rightNodes-some : (most : ℕ) (r : Rule) (α : Assignment) (h : Host) (p : List ℕ) (j : ℕ) (l : List RuleNode) (m : List Node)
+    → rightNodes most r α h p j l ≡ some m → length m ≡ length l
 unfolding rightNodes
-rightNodes-some most α h p j [] m e = ap length (some-inj m [] (sym e))
-rightNodes-some most α h p j (n ∷ l) m e =
-    let t = bind-some (rightNode most α h p j n) _ m e in
-    let u = bind-some (rightNodes most α h p (suc j) l) _ m (t .2) in
-    ap length (some-inj m (t .0 ∷ u .0) (sym (u .2))) ∙ ap suc (rightNodes-some most α h p (suc j) l (u .0) (u .1))
+rightNodes-some most r α h p j [] m e = ap length (some-inj m [] (sym e))
+rightNodes-some most r α h p j (n ∷ l) m e =
+    let t = bind-some (rightNode most r α h p j n) _ m e in
+    let u = bind-some (rightNodes most r α h p (suc j) l) _ m (t .2) in
+    ap length (some-inj m (t .0 ∷ u .0) (sym (u .2))) ∙ ap suc (rightNodes-some most r α h p (suc j) l (u .0) (u .1))
 
 pub rightSide-some : (most : ℕ) (h : Host) (r : Rule) (p : List ℕ) (right : Right) → rightSide most h r p ≡ some right
     → (length (right .nodes) ≡ length (r .right .nodes)) × (length (right .edges) ≡ length (r .right .edges))
 unfolding rightSide
 rightSide-some most h r p right e =
-    let t = bind-some (rightNodes most (assigned h r p) h p 0 (r .right .nodes)) _ right e in
+    let t = bind-some (rightNodes most r (assigned h r p) h p 0 (r .right .nodes)) _ right e in
     let u = bind-some _ _ right (t .2) in
     let q = some-inj right (record { nodes = t .0; edges = u .0 }) (sym (u .2)) in (
-      ap (λ (x : Right). length (x .nodes)) q ∙ rightNodes-some most _ h p 0 (r .right .nodes) (t .0) (t .1),
+      ap (λ (x : Right). length (x .nodes)) q ∙ rightNodes-some most r _ h p 0 (r .right .nodes) (t .0) (t .1),
       ap (λ (x : Right). length (x .edges)) q ∙ each-some _ (r .right .edges) (u .0) (u .1),
     )
 
@@ -103,13 +133,6 @@ changed-records r p right g size n m =
     (omega arith)
 
 -- What holds where a rule was applied.
-
--- the first of some tests holds if no test fails, and so do the later ones
-pub firstFailing-none : {A : Type 0} (b : Bool) (a : A) (l : List (Bool × A)) → firstFailing ((b, a) ∷ l) ≡ none
-    → (b ≡ true) × (firstFailing l ≡ none)
-unfolding firstFailing choose
-firstFailing-none true a l e = (refl, e)
-firstFailing-none false a l e = let z : _≡_ {A = ℕ} 0 1 = cc in absurd (omega arith)
 
 -- the rule r was applied at the match p to the ledger g, which gave g′
 pub record Applies (most room : ℕ) (r : Rule) (p : List ℕ) (g g′ : Ledger) : Type 0 where

@@ -16,7 +16,8 @@ use Rattle.meaning.specs.Layout.{Host}
 use Rattle.meaning.specs.Image.{Rule, isType}
 use Rattle.meaning.specs.References.{elementNames, labels, isInt, isList, isPlain, takesList, lists, ruleHolds}
 use Rattle.meaning.specs.Matching.{Assignment, atomsOf, instance, nodeAt, edgeAt, leftNode, leftEdge, leftNodes, leftEdges, nodeSlot, edgeSlot}
-use Rattle.meaning.specs.FirstMatch.{Item, paired, hostLabels, placedItems, valueFrom, assigned, labelAgrees, has}
+use Rattle.meaning.specs.Assigned.{Item, paired, hostLabels, placedItems, valueFrom, assigned}
+use Rattle.meaning.specs.FirstMatch.{labelAgrees, has}
 use Rattle.meaning.specs.Laws.Tests.{both-true, either-true, every-true}
 use Rattle.meaning.specs.Laws.Every.{Every, Every-with}
 use Rattle.meaning.specs.Laws.References.{label-plain, label-simple, label-variables}

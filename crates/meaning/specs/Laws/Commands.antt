@@ -14,7 +14,7 @@ use Rattle.meaning.specs.Image.{Rule, Command, ruleSet, sequence, guarde
 use Rattle.meaning.specs.Matching.{leftNodes, leftEdges}
 use Rattle.meaning.specs.FirstMatch.{candidates, fits, complete, firstMatch}
 use Rattle.meaning.specs.Applying.{Ledger, Applied, applied, hindered, apply}
-use Rattle.meaning.specs.Commands.{State, Out, ends, back, enterAt, enter, Chosen, orLater, ruleAt, firstRule, afterApplying, next, decide, again, rounds, call, work, works, exec}
+use Rattle.meaning.specs.Commands.{State, Out, ends, back, enterAt, enter, Chosen, orLater, ruleAt, firstRule, afterApplying, next, decide, again, rounds, call, work, works, exec, stateAt}
 use Rattle.meaning.specs.Placement.{breaksLie, allBreaksLie}
 use Rattle.meaning.specs.Laws.Tests.{both-true}
 use Rattle.meaning.specs.Laws.Search.{Low, deep-low}
@@ -39,6 +39,7 @@ firstMatch-size h r p e =
 pub record First (rules : List Rule) (h : Host) (l : List ℕ) (c : Chosen) : Type 0 where
   pub place : ℕ
   pub listed : place < length l
+  pub number : c .number ≡ getD l place 0
   pub rule : c .rule ≡ ruleAt rules (getD l place 0)
   pub match : firstMatch h (c .rule) ≡ some (c .slots)
   pub before : (i : ℕ) → i < place → firstMatch h (ruleAt rules (getD l i 0)) ≡ none
@@ -50,13 +51,14 @@ firstRule-some rules h [] c e = let z : _≡_ {A = ℕ} 0 1 = cc in absurd (omeg
 firstRule-some rules h (i ∷ l) c e = at (firstMatch h (ruleAt rules i)) refl e (firstRule-some rules h l c)
   where
     at : (o : Option (List ℕ)) → firstMatch h (ruleAt rules i) ≡ o
-        → orLater (ruleAt rules i) o (firstRule rules h l) ≡ some c
+        → orLater i (ruleAt rules i) o (firstRule rules h l) ≡ some c
         → (firstRule rules h l ≡ some c → First rules h l c) → First rules h (i ∷ l) c
     at none q e k =
         let f = k e in
         record {
           place = suc (f .place);
           listed = omega (arith, f .listed);
+          number = f .number;
           rule = f .rule;
           match = f .match;
           before = earlier (f .before);
@@ -66,8 +68,8 @@ firstRule-some rules h (i ∷ l) c e = at (firstMatch h (ruleAt rules i)) refl e
             → (j : ℕ) → j < suc n → firstMatch h (ruleAt rules (getD (i ∷ l) j 0)) ≡ none
         earlier b zero g = q
         earlier b (suc j) g = b j (omega arith)
-    at (some p) q e k = let z : c ≡ record { rule = ruleAt rules i; slots = p } = cc in
-        record { place = 0; listed = omega arith; rule = rw z; match = rw z q; before = λ j g. absurd (omega arith) }
+    at (some p) q e k = let z : c ≡ record { number = i; rule = ruleAt rules i; slots = p } = cc in
+        record { place = 0; listed = omega arith; number = rw z; rule = rw z; match = rw z q; before = λ j g. absurd (omega arith) }
 
 pub firstRule-none : (rules : List Rule) (h : Host) (l : List ℕ) → firstRule rules h l ≡ none
     → (i : ℕ) → i < length l → firstMatch h (ruleAt rules (getD l i 0)) ≡ none
@@ -76,7 +78,7 @@ firstRule-none rules h [] e i k = absurd (omega arith)
 firstRule-none rules h (j ∷ l) e i k = at (firstMatch h (ruleAt rules j)) refl e i k (firstRule-none rules h l)
   where
     at : (o : Option (List ℕ)) → firstMatch h (ruleAt rules j) ≡ o
-        → orLater (ruleAt rules j) o (firstRule rules h l) ≡ none
+        → orLater j (ruleAt rules j) o (firstRule rules h l) ≡ none
         → (i : ℕ) → i < suc (length l)
         → (firstRule rules h l ≡ none → (i : ℕ) → i < length l → firstMatch h (ruleAt rules (getD l i 0)) ≡ none)
         → firstMatch h (ruleAt rules (getD (j ∷ l) i 0)) ≡ none
@@ -88,7 +90,7 @@ firstRule-none rules h (j ∷ l) e i k = at (firstMatch h (ruleAt rules j)) refl
 
 -- the state that a command entered at s begins in, f being the fuel that is left
 abbrev pub entered : ℕ → State → State
-entered f s = record { ledger = s .ledger; fuel = f; steps = suc (s .steps) }
+entered f s = stateAt (s .ledger) f (suc (s .steps))
 
 -- a command that can be entered does its work
 pub exec-entered : (most room : ℕ) (rules : List Rule) (c : Command) (s : State) (f : ℕ) → s .fuel ≡ suc f
@@ -170,7 +172,7 @@ module _ (most room : ℕ) (rules : List Rule) where
   -- what holds at s and after each application that can follow holds after the call
   pub call-either : (o : Option Chosen) (s : State) (P : State → Type 0) → P s
       → ((c : Chosen) (g : Ledger) → o ≡ some c → apply most room (c .rule) (c .slots) (s .ledger) ≡ applied g
-      → P (record { ledger = g; fuel = s .fuel; steps = s .steps }))
+      → P (stateAt g (s .fuel) (s .steps)))
       → P (call most room rules o s .state)
   unfolding call afterApplying
   call-either none s P p k = p
@@ -317,3 +319,9 @@ module _ (most room : ℕ) (rules : List Rule) where
 
   pub exec-unbroken : (c : Command) (s : State) → breaksLie c false ≡ true → exec most room rules c s .end ≡ Broke → ⊥
   exec-unbroken c s b e = rw e at (enter-unbroken (s .fuel) (λ t. work most room rules c t) (λ t. work-unbroken c t b) s)
+
+  -- no guard of a command whose breaks lie where they may breaks
+  pub guard-unbroken : (keep ok : Bool) (g a b : Command) (s : State) → breaksLie (guarded keep g a b) ok ≡ true
+      → exec most room rules g s .end ≡ Broke → ⊥
+  unfolding breaksLie
+  guard-unbroken keep ok g a b s h = exec-unbroken g s (both-true _ _ h .0)

@@ -14,7 +14,8 @@ use Rattle.meaning.specs.Layout.{Host}
 use Rattle.meaning.specs.Image.{Rule, isType}
 use Rattle.meaning.specs.References.{elementNames, operandNames, conditionOperands, conditionNodes, names, labels, isPlain, ruleHolds}
 use Rattle.meaning.specs.Matching.{Assignment, atomOf, leftNodes, leftEdges, nodeSlot, conditionHolds, testHolds}
-use Rattle.meaning.specs.FirstMatch.{assigned, isVariable, has, firstWith, highest, decidedAt, testsSoFar}
+use Rattle.meaning.specs.Assigned.{assigned, isVariable}
+use Rattle.meaning.specs.FirstMatch.{has, firstWith, highest, decidedAt, testsSoFar}
 use Rattle.meaning.specs.Laws.Tests.{choose-ne, choose-eq}
 use Rattle.meaning.specs.Laws.Every.{Every, Every-true, Every-of, Every-parts, Every-concat, Every-map, Every-all, Every-then, Every-with}
 use Rattle.meaning.specs.Laws.References.{OfVariables, variables-then, variables-with, left-plain, tests-left}

@@ -11,8 +11,7 @@ use Rattle.meaning.specs.Basics.{every}
 use Rattle.meaning.specs.Layout.{Host}
 use Rattle.meaning.specs.Image.{Rule, isType}
 use Rattle.meaning.specs.References.{ruleHolds}
-use Rattle.meaning.specs.Matching.{Match, leftNodes, leftEdges, nodeSlot, edgeSlot}
-use Rattle.meaning.specs.Search.{Before}
+use Rattle.meaning.specs.Matching.{Match, leftNodes, leftEdges, nodeSlot, edgeSlot, Before}
 use Rattle.meaning.specs.FirstMatch.{fits, candidates, complete, firstMatch}
 use Rattle.meaning.specs.Laws.Search.{In, Low, deep-low, from-zero, ext-full, ext-at, at-ext, before-apart}
 use Rattle.meaning.specs.Laws.Hosts.{liveAt-lt}

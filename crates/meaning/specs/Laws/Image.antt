@@ -12,7 +12,8 @@ use lib.ListN.{length, getD, take, drop, length-drop, length-append, drop-of-len
 use lib.Seq.{length-take-le, getD-drop, drop-drop, drop-cons}
 use Rattle.meaning.specs.Basics.{choose, both, either, every, isEmpty, isSome, ensure, _>>_, _>>=_}
 use Rattle.meaning.specs.Layout.{isNodeMark, isEdgeMark}
-use Rattle.meaning.specs.Image.{RuleNode, Rule, Command, Field, Read, Pair, stated, field, expect, leading, only, anyTag, constant, oneByte, operand, asPair, twoOperands, element, label, anyMark, ruleNode, ruleEdge, ruleGraph, relation, condition, test, isType, types, rule, leaf, asRuleSet, asSequence, asGuarded, asLoop, command, program}
+use Rattle.meaning.specs.Image.{RuleNode, Rule, Command, Field, Read, Pair, stated, field, expect, leading, only, anyTag, constant, oneByte, operand, asPair, twoOperands, element, label, ruleNode, ruleEdge, ruleGraph, relation, condition, test, isType, types, rule, leaf, asRuleSet, asSequence, asGuarded, asLoop, command, program}
+use Rattle.meaning.specs.Tags.{anyMark}
 use Rattle.meaning.specs.Image.Command.{skip, fail, break}
 use Rattle.meaning.specs.declared.Operand.{Operand}
 use Rattle.meaning.specs.declared.Condition.the-variants.{Equal, Less}

@@ -15,7 +15,8 @@ use Rattle.meaning.specs.Basics.{choose, either, concat}
 use Rattle.meaning.specs.Image.{Rule}
 use Rattle.meaning.specs.References.{isInt, takesList, lists}
 use Rattle.meaning.specs.Matching.{Assignment, atomsOf, instance}
-use Rattle.meaning.specs.FirstMatch.{isVariable, share, spare, taken, Item, orElse, valueFrom, lengthFits, labelAgrees, has}
+use Rattle.meaning.specs.Assigned.{isVariable, share, spare, taken, Item, orElse, valueFrom}
+use Rattle.meaning.specs.FirstMatch.{lengthFits, labelAgrees, has}
 use Rattle.meaning.specs.Laws.Tests.{either-left, either-right, both-true, both-of, same-true, same-of, some-inj}
 use Rattle.meaning.specs.Laws.Every.{Every}
 use Rattle.meaning.specs.declared.Element.{Element}

@@ -13,7 +13,7 @@ use lib.ListN.{length, getD, take, drop, replicate, length-append, length-take, 
 use lib.Seq.{take-add, drop-drop}
 use Rattle.meaning.specs.Basics.{choose, clauses, zeros, concat, padded}
 use Rattle.meaning.specs.Numbers.{number, bytes, whole}
-use Rattle.meaning.specs.Layout.{Slot, free, live, isLive, Node, Edge, liveAt, isNodeMark, isEdgeMark, nodeLength, edgeLength, pieces, cut, atoms, readNode, readEdge, readNodes, readEdges, atomBytes, nodeBytes, edgeBytes, writeNode, writeEdge, writeNodes, writeEdges, keepsNode, keepsEdge, keepsLayout}
+use Rattle.meaning.specs.Layout.{Sized, base, Slot, free, live, isLive, Node, Edge, liveAt, isNodeMark, isEdgeMark, nodeLength, edgeLength, pieces, cut, atoms, readNode, readEdge, readNodes, readEdges, atomBytes, nodeBytes, edgeBytes, writeNode, writeEdge, writeNodes, writeEdges, keepsNode, keepsEdge, keepsLayout}
 use Rattle.meaning.specs.declared.Layout.{Layout}
 use Rattle.meaning.specs.Laws.Tests.{both-true, both-of, choose-eq, choose-ne, every-true, zeros-true, zeros-of}
 use Rattle.meaning.specs.Laws.References.{clauses-true}
@@ -303,3 +303,8 @@ module _ (L : Layout) (nodes edges : List ℕ) (k : keepsLayout L nodes edges �
   write-read-edges h e =
       write-read (edgeLength L) (readEdge L) (writeEdge L) edges e
       (λ i j. write-read-edge L _ _ (Bytes-pieces _ _ edges i h j) (length-slot _ edges i j) (kept-edge i j))
+
+-- Document 01's layout is sized.
+
+pub base-sized : Sized base
+base-sized = record { node = refl; edge = refl; change = refl; atoms = omega arith; narrow = omega arith; wide = omega arith }

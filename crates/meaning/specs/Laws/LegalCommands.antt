@@ -17,7 +17,7 @@ use Rattle.meaning.specs.Laws.Commands.{firstRule-some, Kept, call-eithe
 use Rattle.meaning.specs.Laws.Values.{LegalRule}
 use Rattle.meaning.specs.Laws.Legality.{LegalLedger, apply-attached, apply-legal}
 use Rattle.meaning.specs.Laws.Stops.{OnStop, exec-stops}
-use Rattle.meaning.specs.Laws.FurtherCommands.{Sound}
+use Rattle.meaning.specs.Laws.References.{Sound}
 use Rattle.meaning.specs.declared.Layout.{Layout}
 use Rattle.meaning.specs.declared.Stop.the-variants.{EdgeOnFreeNode}
 use Rattle.meaning.specs.declared.End.the-variants.{Stopped}

@@ -20,7 +20,8 @@ use Rattle.meaning.specs.Laws.Hosts.{LegalNode, LegalEdge, Attached, OnL
 use Rattle.meaning.specs.Laws.Records.{LegalChange, Within, Every-append}
 use Rattle.meaning.specs.Laws.FirstMatch.{node-inside, edge-inside}
 use Rattle.meaning.specs.Laws.Slots.{lowestFree-lt, come-free}
-use Rattle.meaning.specs.Laws.Applying.{rightSide-some, firstFailing-none, hindrance-some, apply-applied}
+use Rattle.meaning.specs.Laws.Applying.{rightSide-some, hindrance-some, apply-applied}
+use Rattle.meaning.specs.Laws.Checks.{firstFailing-none}
 use Rattle.meaning.specs.Laws.Restoring.{from-nodes, changed-from}
 use Rattle.meaning.specs.Laws.Room.{afterLeft, afterNew, changed-is, afterLeft-nodes, afterLeft-edges, addNodes-edges}
 use Rattle.meaning.specs.Laws.Values.{LegalRule, LegalValue, LegalRight, interface-left, interface-right, rightSide-legal}

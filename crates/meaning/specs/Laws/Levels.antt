@@ -13,10 +13,12 @@ use lib.ListN.{length, getD, take, drop, length-drop}
 use lib.Seq.{take-suc, getD-take, getD-drop, length-take-le}
 use Rattle.meaning.specs.Basics.{either, clauses, all, every, absent}
 use Rattle.meaning.specs.Layout.{Host, liveAt}
-use Rattle.meaning.specs.Image.{Rule, isType, anyMark}
+use Rattle.meaning.specs.Image.{Rule, isType}
+use Rattle.meaning.specs.Tags.{anyMark}
 use Rattle.meaning.specs.References.{ruleHolds}
-use Rattle.meaning.specs.Matching.{Match, MarksAgree, nodeAt, edgeAt, leftNode, leftEdge, leftNodes, leftEdges, nodeSlot, edgeSlot, runs, testHolds}
-use Rattle.meaning.specs.FirstMatch.{assigned, marksAgree, labelAgrees, testsSoFar, joins, linked, touches, leftTouches, canGo, nodeFits, edgeFits, fits, candidates, touchesGone, dangles, complete}
+use Rattle.meaning.specs.Matching.{Match, MarksAgree, nodeAt, edgeAt, leftNode, leftEdge, leftNodes, leftEdges, nodeSlot, edgeSlot, runs, testHolds, touches, rootsAgree}
+use Rattle.meaning.specs.Assigned.{assigned}
+use Rattle.meaning.specs.FirstMatch.{marksAgree, labelAgrees, testsSoFar, joins, linked, leftTouches, canGo, nodeFits, edgeFits, fits, candidates, touchesGone, dangles, complete}
 use Rattle.meaning.specs.Laws.Tests.{not-so, both-true, both-yes, both-of, choose-lt, choose-le, choose-eq, choose-ne, absent-true, absent-of, absent-false, any-of, any-true, any-false, any-no, all-of, either-left, either-right, either-true}
 use Rattle.meaning.specs.Laws.Hosts.{liveAt-lt}
 use Rattle.meaning.specs.Laws.Counting.{count-from}
@@ -64,7 +66,7 @@ module _ (h : Host) (r : Rule) (p : List ℕ) (size : length p ≡ leftNodes r +
       liveAt (h .nodes) (nodeSlot p i)
       ∷ absent (nodeSlot p i) (take i p)
       ∷ marksAgree (leftNode r i .mark) (nodeAt h (nodeSlot p i) .mark)
-      ∷ eqb (leftNode r i .root) (nodeAt h (nodeSlot p i) .root)
+      ∷ rootsAgree r (leftNode r i .root) (nodeAt h (nodeSlot p i) .root)
       ∷ labelAgrees r (assigned h r (take (suc i) p)) (leftNode r i .label) (nodeAt h (nodeSlot p i) .label)
       ∷ all (linked h r (take (suc i) p) i) (leftEdges r)
       ∷ canGo h r i (nodeSlot p i)
@@ -158,7 +160,7 @@ module _ (h : Host) (r : Rule) (p : List ℕ) (size : length p ≡ leftNodes r +
       edgesApart = λ i j k l e. absent-true _ _ (edge j l 1) i (omega (arith, edges-before j l)) (edge-before j i k ∙ e);
       nodeMarks = λ i k. equal-true (leftNode r i .mark) anyMark (leftNode r i .mark) _ (node i k 2);
       edgeMarks = λ k j. joined k j .3;
-      roots = λ i k. eqb-true _ _ (node i k 3);
+      roots = λ i k. node i k 3;
       sources = λ k j. joined k j .1;
       targets = λ k j. joined k j .2;
       assignment = assigned h r p;
@@ -222,7 +224,7 @@ module _ (h : Host) (r : Rule) (p : List ℕ) (size : length p ≡ leftNodes r +
         at (yes d) = either-left _ _ (lt-ltb _ _ d)
         at (no d) = either-right _ _ (le-leb _ _ (count-from _ (leftTouches h r i) (edgeSlot r p) (length (h .edges)) (leftEdges r) from))
           where
-            from : (x : ℕ) → x < length (h .edges) → touches h r (nodeSlot p i) x ≡ true
+            from : (x : ℕ) → x < length (h .edges) → touches h (nodeSlot p i) x ≡ true
                 → (k : ℕ) × (k < leftEdges r) × (leftTouches h r i k ≡ true) × (edgeSlot r p k ≡ x)
             from x j e =
                 let t = both-true _ _ e in
@@ -237,7 +239,7 @@ module _ (h : Host) (r : Rule) (p : List ℕ) (size : length p ≡ leftNodes r +
           ∙ both-of _ _ (m .nodesLive i k)
           (both-of _ _ (absent-of _ _ (λ j l e. let f : j < i = omega (arith, nodes-before i k) in m .nodesApart j i f k (sym (getD-take i p j 0 f) ∙ e)))
           (both-of _ _ (equal-of (leftNode r i .mark) anyMark (leftNode r i .mark) _ (m .nodeMarks i k))
-          (both-of _ _ (eq-eqb _ _ (m .roots i k))
+          (both-of _ _ (m .roots i k)
           (both-of _ _ (agree .nodes i k)
           (both-of _ _ (links i k)
           (both-of _ _ (can-go i k)

@@ -13,8 +13,8 @@ use lib.ListN.{length, getD, take, drop, replicate, length-append, length-take, 
 use lib.Seq.{take-at, length-take-le}
 use Rattle.meaning.specs.Basics.{choose, both, clauses, every, zeros, concat, padded}
 use Rattle.meaning.specs.Numbers.{bytes}
-use Rattle.meaning.specs.Layout.{Slot, Node, Edge, Tables, Host, Change, ofNode, ofEdge, put, undone, nodeLength, edgeLength, recordLength, pieces, cut, writeNode, writeEdge, writeNodes, writeEdges, recordBytes, writeRecord}
-use Rattle.meaning.specs.Calls.{slotOf, readRecord, keepsRecord, counted, tablesUndone}
+use Rattle.meaning.specs.Layout.{Slot, Node, Edge, Tables, Host, Change, ofNode, ofEdge, put, undone, nodeLength, edgeLength, recordLength, pieces, cut, writeNode, writeEdge, writeNodes, writeEdges, recordBytes, writeRecord, slotOf, readRecord, keepsRecord}
+use Rattle.meaning.specs.Calls.{counted, tablesUndone}
 use Rattle.meaning.specs.declared.Layout.{Layout}
 use Rattle.meaning.specs.Laws.Tests.{both-true, both-of, either-true, either-left, either-right, choose-eq, choose-ne, zeros-of}
 use Rattle.meaning.specs.Laws.Every.{Every}

@@ -6,13 +6,18 @@ use Prim.Native.Nat.{ℕ, zero, suc, _<_, _≤_}
 use native.Mathlib.Omega.{arith}
 use borrow.Author.Tests.{ltb-true, leb-true, not-true}
 use lib.ListN.{length, getD}
-use Rattle.meaning.specs.Basics.{clauses, absent}
-use Rattle.meaning.specs.Image.{Rule}
+use Rattle.meaning.specs.Basics.{clauses, every, absent}
+use Rattle.meaning.specs.Image.{Rule, isType}
 use Rattle.meaning.specs.References.{operandNames, elementNames, conditionOperands, names, labels, elements, testNames, testOperands, isPlain, lists, variablesExist, endsExist, leftPlain, leftSimple, variablesOnLeft, ruleHolds}
 use Rattle.meaning.specs.Matching.{leftEdge, leftNodes, leftEdges}
 use Rattle.meaning.specs.Laws.Tests.{both-true, every-true}
 use Rattle.meaning.specs.Laws.Every.{Every, Every-true, Every-at, Every-parts, Every-concat, Every-map, Every-then, Every-with}
 use Rattle.meaning.specs.declared.Test.{Test}
+
+-- the rules that references and form ask for
+pub record Sound (r : Rule) : Type 0 where
+  pub holds : ruleHolds r ≡ true
+  pub types : every isType (r .variables) ≡ true
 
 -- each clause of a list that holds
 pub clauses-true : (l : List Bool) → clauses l ≡ true → (i : ℕ) → getD l i true ≡ true

@@ -10,7 +10,8 @@ use native.Mathlib.Omega.{arith}
 use native.Mathlib.Nat.{le-refl}
 use native.Mathlib.Decide.{decLt, ℕ-discrete}
 use lib.ListN.{length, getD, take}
-use Rattle.meaning.specs.Search.{pick, leaf, scan, deep, Ext, Before}
+use Rattle.meaning.specs.Search.{pick, leaf, scan, deep, Ext}
+use Rattle.meaning.specs.Matching.{Before}
 
 abbrev pub From : ℕ → List ℕ → Type 0
 From c [] = Unit {0}

@@ -13,10 +13,10 @@ use lib.ListN.{length, drop, replicate, replicate-append-replicate}
 use lib.Seq.{drop-at}
 use Rattle.meaning.specs.Basics.{choose, concat, padded, firstFailing}
 use Rattle.meaning.specs.Numbers.{number, bytes, whole}
-use Rattle.meaning.specs.Layout.{Slot, Node, Edge, Host, Change, base, nodeLength, edgeLength, recordLength, fitsTable, readNode, readEdge, readNodes, readEdges, writeNode, writeEdge, writeNodes, writeEdges, writeRecord, keepsLayout}
+use Rattle.meaning.specs.Layout.{Slot, Node, Edge, Host, Change, base, nodeLength, edgeLength, recordLength, fitsTable, readNode, readEdge, hostOf, writeNode, writeEdge, writeNodes, writeEdges, writeRecord, keepsLayout}
 use Rattle.meaning.specs.Image.{Program, program}
-use Rattle.meaning.specs.Commands.{State, Out, exec}
-use Rattle.meaning.specs.Calls.{Left, reportOf, refused, runRefusal, journalRoom, finished, started, runOn, run, keepsRecords, undoRefusal, tablesUndone, undoOn, undo}
+use Rattle.meaning.specs.Commands.{State, Out, beginning, exec}
+use Rattle.meaning.specs.Calls.{Left, reportOf, refused, runRefusal, journalRoom, finished, started, runOn, run, keepsRecords, undoRefusal, tablesUndone, undoOn, undo, lending, lendingBack}
 use Rattle.meaning.specs.Laws.Tests.{both-of}
 use Rattle.meaning.specs.Laws.Every.{Every}
 use Rattle.meaning.specs.Laws.Numbers.{Bytes, length-bytes, number-bytes}
@@ -73,7 +73,7 @@ stated-report steps records h =
 -- undo of what a run left, with the records that its report states, gives back the tables and a journal of zeros
 abbrev pub Restores : Layout → List ℕ → List ℕ → List ℕ → List ℕ → Left → Type 0
 Restores L nodes edges journal report o =
-    undo L (o .nodes) (o .edges) (o .journal) (statedRecords (o .report)) report
+    undo L (lendingBack (o .nodes) (o .edges) (o .journal) (statedRecords (o .report)) report)
     ≡ record {
       answer = Result;
       nodes = nodes;
@@ -91,12 +91,7 @@ module _ (L : Layout) (numbered : Numbered L) (nodes edges journal : List ℕ) (
     (p : Program) (legal : LegalRules (p .rules)) (fuel : ℕ)
   where
     abbrev start : State
-    start =
-        record {
-          ledger = record { host = record { nodes = readNodes L nodes; edges = readEdges L edges }; journal = [] };
-          fuel = fuel;
-          steps = 0;
-        }
+    start = beginning (hostOf L nodes edges) fuel
 
     abbrev out : Out
     out = exec (L .atoms) (journalRoom L journal) (p .rules) (p .main) start
@@ -211,7 +206,7 @@ module _ (L : Layout) (numbered : Numbered L) (nodes edges journal : List ℕ) (
         }
 
     pub undo-result : (report : List ℕ) → length report ≡ 8
-        → undo L (writeNodes L (after .nodes)) (writeEdges L (after .edges)) journalAfter (length records) report ≡ givenBack
+        → undo L (lendingBack (writeNodes L (after .nodes)) (writeEdges L (after .edges)) journalAfter (length records) report) ≡ givenBack
     unfolding undo undoOn undoRefusal firstFailing choose
     undo-result report h =
         rw (
@@ -243,39 +238,39 @@ module _ (L : Layout) (numbered : Numbered L) (nodes edges journal image : List 
     (he : Bytes edges) (hi : Bytes image)
   where
     -- the rules of an accepted program are legal
-    rules : (a : Accepted L nodes edges journal image fuel report) → LegalRules (a .tree .rules)
+    rules : (a : Accepted L (lending nodes edges journal image fuel report)) → LegalRules (a .tree .rules)
     rules a = program-legal image (a .tree) hi (a .form) (a .references)
 
     -- a property of what the call leaves: of what a refused call leaves, and of what a started one does
-    called : (P : Left → Type 0) → ((w : Refusal) → P (refused L w nodes edges journal report))
-        → ((a : Accepted L nodes edges journal image fuel report) → P (started L (a .tree) nodes edges journal fuel))
-        → P (run L nodes edges journal image fuel report)
+    called : (P : Left → Type 0) → ((w : Refusal) → P (refused w nodes edges journal report))
+        → ((a : Accepted L (lending nodes edges journal image fuel report)) → P (started L (a .tree) nodes edges journal fuel))
+        → P (run L (lending nodes edges journal image fuel report))
     unfolding run runOn
-    called P f g = at (runRefusal L nodes edges journal image fuel report) refl
+    called P f g = at (runRefusal L (lending nodes edges journal image fuel report)) refl
       where
-        at : (w : Option Refusal) → runRefusal L nodes edges journal image fuel report ≡ w
-            → P (runOn L w (program image) nodes edges journal fuel report)
+        at : (w : Option Refusal) → runRefusal L (lending nodes edges journal image fuel report) ≡ w
+            → P (runOn L w (program image) (lending nodes edges journal image fuel report))
         at (some w) e = f w
-        at none e = let a = accepted L nodes edges journal image fuel report e in rw (a .form) (g a)
+        at none e = let a = accepted L (lending nodes edges journal image fuel report) e in rw (a .form) (g a)
 
     -- from tables that keep the layout, run leaves tables that keep it
     pub run-keeps : keepsLayout L nodes edges ≡ true
-        → keepsLayout L (run L nodes edges journal image fuel report .nodes) (run L nodes edges journal image fuel report .edges) ≡ true
+        → keepsLayout L (run L (lending nodes edges journal image fuel report) .nodes) (run L (lending nodes edges journal image fuel report) .edges) ≡ true
     unfolding refused
     run-keeps k =
         called (λ o. keepsLayout L (o .nodes) (o .edges) ≡ true) (λ w. k)
         (λ a. started-keeps L numbered nodes edges journal hn he (a .nodesFit) (a .edgesFit) (a .journalFits) (a .layout) (a .tree) (rules a) fuel)
 
     -- run never answers 7
-    pub run-attached : run L nodes edges journal image fuel report .answer ≡ stoppedBy EdgeOnFreeNode → ⊥
+    pub run-attached : run L (lending nodes edges journal image fuel report) .answer ≡ stoppedBy EdgeOnFreeNode → ⊥
     unfolding refused
     run-attached =
         called (λ o. o .answer ≡ stoppedBy EdgeOnFreeNode → ⊥) (λ w e. let z : _≡_ {A = ℕ} 0 1 = cc in omega arith)
         (λ a. started-attached L numbered nodes edges journal hn he (a .nodesFit) (a .edgesFit) (a .journalFits) (a .layout) (a .tree) (rules a) fuel)
 
     -- undo of a result gives back what came in
-    pub run-undo : (back : List ℕ) → length back ≡ 8 → run L nodes edges journal image fuel report .answer ≡ Result
-        → Restores L nodes edges journal back (run L nodes edges journal image fuel report)
+    pub run-undo : (back : List ℕ) → length back ≡ 8 → run L (lending nodes edges journal image fuel report) .answer ≡ Result
+        → Restores L nodes edges journal back (run L (lending nodes edges journal image fuel report))
     unfolding refused started
     run-undo back h =
         called (λ o. o .answer ≡ Result → Restores L nodes edges journal back o)

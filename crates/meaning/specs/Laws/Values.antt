@@ -15,10 +15,11 @@ use lib.Seq.{getD-drop}
 use Rattle.meaning.specs.Basics.{choose, both, either, every, concat, each, _>>=_}
 use Rattle.meaning.specs.Numbers.{whole, sum, difference}
 use Rattle.meaning.specs.Layout.{Slot, free, live, Node, Edge, Host, isNodeMark, isEdgeMark}
-use Rattle.meaning.specs.Image.{RuleNode, RuleEdge, Rule, anyMark, isType}
+use Rattle.meaning.specs.Image.{RuleNode, RuleEdge, Rule, isType}
+use Rattle.meaning.specs.Tags.{anyMark}
 use Rattle.meaning.specs.References.{interfaceFits, endsExist, anyKept, anyPlaced, ruleHolds}
 use Rattle.meaning.specs.Matching.{nodeIn, edgeIn, nodeAt, edgeAt, leftNodes, nodeSlot, Assignment, atomOf}
-use Rattle.meaning.specs.FirstMatch.{isVariable, share, spare, taken, Item, paired, hostLabels, placedItems, orElse, valueFrom, assigned}
+use Rattle.meaning.specs.Assigned.{isVariable, share, spare, taken, Item, paired, hostLabels, placedItems, orElse, valueFrom, assigned}
 use Rattle.meaning.specs.Applying.{elementValue, labelValue, rightNode, rightNodes, rightEdge, Right, rightSide}
 use Rattle.meaning.specs.Laws.Tests.{both-true, either-true, either-not, all-true, some-inj, bind-some, ensure-some}
 use Rattle.meaning.specs.Laws.Every.{Every, Every-true, Every-with}
@@ -248,8 +249,8 @@ record Sound (n : ℕ) (e : RuleEdge) : Type 0 where
   marked : eqb (e .mark) anyMark ≡ false
 
 module _ (L : Layout) (h : Host) (legal : LegalHost L h) where
-  module _ (α : Assignment) (words : (v : ℕ) → Words (α v)) where
-    rightNode-legal : (p : List ℕ) (j : ℕ) (n : RuleNode) (a : Node) → LegalRuleNode n → rightNode (L .atoms) α h p j n ≡ some a
+  module _ (r : Rule) (α : Assignment) (words : (v : ℕ) → Words (α v)) where
+    rightNode-legal : (p : List ℕ) (j : ℕ) (n : RuleNode) (a : Node) → LegalRuleNode n → rightNode (L .atoms) r α h p j n ≡ some a
         → LegalNode L a
     unfolding rightNode
     rightNode-legal p j n a k e =
@@ -264,12 +265,12 @@ module _ (L : Layout) (h : Host) (legal : LegalHost L h) where
         })
 
     rightNodes-legal : (p : List ℕ) (j : ℕ) (l : List RuleNode) (m : List Node) → Every LegalRuleNode l
-        → rightNodes (L .atoms) α h p j l ≡ some m → Every (LegalNode L) m
+        → rightNodes (L .atoms) r α h p j l ≡ some m → Every (LegalNode L) m
     unfolding rightNodes
     rightNodes-legal p j [] m k e = rw (some-inj m [] (sym e)) tt
     rightNodes-legal p j (n ∷ l) m k e =
-        let t = bind-some (rightNode (L .atoms) α h p j n) _ m e in
-        let u = bind-some (rightNodes (L .atoms) α h p (suc j) l) _ m (t .2) in
+        let t = bind-some (rightNode (L .atoms) r α h p j n) _ m e in
+        let u = bind-some (rightNodes (L .atoms) r α h p (suc j) l) _ m (t .2) in
         rw (some-inj m (t .0 ∷ u .0) (sym (u .2)))
         (rightNode-legal p j n (t .0) (k .0) (t .1), rightNodes-legal p (suc j) l (u .0) (k .1) (u .1))
 
@@ -292,16 +293,16 @@ module _ (L : Layout) (h : Host) (legal : LegalHost L h) where
       → LegalRight L right
   unfolding rightSide
   rightSide-legal r k p right e =
-      let t = bind-some (rightNodes (L .atoms) (assigned h r p) h p 0 (r .right .nodes)) _ right e in
+      let t = bind-some (rightNodes (L .atoms) r (assigned h r p) h p 0 (r .right .nodes)) _ right e in
       let u = bind-some (each (rightEdge (L .atoms) (assigned h r p)) (r .right .edges)) _ right (t .2) in
       let q = some-inj right (record { nodes = t .0; edges = u .0 }) (sym (u .2)) in
       let words : (v : ℕ) → Words (assigned h r p v) = assigned-words L h legal r p in
-      let size : length (t .0) ≡ length (r .right .nodes) = rightNodes-some (L .atoms) _ h p 0 (r .right .nodes) (t .0) (t .1) in
+      let size : length (t .0) ≡ length (r .right .nodes) = rightNodes-some (L .atoms) r _ h p 0 (r .right .nodes) (t .0) (t .1) in
       rw q
       (record {
-        nodes = rightNodes-legal (assigned h r p) words p 0 (r .right .nodes) (t .0) (k .nodes) (t .1);
+        nodes = rightNodes-legal r (assigned h r p) words p 0 (r .right .nodes) (t .0) (k .nodes) (t .1);
         edges =
-            each-every _ (Sound (length (t .0))) _ (λ e a. rightEdge-legal (assigned h r p) words (length (t .0)) e a) (r .right .edges) (u .0)
+            each-every _ (Sound (length (t .0))) _ (λ e a. rightEdge-legal r (assigned h r p) words (length (t .0)) e a) (r .right .edges) (u .0)
             (rw size sound) (u .1);
       })
     where

@@ -5,7 +5,7 @@ use native.Mathlib.Omega.{arith}
 use borrow.Author.Needs.{needs}
 use lib.ListN.{length}
 use Rattle.meaning.specs.Image.{RuleGraph, ruleGraph}
-use Rattle.references.proofs.Loops.{a-field, no-field, part-in, nearer}
+use Rattle.parts.proofs.Loops.{a-field, no-field, part-in, nearer}
 use Rattle.plan.specs.Plan.{Placed}
 use Rattle.plan.proofs.Filling.{Filling, filling-start, filling-cut, filling-done, filling-node, filling-edge, next-low, next-fits}
 use Rattle.plan.proofs.items.Statement.{statement}

@@ -4,7 +4,7 @@ use Prim.Native.Nat.{_-_}
 use native.Mathlib.Omega.{arith}
 use borrow.Author.Needs.{needs}
 use lib.ListN.{length}
-use Rattle.references.proofs.Loops.{a-field, no-field, part-in, nearer}
+use Rattle.parts.proofs.Loops.{a-field, no-field, part-in, nearer}
 use Rattle.plan.proofs.Variables.{Seeking, seeking-start, seeking-done, seeking-cut, seeking-found, seeking-list, seeking-single}
 use Rattle.plan.proofs.occurrence.Statement.{statement}
 use Rattle.plan.proofs.occurrence.Tie as tie

@@ -5,7 +5,7 @@ use native.Mathlib.Omega.{arith}
 use borrow.Author.Needs.{needs}
 use lib.ListN.{length}
 use Rattle.meaning.specs.Image.{Rule}
-use Rattle.references.proofs.Loops.{a-field, no-field, part-in, nearer}
+use Rattle.parts.proofs.Loops.{a-field, no-field, part-in, nearer}
 use Rattle.plan.specs.Plan.{AllLabelled}
 use Rattle.plan.proofs.Deciding.{Deciding, deciding-start, deciding-cut, deciding-done, deciding-next, next-low, next-decides}
 use Rattle.plan.proofs.plan_tests.Statement.{statement}

@@ -4,7 +4,7 @@ use mathlib.Core.Logic.{inl, inr}
 use mathlib.Core.List.{[], _∷_}
 use borrow.Author.Needs.{needs}
 use Rattle.meaning.specs.declared.Element.{Element}
-use Rattle.labels.specs.Walks.{spells-label, opens-first, opens-nothing}
+use Rattle.parts.specs.Walks.{spells-label, opens-first, opens-nothing}
 use Rattle.plan.proofs.Labelling.{only-one}
 use Rattle.plan.proofs.sort_of.Statement.{statement}
 use Rattle.plan.proofs.sort_of.Tie as tie

@@ -12,10 +12,11 @@ use lib.Dec.{eqb}
 use lib.ListN.{length, getD, take, drop, length-map, length-drop, List·getD-append}
 use lib.Seq.{getD-take, getD-drop, getD-append-add, length-take-le}
 use Rattle.meaning.specs.Layout.{Slot, free, live, Node, Edge, Host, isLive, liveAt}
-use Rattle.meaning.specs.Image.{Rule, anyMark}
+use Rattle.meaning.specs.Image.{Rule}
+use Rattle.meaning.specs.Tags.{anyMark}
 use Rattle.meaning.specs.References.{ruleHolds}
 use Rattle.meaning.specs.Matching.{nodeIn, edgeIn, nodeAt, leftNodes, leftEdges, nodeSlot, edgeSlot, Match}
-use Rattle.meaning.specs.FirstMatch.{assigned}
+use Rattle.meaning.specs.Assigned.{assigned}
 use Rattle.meaning.specs.Applying.{Right, rightSide, Ledger, stores, freeSlots, edgesGo, between, changed, applied, apply}
 use Rattle.meaning.specs.Laws.Tests.{choose-lt, choose-le, choose-false}
 use Rattle.meaning.specs.Laws.Pieces.{getD-map}

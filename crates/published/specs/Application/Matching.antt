@@ -7,15 +7,16 @@ use mathlib.Core.Bool.{true}
 use mathlib.Core.List.{List, [], _∷_, _++_}
 use native.Mathlib.Omega.{arith}
 use native.Mathlib.Decide.{ℕ-discrete}
-use borrow.Author.Tests.{ltb-true}
+use borrow.Author.Tests.{ltb-true, eqb-true, eq-eqb}
 use lib.ListN.{length, getD, length-append, List·getD-append}
 use lib.Seq.{getD-append-add}
 use Rattle.meaning.specs.Basics.{every}
 use Rattle.meaning.specs.Layout.{Host}
-use Rattle.meaning.specs.Image.{Rule, anyMark, isType}
+use Rattle.meaning.specs.Image.{Rule, isType}
+use Rattle.meaning.specs.Tags.{anyMark}
 use Rattle.meaning.specs.References.{conditionNodes, isPlain, testNodesExist, ruleHolds}
 use Rattle.meaning.specs.Matching.{edgeAt, leftNode, leftEdge, leftNodes, leftEdges, nodeSlot, edgeSlot, testHolds, MarksAgree, Match}
-use Rattle.meaning.specs.FirstMatch.{assigned}
+use Rattle.meaning.specs.Assigned.{assigned}
 use Rattle.meaning.specs.Laws.Every.{Every, Every-true, Every-of, Every-all, Every-then, Every-with}
 use Rattle.meaning.specs.Laws.References.{clauses-true, label-plain, ends}
 use Rattle.meaning.specs.Laws.Assignment.{label-node, label-edge, Labelled, labelled, agreed}
@@ -131,7 +132,7 @@ module _ (h : Host) (r : Rule) (holds : ruleHolds r ≡ true) where
               omega (arith, m .injective .edges i j (omega arith) l (sym (edge i (omega arith)) ∙ e ∙ edge j l));
           nodeMarks = λ i k. rw (node i k) (marks _ _ (m .compatible .nodeMarks i k));
           edgeMarks = λ k j. rw (edge k j) (marks _ _ (m .compatible .edgeMarks k j));
-          roots = λ i k. rw (node i k) (m .compatible .roots i k);
+          roots = λ i k. rw (node i k) (eq-eqb _ _ (m .compatible .roots i k));
           sources = λ k j. let t = ends r holds k j in rw (edge k j, node (leftEdge r k .source) (t .0)) (m .g .sources k j);
           targets = λ k j. let t = ends r holds k j in rw (edge k j, node (leftEdge r k .target) (t .1)) (m .g .targets k j);
           assignment = m .α .of;
@@ -177,7 +178,7 @@ module _ (h : Host) (r : Rule) (holds : ruleHolds r ≡ true) where
             edges = λ k j. rw (labels .edges k j) (plain-instance (assigned h r p) (leftEdge r k .label) (edge-plain r holds k j));
             nodeMarks = λ i k. unmarked _ _ (m .nodeMarks i k);
             edgeMarks = λ k j. unmarked _ _ (m .edgeMarks k j);
-            roots = m .roots;
+            roots = λ i k. eqb-true _ _ (m .roots i k);
           };
           dangling = m .dangling;
           condition =

@@ -11,9 +11,10 @@ use Rattle.meaning.specs.Numbers.{sum, difference}
 use Rattle.meaning.specs.Layout.{Node, Edge, Host}
 use Rattle.meaning.specs.Image.{RuleNode, RuleEdge, Rule}
 use Rattle.meaning.specs.Matching.{nodeAt, nodeSlot, Assignment, atomOf}
-use Rattle.meaning.specs.FirstMatch.{assigned}
+use Rattle.meaning.specs.Assigned.{assigned}
 use Rattle.meaning.specs.Applying.{elementValue, labelValue, rightNode, rightNodes, rightEdge, Right, rightSide}
 use Rattle.meaning.specs.Laws.Tests.{some-inj, bind-some, ensure-some}
+use Rattle.meaning.specs.Laws.Applying.{each-at, nodes-at}
 use Rattle.meaning.specs.declared.Element.{Element}
 use Rattle.meaning.specs.declared.Element.the-variants.{Constant, Variable, Sum, Difference}
 use Rattle.published.specs.Graphs.{NodeLabel, EdgeLabel}
@@ -63,29 +64,13 @@ noNode = record { mark = 0; root = 0; label = [] }
 abbrev pub noEdge : Edge
 noEdge = record { mark = 0; source = 0; target = 0; label = [] }
 
-module _ (most : ℕ) (α : Assignment) (h : Host) (p : List ℕ) where
-  node-instance : (j : ℕ) (n : RuleNode) (a : Node) → rightNode most α h p j n ≡ some a
+module _ (most : ℕ) (r : Rule) (α : Assignment) (h : Host) (p : List ℕ) where
+  node-instance : (j : ℕ) (n : RuleNode) (a : Node) → rightNode most r α h p j n ≡ some a
       → NodeInstance α n (markFrom (nodeAt h (nodeSlot p j) .mark) (n .mark)) (nodeLabelOf a)
   unfolding rightNode
   node-instance j n a e =
       let t = bind-some (labelValue most α (n .label)) _ a e in
       rw (some-inj a _ (sym (t .2))) (record { list = label-instance α most (n .label) (t .0) (t .1); root = refl; mark = refl })
-
-  nodes-at : (j : ℕ) (l : List RuleNode) (m : List Node) → rightNodes most α h p j l ≡ some m → (i : ℕ) → i < length l
-      → rightNode most α h p (j + i) (getD l i (record { mark = 0; root = 0; label = [] })) ≡ some (getD m i noNode)
-  unfolding rightNodes
-  nodes-at j [] m e i k = absurd (omega arith)
-  nodes-at j (n ∷ l) m e i k =
-      let t = bind-some (rightNode most α h p j n) _ m e in
-      let u = bind-some (rightNodes most α h p (suc j) l) _ m (t .2) in
-      rw (some-inj m (t .0 ∷ u .0) (sym (u .2))) (at i k (t .0) (u .0) (t .1) (nodes-at (suc j) l (u .0) (u .1)))
-    where
-      at : (i : ℕ) → i < suc (length l) → (a : Node) (b : List Node) → rightNode most α h p j n ≡ some a
-          → ((i : ℕ) → i < length l
-          → rightNode most α h p (suc j + i) (getD l i (record { mark = 0; root = 0; label = [] })) ≡ some (getD b i noNode))
-          → rightNode most α h p (j + i) (getD (n ∷ l) i (record { mark = 0; root = 0; label = [] })) ≡ some (getD (a ∷ b) i noNode)
-      at zero k a b e ih = let z : j + 0 ≡ j = omega arith in rw z e
-      at (suc i) k a b e ih = let z : j + suc i ≡ suc j + i = omega arith in rw z (ih i (omega arith))
 
   -- the values of a right edge; its ends are still right nodes
   pub record EdgeValue (e : RuleEdge) (a : Edge) : Type 0 where
@@ -100,20 +85,6 @@ module _ (most : ℕ) (α : Assignment) (h : Host) (p : List ℕ) where
       rw (some-inj a _ (sym (t .2)))
       (record { label = record { list = label-instance α most (e .label) (t .0) (t .1); mark = refl }; source = refl; target = refl })
 
-each-at : {A B : Type 0} (f : A → Option B) (d : A) (c : B) (l : List A) (m : List B) → each f l ≡ some m → (i : ℕ) → i < length l
-    → f (getD l i d) ≡ some (getD m i c)
-unfolding each
-each-at f d c [] m e i k = absurd (omega arith)
-each-at f d c (a ∷ l) m e i k =
-    let t = bind-some (f a) _ m e in
-    let u = bind-some (each f l) _ m (t .2) in
-    rw (some-inj m (t .0 ∷ u .0) (sym (u .2))) (at i k (t .0) (u .0) (t .1) (each-at f d c l (u .0) (u .1)))
-  where
-    at : (i : ℕ) → i < suc (length l) → (b : _) (bs : List _) → f a ≡ some b
-        → ((i : ℕ) → i < length l → f (getD l i d) ≡ some (getD bs i c)) → f (getD (a ∷ l) i d) ≡ some (getD (b ∷ bs) i c)
-    at zero k b bs e ih = e
-    at (suc i) k b bs e ih = ih i (omega arith)
-
 -- The right side.
 
 module _ (most : ℕ) (h : Host) (r : Rule) (p : List ℕ) (right : Right) (values : rightSide most h r p ≡ some right) where
@@ -122,17 +93,17 @@ module _ (most : ℕ) (h : Host) (r : Rule) (p : List ℕ) (right : Right) (valu
       (nodeLabelOf (getD (right .nodes) j noNode))
   unfolding rightSide
   node-value j k =
-      let t = bind-some (rightNodes most (assigned h r p) h p 0 (r .right .nodes)) _ right values in
+      let t = bind-some (rightNodes most r (assigned h r p) h p 0 (r .right .nodes)) _ right values in
       let u = bind-some (each (rightEdge most (assigned h r p)) (r .right .edges)) _ right (t .2) in
       let z : 0 + j ≡ j = omega arith in
       rw (some-inj right (record { nodes = t .0; edges = u .0 }) (sym (u .2)))
-      (node-instance most (assigned h r p) h p j _ _ (rw z at (nodes-at most (assigned h r p) h p 0 (r .right .nodes) (t .0) (t .1) j k)))
+      (node-instance most r (assigned h r p) h p j _ _ (rw z at (nodes-at most r (assigned h r p) h p 0 (r .right .nodes) (t .0) (t .1) j k (record { mark = 0; root = 0; label = [] }) noNode)))
 
   pub edge-value-at : (k : ℕ) → k < length (r .right .edges)
-      → EdgeValue most (assigned h r p) h p (edgeOf (r .right) k) (getD (right .edges) k noEdge)
+      → EdgeValue most r (assigned h r p) h p (edgeOf (r .right) k) (getD (right .edges) k noEdge)
   unfolding rightSide
   edge-value-at k j =
-      let t = bind-some (rightNodes most (assigned h r p) h p 0 (r .right .nodes)) _ right values in
+      let t = bind-some (rightNodes most r (assigned h r p) h p 0 (r .right .nodes)) _ right values in
       let u = bind-some (each (rightEdge most (assigned h r p)) (r .right .edges)) _ right (t .2) in
       rw (some-inj right (record { nodes = t .0; edges = u .0 }) (sym (u .2)))
-      (edge-value most (assigned h r p) h p _ _ (each-at (rightEdge most (assigned h r p)) _ noEdge (r .right .edges) (u .0) (u .1) k j))
+      (edge-value most r (assigned h r p) h p _ _ (each-at (rightEdge most (assigned h r p)) (r .right .edges) (u .0) (u .1) k j _ noEdge))

@@ -4,9 +4,9 @@ use native.Mathlib.Omega.{arith}
 use borrow.Author.Needs.{needs}
 use borrow.Author.Tests.{le-leb, lt-leb}
 use lib.ListN.{length}
-use Rattle.host.specs.Host.{refusalOf}
+use Rattle.answers.specs.Answers.{refusalOf}
 use Rattle.meaning.specs.Calls.{runRefusal}
-use Rattle.refusal.proofs.Order.{first-no, first-yes, first-none, behind-fine, behind-refused}
+use Rattle.meaning.specs.Laws.Checks.{first-no, first-yes, first-none, behind-fine, behind-refused}
 use Rattle.refusal.proofs.content_check.Statement.{statement}
 use Rattle.refusal.proofs.content_check.Tie as tie
 
@@ -18,7 +18,7 @@ image-check-requires c κs = search needs
 
 returns : tie.Need-returns
 unfolding refusalOf
-returns c = c .image-check .ensures (c .before .before .before .before .before .before .args .l) ∙ sym (first-yes _ _ _ (sym (c .before .before .keeps-layout .ensures) ∙ c .before .if1 .taken))
+returns c = c .image-check .ensures ∙ sym (first-yes _ _ _ (sym (c .before .before .keeps-layout .ensures) ∙ c .before .if1 .taken))
 
 returns-2 : tie.Need-returns-2
 unfolding refusalOf

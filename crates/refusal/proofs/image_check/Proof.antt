@@ -3,9 +3,10 @@ use mathlib.Core.Path.{_≡_, refl, sym, ap, _∙_}
 use native.Mathlib.Omega.{arith}
 use borrow.Author.Needs.{needs}
 use borrow.Author.Tests.{le-leb, lt-leb}
-use Rattle.host.specs.Host.{refusalOf}
+use Rattle.answers.specs.Answers.{refusalOf}
 use Rattle.meaning.specs.Calls.{runRefusal}
-use Rattle.refusal.proofs.Order.{first-no, first-yes, first-none, behind-fine, behind-refused, references-of, placement-of}
+use Rattle.meaning.specs.Laws.Checks.{first-no, first-yes, first-none, behind-fine, behind-refused}
+use Rattle.refusal.proofs.Order.{references-of, placement-of}
 use Rattle.refusal.proofs.image_check.Statement.{statement}
 use Rattle.refusal.proofs.image_check.Tie as tie
 
@@ -20,19 +21,19 @@ placement-ok-requires c κs = search needs
 
 returns : tie.Need-returns
 unfolding refusalOf
-returns c = λ l. let f = sym (c .before .before .before .before .before .form-ok .ensures) ∙ c .before .before .before .before .if1 .taken in sym (first-yes _ _ _ f ∙ first-yes _ _ _ (references-of l _ _ f (c .before .before .before .references-ok .ensures) ∙ c .before .before .if2 .taken) ∙ first-yes _ _ _ (placement-of l _ _ f (c .before .placement-ok .ensures) ∙ c .if3 .taken) ∙ first-none)
+returns c = let f = sym (c .before .before .before .before .before .form-ok .ensures) ∙ c .before .before .before .before .if1 .taken in sym (first-yes _ _ _ f ∙ first-yes _ _ _ (references-of _ _ f (c .before .before .before .references-ok .ensures) ∙ c .before .before .if2 .taken) ∙ first-yes _ _ _ (placement-of _ _ f (c .before .placement-ok .ensures) ∙ c .if3 .taken) ∙ first-none)
 
 returns-2 : tie.Need-returns-2
 unfolding refusalOf
-returns-2 c = λ l. let f = sym (c .before .before .before .before .before .form-ok .ensures) ∙ c .before .before .before .before .if1 .taken in sym (first-yes _ _ _ f ∙ first-yes _ _ _ (references-of l _ _ f (c .before .before .before .references-ok .ensures) ∙ c .before .before .if2 .taken) ∙ first-no _ _ _ (placement-of l _ _ f (c .before .placement-ok .ensures) ∙ c .if3 .left))
+returns-2 c = let f = sym (c .before .before .before .before .before .form-ok .ensures) ∙ c .before .before .before .before .if1 .taken in sym (first-yes _ _ _ f ∙ first-yes _ _ _ (references-of _ _ f (c .before .before .before .references-ok .ensures) ∙ c .before .before .if2 .taken) ∙ first-no _ _ _ (placement-of _ _ f (c .before .placement-ok .ensures) ∙ c .if3 .left))
 
 returns-3 : tie.Need-returns-3
 unfolding refusalOf
-returns-3 c = λ l. let f = sym (c .before .before .before .form-ok .ensures) ∙ c .before .before .if1 .taken in sym (first-yes _ _ _ f ∙ first-no _ _ _ (references-of l _ _ f (c .before .references-ok .ensures) ∙ c .if2 .left))
+returns-3 c = let f = sym (c .before .before .before .form-ok .ensures) ∙ c .before .before .if1 .taken in sym (first-yes _ _ _ f ∙ first-no _ _ _ (references-of _ _ f (c .before .references-ok .ensures) ∙ c .if2 .left))
 
 returns-4 : tie.Need-returns-4
 unfolding refusalOf
-returns-4 c = λ l. sym (first-no _ _ _ (sym (c .before .form-ok .ensures) ∙ c .if1 .left))
+returns-4 c = sym (first-no _ _ _ (sym (c .before .form-ok .ensures) ∙ c .if1 .left))
 
 pub image-check-spec : {M : Type 1} → statement M
 image-check-spec =

@@ -7,10 +7,11 @@ use native.Mathlib.Omega.{arith}
 use borrow.Author.Needs.{needs}
 use lib.ListN.{length}
 use Rattle.meaning.specs.Image.{label}
-use Rattle.labels.specs.Labels.{atomsIn, Held, Begins}
+use Rattle.labels.specs.Labels.{atomsIn, Held}
+use Rattle.parts.specs.Elements.{Begins}
 use Rattle.labels.specs.Laws.{held-length}
-use Rattle.labels.specs.Walks.{opens-first, opens-nothing, shorter}
-use Rattle.references.specs.Runs.{For}
+use Rattle.parts.specs.Walks.{opens-first, opens-nothing, shorter}
+use Rattle.parts.specs.Runs.{For}
 use Rattle.values.specs.Values.{valuesOf}
 use Rattle.values.specs.Laws.{value-held, value-not, empty-few, Valuing, valuing-start, valuing-end, valuing-none, valuing-long, valuing-next}
 use Rattle.values.proofs.label_value.Statement.{statement}

@@ -5,10 +5,9 @@ use lib.ListN.{length}
 use Rattle.meaning.specs.Basics.{isSome}
 use Rattle.meaning.specs.Image.{ruleGraph}
 use Rattle.meaning.specs.Applying.{labelValue}
-use Rattle.references.specs.Runs.{Walk, walk-start, walk-next, walk-stop, walk-cut, walk-done}
-use Rattle.references.specs.Rows.{graphItem, items, graph-run}
-use Rattle.references.specs.Asked.{itemLabel}
-use Rattle.references.proofs.Loops.{a-field, no-field, part-in, nearer}
+use Rattle.parts.specs.Runs.{Walk, walk-start, walk-next, walk-stop, walk-cut, walk-done}
+use Rattle.parts.specs.Rows.{graphItem, items, graph-run, itemLabel}
+use Rattle.parts.proofs.Loops.{a-field, no-field, part-in, nearer}
 use Rattle.values.specs.Values.{valuesOf, allHeld}
 use Rattle.values.specs.Right.{held-items}
 use Rattle.values.specs.Laws.{held-for}

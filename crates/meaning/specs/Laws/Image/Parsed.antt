@@ -13,7 +13,8 @@ use lib.ListN.{length, getD, drop}
 use Rattle.meaning.specs.Basics.{either, every, isEmpty, _>>=_}
 use Rattle.meaning.specs.Numbers.{number}
 use Rattle.meaning.specs.Layout.{isNodeMark, isEdgeMark}
-use Rattle.meaning.specs.Image.{RuleEdge, RuleGraph, Program, Commands, stop, then, inOrder, RuleNode, Rule, Command, Field, Read, Pair, field, expect, leading, only, anyTag, constant, oneByte, operand, asPair, twoOperands, element, label, anyMark, ruleNode, ruleEdge, ruleGraph, relation, condition, test, isType, types, rule, leaf, asRuleSet, asSequence, asGuarded, asLoop, command, program}
+use Rattle.meaning.specs.Image.{RuleEdge, RuleGraph, Program, Commands, stop, then, inOrder, RuleNode, Rule, Command, Field, Read, Pair, field, expect, leading, only, anyTag, constant, oneByte, operand, asPair, twoOperands, element, label, ruleNode, ruleEdge, ruleGraph, relation, condition, test, isType, types, rule, leaf, asRuleSet, asSequence, asGuarded, asLoop, command, program}
+use Rattle.meaning.specs.Tags.{anyMark}
 use Rattle.meaning.specs.Image.Command.{ruleSet, sequence, guarded, loop, skip, fail, break}
 use Rattle.meaning.specs.declared.Operand.{Operand}
 use Rattle.meaning.specs.declared.Operand.the-variants.{Constant as constantOperand, Variable as variableOperand}

@@ -6,9 +6,9 @@ use borrow.Author.Needs.{needs}
 use lib.ListN.{length}
 use Rattle.meaning.specs.Image.{ruleGraph}
 use Rattle.references.specs.Asked.{graphAsked, itemAsked}
-use Rattle.references.specs.Rows.{graph-run, graphItem, items}
-use Rattle.references.specs.Runs.{Walk, walk-cut, walk-done, walk-next, walk-start, walk-stop}
-use Rattle.references.proofs.Loops.{a-field, nearer, no-field, part-in}
+use Rattle.parts.specs.Rows.{graph-run, graphItem, items}
+use Rattle.parts.specs.Runs.{Walk, walk-cut, walk-done, walk-next, walk-start, walk-stop}
+use Rattle.parts.proofs.Loops.{a-field, nearer, no-field, part-in}
 use Rattle.references.proofs.asking.graph_holds.Statement.{statement}
 use Rattle.references.proofs.asking.graph_holds.Tie as tie
 

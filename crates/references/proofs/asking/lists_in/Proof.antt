@@ -5,7 +5,7 @@ use native.Mathlib.Omega.{arith}
 use borrow.Author.Needs.{needs}
 use lib.ListN.{length}
 use Rattle.references.specs.Asking.{Listing, listing-cut, listing-done, listing-fits, listing-next, listing-start}
-use Rattle.references.proofs.Loops.{a-field, nearer, no-field, part-in}
+use Rattle.parts.proofs.Loops.{a-field, nearer, no-field, part-in}
 use Rattle.references.proofs.asking.lists_in.Statement.{statement}
 use Rattle.references.proofs.asking.lists_in.Tie as tie
 

@@ -7,8 +7,8 @@ use lib.ListN.{length}
 use Rattle.meaning.specs.Basics.{every}
 use Rattle.meaning.specs.Image.{anyTag, only, test}
 use Rattle.references.specs.Asked.{testAsked}
-use Rattle.references.specs.Runs.{Walk, only-run, walk-cut, walk-done, walk-next, walk-start, walk-stop}
-use Rattle.references.proofs.Loops.{a-field, nearer, no-field, part-in}
+use Rattle.parts.specs.Runs.{Walk, only-run, walk-cut, walk-done, walk-next, walk-start, walk-stop}
+use Rattle.parts.proofs.Loops.{a-field, nearer, no-field, part-in}
 use Rattle.references.proofs.asking.tests_hold.Statement.{statement}
 use Rattle.references.proofs.asking.tests_hold.Tie as tie
 

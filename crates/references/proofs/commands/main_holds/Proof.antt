@@ -1,6 +1,6 @@
 -- `commands::main_holds` meets its contract.
 use borrow.Author.Needs.{needs}
-use Rattle.references.specs.Rows.{main-is}
+use Rattle.parts.specs.Rows.{main-is}
 use Rattle.references.proofs.commands.main_holds.Statement.{statement}
 use Rattle.references.proofs.commands.main_holds.Tie as tie
 

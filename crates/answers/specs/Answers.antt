@@ -1,0 +1,9 @@
+-- What a check of a call's input says, as the definitions do. Rests on the types that code and definitions share.
+use mathlib.Core.Option.{Option, some, none}
+use Rattle.meaning.specs.declared.Refusal.{Refusal}
+use Rattle.answers.specs.declared.Checked.{Checked}
+use Rattle.answers.specs.declared.Checked.the-variants.{Fine, Refused}
+
+unfoldable pub refusalOf : Checked → Option Refusal
+refusalOf Fine = none
+refusalOf (Refused w) = some w

@@ -1,0 +1,116 @@
+-- What shows that an interpreter does not meet a demand: the cases of document 01 as what run is lent, what ours leaves of
+-- them, and interpreters that differ from ours in one thing. Rests on Demands/Second, Demands/Third and ProvedSet.
+use Prim.Native.Nat.{ℕ, zero, suc, _*_, _≤_}
+use mathlib.Core.Path.{_≡_, sym, _∙_, ap, subst}
+use mathlib.Core.Bool.{Bool, true}
+use mathlib.Core.Option.{Option, some, none}
+use mathlib.Core.List.{List, [], _∷_, map}
+use native.Mathlib.Omega.{arith}
+use borrow.Author.Tests.{ltb-true}
+use lib.ListN.{getD, take, replicate, List·getD-map}
+use lib.Dec.{ltb}
+use Rattle.meaning.specs.Basics.{both, every}
+use Rattle.meaning.specs.Layout.{base, recordLength}
+use Rattle.meaning.specs.Image.{Rule, Program, program, Command}
+use Rattle.meaning.specs.Commands.{State, Out}
+use Rattle.meaning.specs.Calls.{refused, runRefusal, journalRoom, finished, Lent}
+use Rattle.meaning.specs.ProvedSet.{Expected, Case, given, cases, proved-set, plainNode, onPlainNode, results, skipField}
+use Rattle.demands.specs.Demands.{Outcome, Interpreter, In, Bytewise, start, Demand2, Demand3}
+use Rattle.demands.specs.Ours.{outcome, ours}
+use Rattle.demands.specs.First.{run-settled}
+use Rattle.meaning.specs.Laws.Undoing.{base-numbered}
+use Rattle.demands.specs.Second.{one-outcome}
+use Rattle.demands.specs.Third.{one-count}
+use Rattle.meaning.specs.Laws.Tests.{both-true}
+use Rattle.meaning.specs.Laws.Numbers.{Bytes}
+use Rattle.meaning.specs.declared.Refusal.{Refusal}
+use Rattle.meaning.specs.declared.Refusal.the-variants.{BadForm}
+
+-- The cases as what run is lent, and what ours leaves of them.
+
+abbrev pub lent : Case → Lent
+lent c =
+    record {
+      nodes = c .nodes;
+      edges = c .edges;
+      journal = replicate (c .records * recordLength base) 1;
+      image = c .image;
+      fuel = c .fuel;
+      report = replicate 8 7;
+    }
+
+abbrev pub expects : Expected → Outcome
+expects e = record { answer = e .answer; nodes = e .nodes; edges = e .edges; journal = e .journal; report = e .report }
+
+-- no case stands behind the last
+abbrev pub noCase : Case
+noCase = onPlainNode 1 skipField (results 1 0 plainNode [] [])
+
+-- entry n of the list, from 0: case 1 is entry 0, case 2 entry 1; cases 6 to 12 are entries 6 to 12
+abbrev pub caseAt : ℕ → Case
+caseAt n = getD cases n noCase
+
+-- as the proved set has it
+proved : (n : ℕ) → ours base .run (lent (caseAt n)) ≡ expects (caseAt n .expected)
+proved n =
+    let first : given noCase ≡ noCase .expected = ap (λ (l : List Expected). getD l 0 (given noCase)) proved-set in
+    ap expects
+    (sym (List·getD-map given cases n noCase)
+    ∙ ap (λ (l : List Expected). getD l n (given noCase)) proved-set
+    ∙ ap (getD (map (λ c. c .expected) cases) n) first
+    ∙ List·getD-map (λ (c : Case). c .expected) cases n noCase)
+
+byteList : (bs : List ℕ) → every (λ b. ltb b 256) bs ≡ true → Bytes bs
+unfolding every
+byteList [] e i = omega arith
+byteList (a ∷ bs) e zero = ltb-true a 256 (both-true _ _ e .0)
+byteList (a ∷ bs) e (suc i) = byteList bs (both-true _ _ e .1) i
+
+abbrev pub inBytes : Lent → Bool
+inBytes x =
+    both (every (λ b. ltb b 256) (x .nodes)) (both (every (λ b. ltb b 256) (x .edges)) (every (λ b. ltb b 256) (x .image)))
+
+pub lentBytes : (x : Lent) → inBytes x ≡ true → Bytewise x
+lentBytes x e =
+    let t = both-true _ _ e in
+    let u = both-true _ _ (t .1) in
+    record { nodes = byteList (x .nodes) (t .0); edges = byteList (x .edges) (u .0); image = byteList (x .image) (u .1) }
+
+-- An interpreter that has our undo.
+abbrev pub running : (Lent → Outcome) → Interpreter
+running f = record { run = f; undo = ours base .undo }
+
+-- One that also checks, reads and writes as ours does, and runs commands by another function.
+
+abbrev pub Runner : Type 0
+Runner = ℕ → ℕ → List Rule → Command → State → Out
+
+unfoldable pub runsOn : Runner → Option Refusal → Option Program → Lent → Outcome
+runsOn f (some w) p x = outcome (refused w (x .nodes) (x .edges) (x .journal) (x .report))
+runsOn f none none x = outcome (refused BadForm (x .nodes) (x .edges) (x .journal) (x .report))
+runsOn f none (some p) x =
+    let o : Out = f (base .atoms) (journalRoom base (x .journal)) (p .rules) (p .main) (start base x) in
+    outcome (finished base (o .end) o (x .nodes) (x .edges) (x .journal))
+
+abbrev pub by : Runner → Interpreter
+by f =
+    running
+    (λ x.
+    runsOn f (runRefusal base x) (program (x .image)) x)
+
+-- Breaking demand 2: another outcome than ours where ours starts.
+
+pub breaks2 : (I : Interpreter) (x : Lent) → inBytes x ≡ true → ours base .run x .answer ≤ 7 → (I .run x ≡ ours base .run x → ⊥)
+    → Demand2 base I → ⊥
+breaks2 I x b l n d = n (one-outcome base base-numbered I d x (lentBytes x b) (run-settled base x l))
+
+pub atCase : (n : ℕ) → inBytes (lent (caseAt n)) ≡ true → caseAt n .expected .answer ≤ 7 → (I : Interpreter)
+    → (I .run (lent (caseAt n)) ≡ expects (caseAt n .expected) → ⊥) → Demand2 base I → ⊥
+atCase n b l I h =
+    breaks2 I (lent (caseAt n)) b (subst (λ (o : Outcome). o .answer ≤ 7) (sym (proved n)) l) (λ e. h (e ∙ proved n))
+
+-- Breaking demand 3: other steps than ours where ours starts.
+
+pub breaks3 : (I : Interpreter) (x : Lent) → inBytes x ≡ true → ours base .run x .answer ≤ 7 → In (I .run x .answer) (0 ∷ 1 ∷ 6 ∷ [])
+    → (take 4 (I .run x .report) ≡ take 4 (ours base .run x .report) → ⊥) → Demand3 base I → ⊥
+breaks3 I x b l a n d = n (one-count base base-numbered x (lentBytes x b) (run-settled base x l) I d a)

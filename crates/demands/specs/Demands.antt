@@ -1,0 +1,229 @@
+-- The user's three demands, each of an arbitrary interpreter: a function from all that the calls `run` and `undo` are lent to
+-- all that they leave. Which input is bad, what the bytes of a table stand for and what commands mean is document 01's; how an
+-- interpreter works is left open. Rests on Layout, Image, References, Placement and Inference. In the modules below: our calls
+-- meet all three (Met), demands 1 and 2 leave one outcome of run (OneOutcome), and who does not meet which (Worthless).
+use mathlib.Core.Path.{_≡_}
+use mathlib.Core.Bool.{Bool, true, false}
+use mathlib.Core.Option.{Option, some, none}
+use mathlib.Core.List.{List, [], _∷_, _++_, map, reverse}
+use Prim.Native.Nat.{ℕ, _-_, _*_, _/_, _<_, _≤_}
+use lib.ListN.{length, drop, replicate}
+use lib.Dec.{eqb, leb}
+use Rattle.meaning.specs.Basics.{concat, padded, absent, isSome, firstFailing}
+use Rattle.meaning.specs.Numbers.{number, bytes}
+use Rattle.meaning.specs.Layout.{nodeLength, edgeLength, recordLength, fitsTable, hostOf, writeNodes, writeEdges, writeRecord, keepsLayout}
+use Rattle.meaning.specs.Image.{Program, limits, program}
+use Rattle.meaning.specs.Commands.{State, beginning}
+use Rattle.demands.specs.Inference.{Runs}
+use Rattle.meaning.specs.Calls.{Lent, LentBack, mostFuel, referencesHold, placementHolds, keepsRecords}
+use Rattle.meaning.specs.Laws.Numbers.{Bytes}
+use Rattle.meaning.specs.declared.Layout.{Layout}
+use Rattle.meaning.specs.declared.Stop.{Stop}
+use Rattle.meaning.specs.declared.Stop.the-variants.{OutOfFuel, NoNodeRoom, NoEdgeRoom, NoRecordRoom, LabelTooLarge, EdgeOnFreeNode}
+use Rattle.meaning.specs.declared.End.{End}
+use Rattle.meaning.specs.declared.End.the-variants.{Done, Failed, Broke, Stopped}
+
+-- Interpreters.
+
+-- what is read of what run is lent holds bytes
+pub record Bytewise (x : Lent) : Type 0 where
+  pub nodes : Bytes (x .nodes)
+  pub edges : Bytes (x .edges)
+  pub image : Bytes (x .image)
+
+-- what either leaves: the answer's number, and every buffer
+pub record Outcome : Type 0 where
+  pub answer : ℕ
+  pub nodes : List ℕ
+  pub edges : List ℕ
+  pub journal : List ℕ
+  pub report : List ℕ
+
+pub record Interpreter : Type 0 where
+  pub run : Lent → Outcome
+  pub undo : LentBack → Outcome
+
+-- The published table: the answers of run and those of undo, and of them the ones that end a run that has started.
+
+abbrev pub runTable : List ℕ
+runTable = 0 ∷ 1 ∷ 2 ∷ 3 ∷ 4 ∷ 5 ∷ 6 ∷ 7 ∷ 9 ∷ 10 ∷ 11 ∷ 12 ∷ 13 ∷ 14 ∷ 15 ∷ 16 ∷ 17 ∷ 18 ∷ []
+
+abbrev pub undoTable : List ℕ
+undoTable = 0 ∷ 9 ∷ 10 ∷ 11 ∷ 12 ∷ 20 ∷ []
+
+abbrev pub stopAnswer : Stop → ℕ
+stopAnswer OutOfFuel = 2
+stopAnswer NoNodeRoom = 3
+stopAnswer NoEdgeRoom = 4
+stopAnswer NoRecordRoom = 5
+stopAnswer LabelTooLarge = 6
+stopAnswer EdgeOnFreeNode = 7
+
+abbrev pub In : ℕ → List ℕ → Type 0
+In n l = absent n l ≡ false
+
+-- the report: steps and records, four bytes each
+abbrev pub stating : ℕ → ℕ → List ℕ
+stating steps records = bytes 4 steps ++ bytes 4 records
+
+-- a refusal touches no table and no journal; 9 leaves the report, the others write zeros in it
+pub record Untouched (ns es js rs : List ℕ) (o : Outcome) : Type 0 where
+  pub nodes : o .nodes ≡ ns
+  pub edges : o .edges ≡ es
+  pub journal : o .journal ≡ js
+  pub nine : o .answer ≡ 9 → o .report ≡ rs
+  pub others : (o .answer ≡ 9 → ⊥) → o .report ≡ stating 0 0
+
+-- the graph as it came, the journal cleared, the steps reported and 0 records
+pub record GivenBack (x : Lent) (o : Outcome) : Type 0 where
+  pub nodes : o .nodes ≡ x .nodes
+  pub edges : o .edges ≡ x .edges
+  pub journal : o .journal ≡ replicate (length (x .journal)) 0
+  pub steps : ℕ
+  pub report : o .report ≡ stating steps 0
+
+-- the records that a report states
+abbrev pub recordsIn : Outcome → ℕ
+recordsIn o = number (drop 4 (o .report))
+
+-- what undo is lent after a run: what the run left, and as many records as its report states
+abbrev pub lentBack : Outcome → List ℕ → LentBack
+lentBack o report =
+    record { nodes = o .nodes; edges = o .edges; journal = o .journal; count = recordsIn o; report = report }
+
+-- both tables as they came, byte for byte, a cleared journal, and the count reported
+pub record Restored (x : Lent) (count : ℕ) (o : Outcome) : Type 0 where
+  pub answer : o .answer ≡ 0
+  pub nodes : o .nodes ≡ x .nodes
+  pub edges : o .edges ≡ x .edges
+  pub journal : o .journal ≡ replicate (length (x .journal)) 0
+  pub report : o .report ≡ stating 0 count
+
+module _ (L : Layout) where
+  -- What is asked of the input, in order, with the number that is answered where it does not hold.
+
+  abbrev pub lengths : List ℕ → List ℕ → List ℕ → List ℕ → List (Bool × ℕ)
+  lengths nodes edges journal report =
+      (eqb (length report) 8, 9)
+      ∷ (fitsTable (nodeLength L) (L .nodes) nodes, 10)
+      ∷ (fitsTable (edgeLength L) (L .edges) edges, 11)
+      ∷ (fitsTable (recordLength L) (L .records) journal, 12)
+      ∷ []
+
+  -- the lowest number from 9 to 18 that applies; none where the run starts
+  abbrev pub refusal : Lent → Option ℕ
+  refusal x =
+      firstFailing
+      (lengths (x .nodes) (x .edges) (x .journal) (x .report)
+      ++ (leb (x .fuel) mostFuel, 13)
+      ∷ (leb (length (x .image)) (limits .bytes), 14)
+      ∷ (keepsLayout L (x .nodes) (x .edges), 15)
+      ∷ (isSome (program (x .image)), 16)
+      ∷ (referencesHold (program (x .image)), 17)
+      ∷ (placementHolds (program (x .image)), 18)
+      ∷ [])
+
+  abbrev pub undoRefusal : LentBack → Option ℕ
+  undoRefusal y =
+      firstFailing
+      (lengths (y .nodes) (y .edges) (y .journal) (y .report)
+      ++ (keepsRecords L (y .nodes) (y .edges) (y .journal) (y .count), 20)
+      ∷ [])
+
+  -- 1. Every program, graph, table and allowance gets an answer from the published table. The entry point itself refuses bad
+  -- input. A refusal before the start changes no table or journal; a run that starts and ends in anything but a result gives
+  -- the graph back byte for byte, with the journal cleared.
+  pub record Demand1 (I : Interpreter) : Type 0 where
+    pub answers : (x : Lent) → In (I .run x .answer) runTable
+    pub refuses : (x : Lent) (n : ℕ) → refusal x ≡ some n → I .run x .answer ≡ n
+    pub starts : (x : Lent) → refusal x ≡ none → I .run x .answer ≤ 7
+    pub untouched : (x : Lent) → 9 ≤ I .run x .answer → Untouched (x .nodes) (x .edges) (x .journal) (x .report) (I .run x)
+    pub givesBack : (x : Lent) → 1 ≤ I .run x .answer → I .run x .answer ≤ 7 → GivenBack x (I .run x)
+    pub undoAnswers : (y : LentBack) → In (I .undo y .answer) undoTable
+    pub undoRefuses : (y : LentBack) (n : ℕ) → undoRefusal y ≡ some n → I .undo y .answer ≡ n
+    pub undoStarts : (y : LentBack) → undoRefusal y ≡ none → I .undo y .answer ≡ 0
+    pub undoUntouched : (y : LentBack) → 9 ≤ I .undo y .answer
+        → Untouched (y .nodes) (y .edges) (y .journal) (y .report) (I .undo y)
+
+  -- What a run of the meaning leaves.
+
+  -- the graph that the tables hold, no records, the fuel lent, no steps
+  abbrev pub start : Lent → State
+  start x = beginning (hostOf L (x .nodes) (x .edges)) (x .fuel)
+
+  -- the program's command, by the rules of inference, ends in e at t
+  abbrev pub Means : Lent → Program → End → State → Type 0
+  Means x p e t = Runs (L .atoms) (length (x .journal) / recordLength L) (p .rules) (p .main) (start x) e t
+
+  abbrev pub back : Lent → ℕ → ℕ → Outcome
+  back x answer steps =
+      record { answer = answer; nodes = x .nodes; edges = x .edges; journal = replicate (length (x .journal)) 0; report = stating steps 0 }
+
+  -- after a result the graph at t, the records from the front with zeros behind them, and both numbers; else what came.
+  -- No break reaches the end of a program that keeps the placement.
+  abbrev pub leaves : Lent → End → State → Outcome
+  leaves x Done t =
+      record {
+        answer = 0;
+        nodes = writeNodes L (t .ledger .host .nodes);
+        edges = writeEdges L (t .ledger .host .edges);
+        journal = padded (length (x .journal)) (concat (map (writeRecord L) (reverse (t .ledger .journal))));
+        report = stating (t .steps) (length (t .ledger .journal));
+      }
+  leaves x Failed t = back x 1 (t .steps)
+  leaves x Broke t = back x 1 (t .steps)
+  leaves x (Stopped w) t = back x (stopAnswer w) (t .steps)
+
+  -- 2. Commands mean what GP 2 says, with document 01's fixed order of choice: a run that starts leaves what the rules of
+  -- inference say of its program. Undoing the journal of a result restores the graph that came in.
+  pub record Demand2 (I : Interpreter) : Type 0 where
+    pub means : (x : Lent) (p : Program) → Bytewise x → refusal x ≡ none → program (x .image) ≡ some p
+        → (e : End) × (t : State) × Means x p e t × (I .run x ≡ leaves x e t)
+    pub restores : (x : Lent) (report : List ℕ) → Bytewise x → length report ≡ 8
+        → I .run x .answer ≡ 0 → Restored x (recordsIn (I .run x)) (I .undo (lentBack (I .run x) report))
+
+  -- y is x with any fuel, further free slots behind the tables and any longer journal, within the limits
+  pub record Roomier (x y : Lent) : Type 0 where
+    pub nodesMore : ℕ
+    pub edgesMore : ℕ
+    pub nodes : y .nodes ≡ x .nodes ++ replicate (nodesMore * nodeLength L) 0
+    pub edges : y .edges ≡ x .edges ++ replicate (edgesMore * edgeLength L) 0
+    pub journal : length (x .journal) ≤ length (y .journal)
+    pub image : y .image ≡ x .image
+    pub nodesFit : fitsTable (nodeLength L) (L .nodes) (y .nodes) ≡ true
+    pub edgesFit : fitsTable (edgeLength L) (L .edges) (y .edges) ≡ true
+    pub journalFits : fitsTable (recordLength L) (L .records) (y .journal) ≡ true
+    pub fuelFits : y .fuel ≤ mostFuel
+    pub reportFits : length (y .report) ≡ 8
+
+  -- o is what was left of x, and q of y: the same, with the added room free behind
+  pub record Same (x y : Lent) (more : Roomier x y) (o q : Outcome) : Type 0 where
+    pub answer : q .answer ≡ o .answer
+    pub report : q .report ≡ o .report
+    pub nodes : q .nodes ≡ o .nodes ++ replicate (more .nodesMore * nodeLength L) 0
+    pub edges : q .edges ≡ o .edges ++ replicate (more .edgesMore * edgeLength L) 0
+    pub journal : q .journal ≡ o .journal ++ replicate (length (y .journal) - length (x .journal)) 0
+
+  -- s commands are entered in the meaning of the program
+  pub record Entered (x : Lent) (s : ℕ) : Type 0 where
+    pub tree : Program
+    pub image : program (x .image) ≡ some tree
+    pub end : End
+    pub state : State
+    pub means : Means x tree end state
+    pub steps : state .steps ≡ s
+
+  -- 3. Suppose a run answers with a result, with fail or with a label that can't be held, after s commands. Give the same graph
+  -- and program s or more fuel, any further free slots behind the tables and any longer journal, within the limits: answer,
+  -- s, live slots and records are the same, and the added room is still free. With that room and less than s fuel it answers
+  -- out of fuel. s is the count of commands entered in demand 2's meaning.
+  pub record Settled (I : Interpreter) (x : Lent) : Type 0 where
+    pub s : ℕ
+    pub records : ℕ
+    pub report : I .run x .report ≡ stating s records
+    pub entered : Entered x s
+    pub enough : (y : Lent) (more : Roomier x y) → s ≤ y .fuel → Same x y more (I .run x) (I .run y)
+    pub short : (y : Lent) (more : Roomier x y) → y .fuel < s → I .run y .answer ≡ 2
+
+  pub record Demand3 (I : Interpreter) : Type 0 where
+    pub settled : (x : Lent) → Bytewise x → In (I .run x .answer) (0 ∷ 1 ∷ 6 ∷ []) → Settled I x

@@ -1,0 +1,12 @@
+pub mod Inference
+pub mod Demands
+pub mod Laws
+pub mod Ours
+pub mod First
+pub mod Started
+pub mod Second
+pub mod OneOutcome
+pub mod Third
+pub mod Met
+pub mod Cases
+pub mod Worthless

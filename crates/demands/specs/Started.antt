@@ -1,0 +1,59 @@
+-- What is known of a run of ours that starts: its rules are legal, what it ends at is legal and its records fit the journal,
+-- and it ends as the rules of inference say. Rests on Demands/Ours, Laws/Undoing, Laws/LegalImage and Laws/Inference.
+use Prim.Native.Nat.{ℕ, _/_, _≤_}
+use mathlib.Core.List.{List, map, reverse}
+use native.Mathlib.Omega.{arith}
+use native.Mathlib.Nat.{div-mul-le-self, mul-le-mul-right}
+use lib.ListN.{length}
+use Rattle.meaning.specs.Basics.{concat}
+use Rattle.meaning.specs.Layout.{nodeLength, edgeLength, recordLength, writeRecord}
+use Rattle.meaning.specs.Commands.{Out, ruleAt}
+use Rattle.meaning.specs.Placement.{placement}
+use Rattle.meaning.specs.Calls.{Lent}
+use Rattle.demands.specs.Demands.{Bytewise, start, Means}
+use Rattle.demands.specs.Ours.{end, Good}
+use Rattle.meaning.specs.Laws.Records.{length-written}
+use Rattle.meaning.specs.Laws.Commands.{exec-room}
+use Rattle.meaning.specs.Laws.Legality.{LegalLedger}
+use Rattle.meaning.specs.Laws.LegalCommands.{LegalRules, legal-sound}
+use Rattle.meaning.specs.Laws.LegalImage.{program-legal}
+use Rattle.meaning.specs.Laws.Undoing.{Numbered, out-legal}
+use Rattle.meaning.specs.Laws.References.{Sound}
+use Rattle.demands.specs.Laws.Inference.{exec-runs}
+use Rattle.meaning.specs.declared.Layout.{Layout}
+
+module _ (L : Layout) (k : Numbered L) (x : Lent) (b : Bytewise x) (a : Good L x) where
+  rules-legal : LegalRules (a .tree .rules)
+  rules-legal = program-legal (x .image) (a .tree) (b .image) (a .form) (a .references)
+
+  pub rules-sound : (i : ℕ) → Sound (ruleAt (a .tree .rules) i)
+  rules-sound = legal-sound (a .tree .rules) rules-legal
+
+  abbrev pub last : Out
+  last = end L x (a .tree)
+
+  last-legal : LegalLedger L (length (x .nodes) / nodeLength L) (length (x .edges) / edgeLength L) (last .state .ledger)
+  last-legal =
+      out-legal L k (x .nodes) (x .edges) (x .journal) (b .nodes) (b .edges) (a .nodesFit) (a .edgesFit) (a .journalFits) (a .layout)
+      (a .tree) rules-legal (x .fuel)
+
+  -- as many records as the journal has room for, and so as many bytes
+  last-count : length (last .state .ledger .journal) ≤ length (x .journal) / recordLength L
+  last-count =
+      exec-room (L .atoms) (length (x .journal) / recordLength L) (a .tree .rules) (a .tree .main) (start L x) (omega arith)
+
+  abbrev written : List ℕ
+  written = concat (map (writeRecord L) (reverse (last .state .ledger .journal)))
+
+  pub written-fits : length written ≤ length (x .journal)
+  written-fits =
+      let m = mul-le-mul-right (recordLength L) last-count in
+      let n = length-written L (k .narrow) (last .state .ledger .journal) (last-legal .records) in
+      omega (arith, div-mul-le-self (length (x .journal)) (recordLength L))
+
+  -- the program's meaning
+  pub last-means : Means L x (a .tree) (last .end) (last .state)
+  unfolding placement
+  last-means =
+      exec-runs (L .atoms) (length (x .journal) / recordLength L) (a .tree .rules) rules-sound (a .tree .main) (start L x)
+      (a .placement)

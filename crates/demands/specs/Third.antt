@@ -1,0 +1,256 @@
+-- Our run meets demand 3. Rests on Demands/Started, Laws/FurtherTables, Laws/FurtherCommands and Laws/Shortage.
+use Prim.Native.Nat.{ℕ, zero, suc, _+_, _-_, _/_, _%_, _<_, _≤_}
+use mathlib.Core.Path.{_≡_, refl, sym, _∙_, ap, subst}
+use mathlib.Core.Option.{some, none}
+use mathlib.Core.List.{[], _∷_, _++_, map, reverse}
+use native.Mathlib.Omega.{arith}
+use native.Mathlib.Nat.{div-mul-le-self, le-div-iff-mul-le}
+use lib.ListN.{length, getD, take, replicate, replicate-append-replicate}
+use lib.Seq.{take-at}
+use Rattle.meaning.specs.Basics.{absent, both, concat}
+use Rattle.meaning.specs.Numbers.{bytes}
+use Rattle.meaning.specs.Layout.{nodeLength, edgeLength, recordLength, readNodes, readEdges, writeRecord}
+use Rattle.meaning.specs.Image.{Program, program}
+use Rattle.meaning.specs.Commands.{State, Out, ends, exec, beginning}
+use Rattle.meaning.specs.Calls.{Lent}
+use Rattle.demands.specs.Demands.{Outcome, Interpreter, stopAnswer, In, Bytewise, stating, refusal, start, leaves, Means, Roomier, Same, Entered, Settled, Demand3}
+use Rattle.demands.specs.Ours.{ours, end, ours-leaves, Good, good, good-starts}
+use Rattle.demands.specs.First.{run-settled}
+use Rattle.demands.specs.Started.{rules-sound, written-fits, last-means}
+use Rattle.meaning.specs.Laws.Undoing.{Numbered}
+use Rattle.meaning.specs.Laws.Tests.{absent-false, some-inj}
+use Rattle.meaning.specs.Laws.Numbers.{length-bytes}
+use Rattle.demands.specs.Laws.Inference.{runs-one}
+use Rattle.meaning.specs.Laws.Pieces.{fits-length}
+use Rattle.meaning.specs.Laws.Fuel.{exec-counted}
+use Rattle.demands.specs.Laws.Shortage.{fuelled, endsWith, exec-fuel, exec-shortage}
+use Rattle.demands.specs.Laws.FurtherCommands.{EndsWithRoom, roomierState, roomierOut, exec-roomier}
+use Rattle.demands.specs.Laws.FurtherTables.{readNodes-further, readEdges-further, writeNodes-further, writeEdges-further, keepsLayout-further, padded-longer}
+use Rattle.meaning.specs.declared.Layout.{Layout}
+use Rattle.meaning.specs.declared.Stop.{Stop}
+use Rattle.meaning.specs.declared.Stop.the-variants.{OutOfFuel, NoNodeRoom, NoEdgeRoom, NoRecordRoom, LabelTooLarge, EdgeOnFreeNode}
+use Rattle.meaning.specs.declared.End.{End}
+use Rattle.meaning.specs.declared.End.the-variants.{Done, Failed, Broke, Stopped}
+
+-- The ends of which demand 3 speaks.
+
+abbrev Settling : End → Type 0
+Settling e = EndsWithRoom e × (e ≡ Stopped OutOfFuel → ⊥)
+
+stop-settling : (w : Stop) → In (stopAnswer w) (0 ∷ 1 ∷ 6 ∷ []) → w ≡ LabelTooLarge
+unfolding absent both
+stop-settling OutOfFuel h = let z : _≡_ {A = ℕ} 0 1 = cc in absurd (omega arith)
+stop-settling NoNodeRoom h = let z : _≡_ {A = ℕ} 0 1 = cc in absurd (omega arith)
+stop-settling NoEdgeRoom h = let z : _≡_ {A = ℕ} 0 1 = cc in absurd (omega arith)
+stop-settling NoRecordRoom h = let z : _≡_ {A = ℕ} 0 1 = cc in absurd (omega arith)
+stop-settling LabelTooLarge h = refl
+stop-settling EdgeOnFreeNode h = let z : _≡_ {A = ℕ} 0 1 = cc in absurd (omega arith)
+
+settling : (L : Layout) (x : Lent) (e : End) (t : State) → In (leaves L x e t .answer) (0 ∷ 1 ∷ 6 ∷ []) → Settling e
+settling L x Done t h = (tt, λ q. let z : _≡_ {A = ℕ} 0 1 = cc in omega arith)
+settling L x Failed t h = (tt, λ q. let z : _≡_ {A = ℕ} 0 1 = cc in omega arith)
+settling L x Broke t h = (tt, λ q. let z : _≡_ {A = ℕ} 0 1 = cc in omega arith)
+settling L x (Stopped w) t h =
+    let i = stop-settling w h in
+    rw i (tt, λ q. let z : _≡_ {A = ℕ} 0 1 = cc in omega arith)
+
+-- an answer of demand 3 is one of a run that starts
+settled-low : (n : ℕ) → In n (0 ∷ 1 ∷ 6 ∷ []) → n ≤ 7
+settled-low n h = let t = absent-false n (0 ∷ 1 ∷ 6 ∷ []) h in at (t .0) (t .2)
+  where
+    at : (j : ℕ) → getD (0 ∷ 1 ∷ 6 ∷ []) j 0 ≡ n → n ≤ 7
+    at zero e = omega arith
+    at (suc zero) e = omega arith
+    at (suc (suc zero)) e = omega arith
+    at (suc (suc (suc j))) e = omega arith
+
+div-le : (w a b : ℕ) → 0 < w → a ≤ b → a / w ≤ b / w
+div-le w a b p h = le-div-iff-mul-le p .1 (omega (arith, div-mul-le-self a w))
+
+-- the report states steps and records
+stated : (L : Layout) (x : Lent) (e : End) (t : State) → (n : ℕ) × (leaves L x e t .report ≡ stating (t .steps) n)
+stated L x Done t = (length (t .ledger .journal), refl)
+stated L x Failed t = (0, refl)
+stated L x Broke t = (0, refl)
+stated L x (Stopped w) t = (0, refl)
+
+-- what is left of y, where the last state of x is the same with further free slots and any fuel
+module _ (L : Layout) (x y : Lent) (more : Roomier L x y) where
+  zeros-longer : replicate {A = ℕ} (length (y .journal)) 0
+      ≡ replicate (length (x .journal)) 0 ++ replicate (length (y .journal) - length (x .journal)) 0
+  zeros-longer =
+      let n : length (y .journal) ≡ length (x .journal) + (length (y .journal) - length (x .journal)) = omega (arith, more .journal) in
+      ap (λ (m : ℕ). replicate m 0) n
+      ∙ sym (replicate-append-replicate (length (x .journal)) (length (y .journal) - length (x .journal)) 0)
+
+  left-same : (e : End) (t : State) (f : ℕ)
+      → (e ≡ Done → length (concat (map (writeRecord L) (reverse (t .ledger .journal)))) ≤ length (x .journal))
+      → Same L x y more (leaves L x e t) (leaves L y e (fuelled f (roomierState (more .nodesMore) (more .edgesMore) t)))
+  left-same Done t f h =
+      record {
+        answer = refl;
+        report = refl;
+        nodes = writeNodes-further L (more .nodesMore) (t .ledger .host .nodes);
+        edges = writeEdges-further L (more .edgesMore) (t .ledger .host .edges);
+        journal =
+            padded-longer (length (x .journal)) (length (y .journal)) (concat (map (writeRecord L) (reverse (t .ledger .journal)))) (h refl)
+            (more .journal);
+      }
+  left-same Failed t f h =
+      record { answer = refl; report = refl; nodes = more .nodes; edges = more .edges; journal = zeros-longer }
+  left-same Broke t f h =
+      record { answer = refl; report = refl; nodes = more .nodes; edges = more .edges; journal = zeros-longer }
+  left-same (Stopped w) t f h =
+      record { answer = refl; report = refl; nodes = more .nodes; edges = more .edges; journal = zeros-longer }
+
+module _ (L : Layout) (k : Numbered L) (x : Lent) (b : Bytewise x) (h : In (ours L .run x .answer) (0 ∷ 1 ∷ 6 ∷ [])) where
+  starts : refusal L x ≡ none
+  starts = run-settled L x (settled-low (ours L .run x .answer) h)
+
+  abbrev a : Good L x
+  a = good L x starts
+
+  abbrev p : Program
+  p = a .tree
+
+  abbrev o : Out
+  o = end L x p
+
+  left : ours L .run x ≡ leaves L x (o .end) (o .state)
+  left = ours-leaves L x p starts (a .form)
+
+  ended : Settling (o .end)
+  ended = settling L x (o .end) (o .state) (subst (λ (q : Outcome). In (q .answer) (0 ∷ 1 ∷ 6 ∷ [])) left h)
+
+  module _ (y : Lent) (more : Roomier L x y) where
+    nodes-whole : length (x .nodes) % nodeLength L ≡ 0
+    nodes-whole = fits-length _ _ _ (a .nodesFit) .0
+
+    edges-whole : length (x .edges) % edgeLength L ≡ 0
+    edges-whole = fits-length _ _ _ (a .edgesFit) .0
+
+    form-y : program (y .image) ≡ some p
+    form-y = ap program (more .image) ∙ a .form
+
+    starts-y : refusal L y ≡ none
+    starts-y =
+        good-starts L y
+        (record {
+          reportSize = more .reportFits;
+          nodesFit = more .nodesFit;
+          edgesFit = more .edgesFit;
+          journalFits = more .journalFits;
+          fuelFits = more .fuelFits;
+          imageFits = omega (arith, ap length (more .image), a .imageFits);
+          layout =
+              rw (more .nodes, more .edges)
+              (keepsLayout-further L (more .nodesMore) (more .edgesMore) (x .nodes) (x .edges) nodes-whole edges-whole (a .layout));
+          tree = p;
+          form = form-y;
+          references = a .references;
+          placement = a .placement;
+        })
+
+    abbrev room : ℕ
+    room = length (x .journal) / recordLength L
+
+    abbrev room′ : ℕ
+    room′ = length (y .journal) / recordLength L
+
+    room-more : room ≤ room′
+    room-more = div-le (recordLength L) (length (x .journal)) (length (y .journal)) (omega arith) (more .journal)
+
+    -- y starts where x does, with further free slots
+    abbrev begin : State
+    begin = roomierState (more .nodesMore) (more .edgesMore) (start L x)
+
+    start-y : start L y ≡ fuelled (y .fuel) begin
+    start-y =
+        let n = ap (readNodes L) (more .nodes) ∙ readNodes-further L (more .nodesMore) (x .nodes) nodes-whole in
+        let e = ap (readEdges L) (more .edges) ∙ readEdges-further L (more .edgesMore) (x .edges) edges-whole in
+        λ i. beginning (record { nodes = n i; edges = e i }) (y .fuel)
+
+    -- the same command there, with the fuel of x
+    roomy : exec (L .atoms) room′ (p .rules) (p .main) begin ≡ roomierOut (more .nodesMore) (more .edgesMore) o
+    roomy =
+        exec-roomier (more .nodesMore) (more .edgesMore) (p .rules) (rules-sound L k x b a) (L .atoms) room room′ room-more (p .main)
+        (start L x) (ended .0)
+
+    spent : o .state .fuel + o .state .steps ≡ x .fuel + 0
+    spent = exec-counted (L .atoms) room (p .rules) (p .main) (start L x) .total
+
+    roomy-fuel : exec (L .atoms) room′ (p .rules) (p .main) begin .state .fuel ≡ o .state .fuel
+    roomy-fuel = ap (λ (q : Out). q .state .fuel) roomy
+
+    left-y : ours L .run y ≡ leaves L y (end L y p .end) (end L y p .state)
+    left-y = ours-leaves L y p starts-y form-y
+
+    end-y : end L y p ≡ exec (L .atoms) room′ (p .rules) (p .main) (fuelled (y .fuel) begin)
+    end-y = ap (exec (L .atoms) room′ (p .rules) (p .main)) start-y
+
+    -- with the fuel of y, where it is enough, the end is the same; where it is not, fuel runs out
+    enough-y : o .state .steps ≤ y .fuel
+        → (f : ℕ) × (end L y p ≡ ends (o .end) (fuelled f (roomierState (more .nodesMore) (more .edgesMore) (o .state))))
+    enough-y l =
+        let e =
+        exec-fuel (L .atoms) room′ (p .rules) (p .main) begin (y .fuel) (λ q. ended .1 (sym (ap (λ (q : Out). q .end) roomy) ∙ q))
+        (omega (arith, spent, roomy-fuel)) in
+        (y .fuel + o .state .fuel - x .fuel, end-y ∙ e ∙ ap (endsWith (y .fuel) begin) roomy)
+
+    short-y : y .fuel < o .state .steps → end L y p .end ≡ Stopped OutOfFuel
+    short-y l =
+        ap (λ (q : Out). q .end) end-y
+        ∙ exec-shortage (L .atoms) room′ (p .rules) (p .main) begin (y .fuel) (omega (arith, spent, roomy-fuel))
+
+    fits-x : o .end ≡ Done → length (concat (map (writeRecord L) (reverse (o .state .ledger .journal)))) ≤ length (x .journal)
+    fits-x e = written-fits L k x b a
+
+    same-y : o .state .steps ≤ y .fuel → Same L x y more (ours L .run x) (ours L .run y)
+    same-y l =
+        let t = enough-y l in
+        let q : ours L .run y ≡ leaves L y (o .end) (fuelled (t .0) (roomierState (more .nodesMore) (more .edgesMore) (o .state))) =
+        left-y ∙ ap (λ (z : Out). leaves L y (z .end) (z .state)) (t .1) in
+        subst (λ (z : Outcome). Same L x y more z (ours L .run y)) (sym left)
+        (subst (λ (z : Outcome). Same L x y more (leaves L x (o .end) (o .state)) z) (sym q)
+        (left-same L x y more (o .end) (o .state) (t .0) fits-x))
+
+    out-y : y .fuel < o .state .steps → ours L .run y .answer ≡ 2
+    out-y l =
+        ap (λ (z : Outcome). z .answer) left-y ∙ ap (λ (e : End). leaves L y e (end L y p .state) .answer) (short-y l)
+
+  pub settled : Settled L (ours L) x
+  settled =
+      let r = stated L x (o .end) (o .state) in
+      record {
+        s = o .state .steps;
+        records = r .0;
+        report = ap (λ (z : Outcome). z .report) left ∙ r .1;
+        entered =
+            record { tree = p; image = a .form; end = o .end; state = o .state; means = last-means L k x b a; steps = refl };
+        enough = same-y;
+        short = out-y;
+      }
+
+pub demand3 : (L : Layout) → Numbered L → Demand3 L (ours L)
+demand3 L k = record { settled = λ x b h. settled L k x b h }
+
+-- Demand 3 leaves one count of steps: what an interpreter that meets it states where ours starts is what ours states.
+module _ (L : Layout) (k : Numbered L) (x : Lent) (b : Bytewise x) (e : refusal L x ≡ none) where
+  pub entered-is : (s : ℕ) → Entered L x s → take 4 (ours L .run x .report) ≡ bytes 4 s
+  entered-is s n =
+      let a = good L x e in
+      let o = end L x (a .tree) in
+      let i : n .tree ≡ a .tree = some-inj (n .tree) (a .tree) (sym (n .image) ∙ a .form) in
+      let m : Means L x (a .tree) (n .end) (n .state) = subst (λ (p : Program). Means L x p (n .end) (n .state)) i (n .means) in
+      let q =
+      runs-one (L .atoms) (length (x .journal) / recordLength L) (a .tree .rules) (rules-sound L k x b a) m (last-means L k x b a) in
+      let r = stated L x (o .end) (o .state) in
+      let t : o .state .steps ≡ s = sym (ap (λ (t : State). t .steps) (q .1)) ∙ n .steps in
+      ap (λ (z : Outcome). take 4 (z .report)) (ours-leaves L x (a .tree) e (a .form)) ∙ ap (take 4) (r .1)
+      ∙ take-at (bytes 4 (o .state .steps)) _ 4 (length-bytes 4 (o .state .steps)) ∙ ap (bytes 4) t
+
+  pub one-count : (I : Interpreter) → Demand3 L I → In (I .run x .answer) (0 ∷ 1 ∷ 6 ∷ [])
+      → take 4 (I .run x .report) ≡ take 4 (ours L .run x .report)
+  one-count I d h =
+      let n = d .settled x b h in
+      ap (take 4) (n .report) ∙ take-at (bytes 4 (n .s)) _ 4 (length-bytes 4 (n .s)) ∙ sym (entered-is (n .s) (n .entered))

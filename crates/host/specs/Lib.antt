@@ -1,4 +1,0 @@
-pub mod Host
-pub mod States
-pub mod Restores
-pub mod Stores

@@ -1,0 +1,2 @@
+mod Undone
+mod Started

@@ -1,0 +1,3 @@
+mod Bytes
+mod Slots
+mod Held
