@@ -1,9 +1,10 @@
 //! Applying a rule at a match: the checks before any change, then the changes with one record each.
 //! Rests on rules whose references hold and on a match of the rule in the host.
 
-use crate::calls::{answer, Exercised};
+use crate::answer;
 use crate::host::{edge_slot, limit, node_slot, Edge, Host, Label, Node};
 use crate::matching::{operand, Assignment, Match};
+use crate::observer::{Event, Observer};
 use crate::tree::*;
 
 /// A journal record: what a slot held just before a change.
@@ -56,9 +57,9 @@ pub fn apply(
     found: &Match,
     host: &Host,
     room: usize,
-    exercised: &mut Exercised,
+    observer: &mut dyn Observer,
 ) -> Result<(Host, Vec<Record>), u32> {
-    let Some(labels) = right_labels(rule, &found.values, exercised) else {
+    let Some(labels) = right_labels(rule, &found.values, observer) else {
         return Err(answer::LABEL);
     };
     if !nodes_have_room(rule, host) {
@@ -74,11 +75,11 @@ pub fn apply(
         host: host.clone(),
         records: Vec::new(),
     };
-    change.all(rule, found, &labels, exercised);
+    change.all(rule, found, &labels, observer);
     if change.host.both_ends_of_live_edges_are_live().is_err() {
         return Err(answer::EDGE_ON_FREE_NODE);
     }
-    exercised.applications += 1;
+    observer.sees(Event::Applied);
     Ok((change.host, change.records))
 }
 
@@ -86,9 +87,9 @@ pub fn apply(
 fn right_labels(
     rule: &Rule,
     values: &Assignment,
-    exercised: &mut Exercised,
+    observer: &mut dyn Observer,
 ) -> Option<RightLabels> {
-    let mut label = |elements: &Vec<Element>| evaluate(rule, elements, values, exercised);
+    let mut label = |elements: &Vec<Element>| evaluate(rule, elements, values, observer);
     let nodes = rule.right.nodes.iter().map(|node| label(&node.label));
     let nodes = nodes.collect::<Option<Vec<Label>>>()?;
     let edges = rule.right.edges.iter().map(|edge| label(&edge.label));
@@ -101,11 +102,11 @@ fn evaluate(
     rule: &Rule,
     elements: &[Element],
     values: &Assignment,
-    exercised: &mut Exercised,
+    observer: &mut dyn Observer,
 ) -> Option<Label> {
     let mut atoms = Vec::new();
     for element in elements {
-        *exercised.elements.of(element, &rule.variables) += 1;
+        observer.sees(Event::Evaluated(rule, element));
         match element {
             Element::Constant(value) => atoms.push(*value),
             Element::Variable(number) => {
@@ -151,7 +152,7 @@ struct Change {
 }
 
 impl Change {
-    fn all(&mut self, rule: &Rule, found: &Match, labels: &RightLabels, exercised: &mut Exercised) {
+    fn all(&mut self, rule: &Rule, found: &Match, labels: &RightLabels, observer: &mut dyn Observer) {
         let interface = usize::from(rule.interface);
         for slot in &found.edges {
             self.set_edge(*slot, None);
@@ -166,13 +167,13 @@ impl Change {
         let mut images = found.nodes[..interface].to_vec();
         for number in interface..rule.right.nodes.len() {
             let slot = lowest_free(&self.host.nodes);
-            exercised.slots_reused += u64::from(found.nodes.contains(&slot));
+            observer.sees(Event::Placed(slot, &found.nodes));
             self.set_node(slot, Some(new_node(rule, number, labels)));
             images.push(slot);
         }
         for number in 0..rule.right.edges.len() {
             let slot = lowest_free(&self.host.edges);
-            exercised.slots_reused += u64::from(found.edges.contains(&slot));
+            observer.sees(Event::Placed(slot, &found.edges));
             self.set_edge(slot, Some(right_edge(rule, number, labels, &images)));
         }
     }

@@ -3,34 +3,13 @@
 
 use std::rc::Rc;
 
+use crate::answer;
 use crate::applying::Record;
 use crate::commands::{Ending, Run, State};
 use crate::host::{limit, Host};
-use crate::tree::{self, Element, Program, Relation, TestKind, VariableType};
+use crate::observer::{Observer, Unobserved};
+use crate::tree::{self, Program};
 use crate::{decode, placement, references};
-
-/// The answers of document 01's table.
-pub mod answer {
-    pub const RESULT: u32 = 0;
-    pub const FAIL: u32 = 1;
-    pub const OUT_OF_FUEL: u32 = 2;
-    pub const NO_ROOM_NODES: u32 = 3;
-    pub const NO_ROOM_EDGES: u32 = 4;
-    pub const NO_ROOM_JOURNAL: u32 = 5;
-    pub const LABEL: u32 = 6;
-    pub const EDGE_ON_FREE_NODE: u32 = 7;
-    pub const REPORT: u32 = 9;
-    pub const NODE_TABLE: u32 = 10;
-    pub const EDGE_TABLE: u32 = 11;
-    pub const JOURNAL_TABLE: u32 = 12;
-    pub const FUEL: u32 = 13;
-    pub const IMAGE: u32 = 14;
-    pub const LAYOUT: u32 = 15;
-    pub const FORM: u32 = 16;
-    pub const REFERENCES: u32 = 17;
-    pub const PLACEMENT: u32 = 18;
-    pub const UNDO: u32 = 20;
-}
 
 /// The most fuel that a run takes.
 pub const MOST_FUEL: u32 = 1_000_000;
@@ -48,77 +27,6 @@ pub struct Outcome {
     pub report: Vec<u8>,
 }
 
-/// What runs have exercised.
-#[derive(Clone, Debug, Default, PartialEq, Eq)]
-pub struct Exercised {
-    pub steps: u64,
-    pub applications: u64,
-    /// Guards given back after a rule was applied in them.
-    pub guards_undone: u64,
-    /// Failing loop bodies given back after a rule was applied in them.
-    pub bodies_undone: u64,
-    pub breaks: u64,
-    /// New nodes and right edges that took a slot which the same application had freed.
-    pub slots_reused: u64,
-    /// Placements that keep rules 1 to 4 and break the dangling condition.
-    pub dangling_refusals: u64,
-    /// Tests that held, negation included.
-    pub tests_true: TestCounts,
-    /// Tests that did not hold, negation included.
-    pub tests_false: TestCounts,
-    pub negated_tests: u64,
-    /// Elements of right labels that were evaluated.
-    pub elements: ElementCounts,
-    /// Left nodes and edges of mark any in matches.
-    pub any_marks_matched: u64,
-    /// Left roots in matches.
-    pub roots_matched: u64,
-}
-
-#[derive(Clone, Debug, Default, PartialEq, Eq)]
-pub struct TestCounts {
-    pub edge: u64,
-    pub in_degree: u64,
-    pub out_degree: u64,
-    pub equal: u64,
-    pub less: u64,
-}
-
-impl TestCounts {
-    pub fn of(&mut self, kind: &TestKind) -> &mut u64 {
-        match kind {
-            TestKind::Edge(..) => &mut self.edge,
-            TestKind::InDegree(..) => &mut self.in_degree,
-            TestKind::OutDegree(..) => &mut self.out_degree,
-            TestKind::Relation(Relation::Equal, ..) => &mut self.equal,
-            TestKind::Relation(Relation::Less, ..) => &mut self.less,
-        }
-    }
-}
-
-#[derive(Clone, Debug, Default, PartialEq, Eq)]
-pub struct ElementCounts {
-    pub constant: u64,
-    pub int_variable: u64,
-    pub list_variable: u64,
-    pub sum: u64,
-    pub difference: u64,
-}
-
-impl ElementCounts {
-    pub fn of(&mut self, element: &Element, variables: &[VariableType]) -> &mut u64 {
-        match element {
-            Element::Constant(_) => &mut self.constant,
-            Element::Variable(number) => match variables[usize::from(*number)] {
-                VariableType::Int => &mut self.int_variable,
-                VariableType::List => &mut self.list_variable,
-            },
-            Element::Sum(..) => &mut self.sum,
-            Element::Difference(..) => &mut self.difference,
-        }
-    }
-}
-
 /// The call run.
 pub fn run(
     nodes: &[u8],
@@ -128,19 +36,26 @@ pub fn run(
     fuel: u32,
     report: &[u8],
 ) -> Outcome {
-    let mut exercised = Exercised::default();
-    run_counted(nodes, edges, journal, program, fuel, report, &mut exercised)
+    run_observed(
+        nodes,
+        edges,
+        journal,
+        program,
+        fuel,
+        report,
+        &mut Unobserved,
+    )
 }
 
-/// The call run, counting what was exercised.
-pub fn run_counted(
+/// The call run, observed.
+pub fn run_observed(
     nodes: &[u8],
     edges: &[u8],
     journal: &[u8],
     program: &[u8],
     fuel: u32,
     report: &[u8],
-    exercised: &mut Exercised,
+    observer: &mut dyn Observer,
 ) -> Outcome {
     let given = Outcome {
         answer: answer::RESULT,
@@ -151,7 +66,7 @@ pub fn run_counted(
     };
     match checked(&given, program, fuel) {
         Err(answer) => refused(given, answer),
-        Ok((host, program)) => started(given, host, &program, fuel, exercised),
+        Ok((host, program)) => started(given, host, &program, fuel, observer),
     }
 }
 
@@ -212,14 +127,14 @@ fn started(
     host: Host,
     program: &Program,
     fuel: u32,
-    exercised: &mut Exercised,
+    observer: &mut dyn Observer,
 ) -> Outcome {
     let mut run = Run {
         program,
         fuel_left: fuel,
         steps: 0,
         record_slots: given.journal.len() / limit::RECORD,
-        exercised,
+        observer,
     };
     let start = State {
         host: Rc::new(host),

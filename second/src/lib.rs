@@ -8,6 +8,7 @@ pub mod encode;
 pub mod tree;
 
 // The interpreter.
+pub mod answer;
 pub mod applying;
 pub mod calls;
 pub mod commands;
@@ -15,6 +16,7 @@ pub mod decode;
 pub mod host;
 pub mod listing;
 pub mod matching;
+pub mod observer;
 pub mod placement;
 pub mod references;
 
@@ -23,6 +25,7 @@ pub mod text;
 
 // Inputs made by a seeded generator.
 pub mod corpus;
+pub mod exercised;
 pub mod families;
 pub mod random;
 pub mod refusals;

@@ -1,6 +1,7 @@
 //! The runner program's reading of its input and its listing of the outcome.
 
-use crate::calls::{self, answer, Outcome, REPORT_BYTES};
+use crate::answer;
+use crate::calls::{self, Outcome, REPORT_BYTES};
 use crate::encode::RunnerInput;
 use crate::host::{limit, Host};
 use crate::tree::mark;

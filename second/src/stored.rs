@@ -5,6 +5,7 @@ mod matches;
 
 use std::fmt::Write;
 
+use crate::answer;
 use crate::calls::{self, Outcome};
 use crate::corpus;
 use crate::encode::{self, field};
@@ -81,7 +82,7 @@ pub fn undo_cases() -> Stored {
 fn undone_after(run: &RunCall) -> Vec<UndoCall> {
     let left = run.outcome();
     let records = records_of(&left);
-    if left.answer != calls::answer::RESULT || records == 0 {
+    if left.answer != answer::RESULT || records == 0 {
         return Vec::new();
     }
     let undo = |count: u32| UndoCall {
@@ -142,8 +143,8 @@ pub fn refusal_cases() -> Stored {
 /// The number that refuses a run, 0 where it starts.
 fn refused_by(call: &RunCall) -> u32 {
     match call.outcome().answer {
-        answer if answer < calls::answer::REPORT => 0,
-        answer => answer,
+        number if number < answer::REPORT => 0,
+        number => number,
     }
 }
 

@@ -3,9 +3,10 @@
 mod common;
 
 use common::{reported, Draft, Sample};
-use second::calls::{run, undo, Exercised, Outcome};
+use second::calls::{run, undo, Outcome};
 use second::corpus;
 use second::decode;
+use second::exercised::Exercised;
 use second::host::Host;
 use second::listing::read_input;
 use second::matching::{self, first_match, Match, Placement};

@@ -5,7 +5,7 @@ use super::drafts::{Draft, Extent};
 use super::fixed::MOST_BYTES;
 use super::hosts::{new_edge, Host, Size};
 use super::palette::Palette;
-use crate::calls::answer;
+use crate::answer;
 use crate::encode::{self, runner_input, RunnerInput};
 use crate::host::limit::{EDGE_SLOTS, NODE_SLOT, NODE_SLOTS};
 use crate::listing::run_input;

@@ -1,7 +1,8 @@
 //! What running a corpus exercises: how often each answer occurs, and the counters of the second interpreter.
 
-use crate::calls::{run_counted, Exercised, TestCounts, REPORT_BYTES};
+use crate::calls::{run_observed, REPORT_BYTES};
 use crate::encode::RunnerInput;
+use crate::exercised::{Exercised, TestCounts};
 use crate::host::limit;
 use crate::listing::read_input;
 use std::collections::BTreeMap;
@@ -50,7 +51,7 @@ impl Statistics {
 
     fn add_run(&mut self, input: &RunnerInput) {
         let mut exercised = Exercised::default();
-        let outcome = run_counted(
+        let outcome = run_observed(
             &input.nodes,
             &input.edges,
             &vec![0; usize::from(input.records) * limit::RECORD],

@@ -2,7 +2,7 @@
 
 use super::graph::Graph;
 use super::{published, ProgramRun, Published};
-use crate::calls::answer;
+use crate::answer;
 use crate::host::limit;
 
 /// A program's runs in their order.

@@ -3,10 +3,11 @@
 
 use std::fmt::Write;
 
-use crate::calls::{self, Exercised};
+use crate::calls;
 use crate::corpus;
 use crate::decode;
 use crate::encode;
+use crate::exercised::Exercised;
 use crate::host::{limit as table, Edge, Host, Label, Node};
 use crate::listing;
 use crate::matching::{self, Match};
@@ -110,7 +111,7 @@ fn lines(pair: &Pairs, seen: &mut Seen) -> String {
     let host = Host::read(&pair.nodes, &pair.edges).expect("a run that starts has a host");
     let mut text = String::new();
     for rule in &program.rules {
-        let found = matching::first_match_counted(rule, &host, &mut seen.exercised);
+        let found = matching::first_match_observed(rule, &host, &mut seen.exercised);
         match &found {
             Some(_) => seen.matched += 1,
             None => seen.unmatched += 1,

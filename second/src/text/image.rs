@@ -1,7 +1,8 @@
 //! Reading an image of either kind, with the place and the reason where it can't be read.
 
 use super::offsets::{offset_of_command, offset_of_rule};
-use crate::calls::{answer, MOST_FUEL};
+use crate::answer;
+use crate::calls::MOST_FUEL;
 use crate::encode::RunnerInput;
 use crate::host::{limit, Host};
 use crate::listing::INPUT_BYTES;

@@ -8,7 +8,7 @@ use super::image::{is_runner_image, program, runner_image, RunnerImage};
 use super::print_host::{host_graph_text, host_section_text};
 use super::print_program::program_text;
 use super::sizes::Sizes;
-use crate::calls::answer;
+use crate::answer;
 use crate::encode;
 use crate::host::Host;
 use crate::listing::run_input;

@@ -1,7 +1,8 @@
 //! Small random runs: a host, rules sampled from it so that they tend to match, and a command tree.
 
-use second::calls::{run_counted, Exercised, Outcome};
+use second::calls::{run_observed, Outcome};
 use second::encode::{self, RunnerInput};
+use second::exercised::Exercised;
 use second::host::{Edge, Host, Label, Node};
 use second::random::Random;
 use second::tree::*;
@@ -33,7 +34,7 @@ impl Sample {
     }
 
     pub fn counted(&self, exercised: &mut Exercised) -> Outcome {
-        run_counted(
+        run_observed(
             &self.nodes,
             &self.edges,
             &vec![0xEE; self.records * 28],
