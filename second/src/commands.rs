@@ -4,8 +4,10 @@
 use std::rc::Rc;
 
 use crate::answer;
-use crate::applying::{apply, Record};
+use crate::applying::apply;
 use crate::host::Host;
+use crate::journal::Record;
+use crate::layout::Layout;
 use crate::matching::first_match_observed;
 use crate::observer::{Event, Observer};
 use crate::tree::{Command, Program};
@@ -16,6 +18,23 @@ use crate::tree::{Command, Program};
 pub struct State {
     pub host: Rc<Host>,
     pub records: Rc<Vec<Record>>,
+}
+
+impl State {
+    /// The state before the first command.
+    pub fn at_start(host: Host) -> State {
+        State {
+            host: Rc::new(host),
+            records: Rc::default(),
+        }
+    }
+
+    /// The graph after an application, whose records come behind those so far.
+    fn changed(mut self, host: Host, records: Vec<Record>) -> State {
+        Rc::make_mut(&mut self.records).extend(records);
+        self.host = Rc::new(host);
+        self
+    }
 }
 
 /// How a command ends.
@@ -32,6 +51,7 @@ pub enum Ending {
 /// A run of a program whose form, references and placement are right.
 pub struct Run<'a> {
     pub program: &'a Program,
+    pub layout: &'a Layout,
     pub fuel_left: u32,
     pub steps: u32,
     /// The slots of the journal.
@@ -67,8 +87,8 @@ impl Run<'_> {
                 continue;
             };
             let room = self.record_slots - state.records.len();
-            return match apply(rule, &found, &state.host, room, self.observer) {
-                Ok((host, records)) => Ending::Success(with_records(state, host, &records)),
+            return match apply(rule, &found, &state.host, self.layout, room, self.observer) {
+                Ok((host, records)) => Ending::Success(state.changed(host, records)),
                 Err(answer) => Ending::Stop(answer),
             };
         }
@@ -150,10 +170,4 @@ impl Run<'_> {
         self.observer.sees(Event::Attempted);
         self.command(command, state.clone())
     }
-}
-
-fn with_records(mut state: State, host: Host, records: &[Record]) -> State {
-    Rc::make_mut(&mut state.records).extend(records);
-    state.host = Rc::new(host);
-    state
 }

@@ -144,7 +144,15 @@ mod tests {
         assert_eq!((idle.guards_undone, idle.bodies_undone), (0, 0));
         let inner = seen(&[Attempted, Attempted, Applied, BodyUndone, GuardUndone]);
         assert_eq!((inner.guards_undone, inner.bodies_undone), (1, 1));
-        let outer = seen(&[Attempted, Applied, Attempted, Kept, Attempted, BodyUndone, GuardUndone]);
+        let outer = seen(&[
+            Attempted,
+            Applied,
+            Attempted,
+            Kept,
+            Attempted,
+            BodyUndone,
+            GuardUndone,
+        ]);
         assert_eq!((outer.guards_undone, outer.bodies_undone), (1, 0));
     }
 

@@ -271,7 +271,7 @@ fn element_agrees(element: &Element, atoms: &[i32], values: &mut Assignment) -> 
             match value {
                 Some(earlier) => earlier.atoms() == atoms,
                 None => {
-                    *value = Label::of(atoms);
+                    *value = Some(Label::of(atoms));
                     true
                 }
             }
@@ -359,7 +359,8 @@ pub fn operand(operand: &Operand, values: &Assignment) -> i32 {
     match operand {
         Operand::Constant(value) => *value,
         Operand::Variable(number) => {
-            let value = values[usize::from(*number)].expect("a variable that occurs on the left");
+            let value = &values[usize::from(*number)];
+            let value = value.as_ref().expect("a variable that occurs on the left");
             value.atoms()[0]
         }
     }

@@ -9,10 +9,14 @@ use crate::answer;
 use crate::calls::{self, Outcome};
 use crate::corpus;
 use crate::encode::{self, field};
+use crate::layout::Layout;
 use crate::listing;
 use crate::refusals::{self, RunCall, UndoCall};
 
 pub use matches::{match_bench, match_cases, seen as seen_by_matches};
+
+/// The layout of the buffers.
+const LAYOUT: &Layout = &Layout::BASE;
 
 /// What a test program reads and what it must write.
 pub struct Stored {
@@ -163,7 +167,7 @@ fn drawn_calls() -> Vec<RunCall> {
         .map(|input: encode::RunnerInput| RunCall {
             nodes: input.nodes,
             edges: input.edges,
-            journal: vec![1; usize::from(input.records) * crate::host::limit::RECORD],
+            journal: vec![1; usize::from(input.records) * LAYOUT.record_length()],
             program: input.program,
             fuel: input.fuel,
             report: vec![7; calls::REPORT_BYTES],

@@ -678,7 +678,7 @@ fn rules_that_hold(host: &Host) -> [bool; 6] {
         nodes: vec![0, 1],
         edges: vec![0],
     };
-    let values = vec![Label::of(&[4])];
+    let values = vec![Some(Label::of(&[4]))];
     [
         matching::marks_agree(&rule, host, &placement),
         matching::root_flags_are_equal(&rule, host, &placement),
@@ -692,7 +692,7 @@ fn rules_that_hold(host: &Host) -> [bool; 6] {
 #[test]
 fn each_matching_rule_is_broken_by_itself() {
     let node = |mark, root, atom| {
-        let label = Label::of(&[atom]).unwrap();
+        let label = Label::of(&[atom]);
         Some(Node { mark, root, label })
     };
     let edge = |mark, source, target| {
