@@ -52,16 +52,22 @@ fn every_reasons() -> Vec<Reasons> {
     every
 }
 
-/// A rule that labels a node, makes a new one and an edge between them, inside a try.
-fn input_of(reasons: Reasons) -> RunnerInput {
+/// A right label that can't be held for this reason. The list variable 0 stands for three atoms.
+fn right_label(reason: Option<Label>) -> Vec<Element> {
     let (least, most) = (Operand::Constant(i32::MIN), Operand::Constant(i32::MAX));
     let list = Element::Variable(0);
-    let label = match reasons.label {
+    match reason {
         None => vec![list],
         Some(Label::Over) => vec![Element::Sum(most, Operand::Constant(1))],
         Some(Label::Under) => vec![Element::Difference(least, Operand::Constant(1))],
         Some(Label::Long) => vec![list, list],
-    };
+    }
+}
+
+/// A rule that labels a node, makes a new one and an edge between them, inside a try.
+fn input_of(reasons: Reasons) -> RunnerInput {
+    let list = Element::Variable(0);
+    let label = right_label(reasons.label);
     let edge = RuleEdge {
         mark: mark::DASHED,
         source: 1,

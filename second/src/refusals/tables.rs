@@ -15,42 +15,63 @@ pub(super) fn lengths() -> Vec<Refusal<RunCall>> {
             run_with(|call| call.report = vec![UNTOUCHED; length]),
         ));
     }
-    let (nodes, edges) = (LAYOUT.node_length(), LAYOUT.edge_length());
-    let tables: [(u32, &str, usize, usize, Buffer); 3] = [
-        (10, "node table", nodes, LAYOUT.most_nodes, |call| {
-            &mut call.nodes
-        }),
-        (11, "edge table", edges, LAYOUT.most_edges, |call| {
-            &mut call.edges
-        }),
-        (
-            12,
-            "journal",
-            LAYOUT.record_length(),
-            LAYOUT.most_records,
-            |call| &mut call.journal,
-        ),
-    ];
-    for (answer, words, slot, most, buffer) in tables {
-        for length in [slot - 1, slot + 1, 1] {
-            refusals.push(refusal(
-                &format!("{words} of {length} bytes"),
-                answer,
-                run_with(|call| free_graph(call, buffer, slot)),
-                run_with(|call| free_graph(call, buffer, length)),
-            ));
-        }
-        refusals.push(refusal(
-            &format!("{words} of {} slots", most + 1),
-            answer,
-            run_with(|call| free_graph(call, buffer, most * slot)),
-            run_with(|call| free_graph(call, buffer, (most + 1) * slot)),
-        ));
-    }
+    refusals.extend(tables().iter().flat_map(lengths_of));
     refusals
 }
 
+/// A lent table.
+struct Table {
+    words: &'static str,
+    /// The number that refuses its length.
+    answer: u32,
+    slot: usize,
+    most: usize,
+    buffer: Buffer,
+}
+
 type Buffer = fn(&mut RunCall) -> &mut Vec<u8>;
+
+fn tables() -> [Table; 3] {
+    [
+        Table {
+            words: "node table",
+            answer: 10,
+            slot: LAYOUT.node_length(),
+            most: LAYOUT.most_nodes,
+            buffer: |call| &mut call.nodes,
+        },
+        Table {
+            words: "edge table",
+            answer: 11,
+            slot: LAYOUT.edge_length(),
+            most: LAYOUT.most_edges,
+            buffer: |call| &mut call.edges,
+        },
+        Table {
+            words: "journal",
+            answer: 12,
+            slot: LAYOUT.record_length(),
+            most: LAYOUT.most_records,
+            buffer: |call| &mut call.journal,
+        },
+    ]
+}
+
+/// Lengths beside one slot, and one slot too many.
+fn lengths_of(table: &Table) -> Vec<Refusal<RunCall>> {
+    let (slot, most) = (table.slot, table.most);
+    let of_bytes = |length: usize| run_with(|call| free_graph(call, table.buffer, length));
+    let refused = |name: String, accepted: usize, length: usize| {
+        let name = format!("{} of {name}", table.words);
+        refusal(&name, table.answer, of_bytes(accepted), of_bytes(length))
+    };
+    let mut refusals: Vec<Refusal<RunCall>> = [slot - 1, slot + 1, 1]
+        .map(|length| refused(format!("{length} bytes"), slot, length))
+        .into();
+    let slots = format!("{} slots", most + 1);
+    refusals.push(refused(slots, most * slot, (most + 1) * slot));
+    refusals
+}
 
 /// No live slot anywhere, and so many zeros in this buffer.
 fn free_graph(call: &mut RunCall, buffer: Buffer, length: usize) {
