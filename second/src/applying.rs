@@ -1,47 +1,13 @@
 //! Applying a rule at a match: the checks before any change, then the changes with one record each.
 //! Rests on rules whose references hold and on a match of the rule in the host.
 
-use crate::calls::{answer, Exercised};
-use crate::host::{edge_slot, limit, node_slot, Edge, Host, Label, Node};
+use crate::answer;
+use crate::host::{Edge, Host, Label, Node};
+use crate::journal::Record;
+use crate::layout::Layout;
 use crate::matching::{operand, Assignment, Match};
+use crate::observer::{Event, Observer};
 use crate::tree::*;
-
-/// A journal record: what a slot held just before a change.
-#[derive(Clone, Copy, Debug, PartialEq, Eq)]
-pub struct Record {
-    /// 1 node, 2 edge.
-    pub kind: u8,
-    pub slot: u16,
-    pub before: [u8; 24],
-}
-
-impl Record {
-    fn of_node(slot: usize, node: &Option<Node>) -> Record {
-        let mut before = [0; 24];
-        before[..limit::NODE_SLOT].copy_from_slice(&node_slot(node));
-        Record {
-            kind: 1,
-            slot: slot as u16,
-            before,
-        }
-    }
-
-    fn of_edge(slot: usize, edge: &Option<Edge>) -> Record {
-        Record {
-            kind: 2,
-            slot: slot as u16,
-            before: edge_slot(edge),
-        }
-    }
-
-    pub fn bytes(&self) -> [u8; limit::RECORD] {
-        let mut bytes = [0; limit::RECORD];
-        bytes[0] = self.kind;
-        bytes[2..4].copy_from_slice(&self.slot.to_be_bytes());
-        bytes[4..].copy_from_slice(&self.before);
-        bytes
-    }
-}
 
 /// The values of the right side's labels.
 struct RightLabels {
@@ -55,12 +21,17 @@ pub fn apply(
     rule: &Rule,
     found: &Match,
     host: &Host,
+    layout: &Layout,
     room: usize,
-    exercised: &mut Exercised,
+    observer: &mut dyn Observer,
 ) -> Result<(Host, Vec<Record>), u32> {
-    let Some(labels) = right_labels(rule, &found.values, exercised) else {
-        return Err(answer::LABEL);
+    let mut evaluation = Evaluation {
+        rule,
+        values: &found.values,
+        layout,
+        observer,
     };
+    let labels = evaluation.right_labels().ok_or(answer::LABEL)?;
     if !nodes_have_room(rule, host) {
         return Err(answer::NO_ROOM_NODES);
     }
@@ -74,51 +45,61 @@ pub fn apply(
         host: host.clone(),
         records: Vec::new(),
     };
-    change.all(rule, found, &labels, exercised);
+    change.all(rule, found, &labels, observer);
     if change.host.both_ends_of_live_edges_are_live().is_err() {
         return Err(answer::EDGE_ON_FREE_NODE);
     }
-    exercised.applications += 1;
+    observer.sees(Event::Applied);
     Ok((change.host, change.records))
 }
 
-/// The labels of the right side, if each can be held.
-fn right_labels(
-    rule: &Rule,
-    values: &Assignment,
-    exercised: &mut Exercised,
-) -> Option<RightLabels> {
-    let mut label = |elements: &Vec<Element>| evaluate(rule, elements, values, exercised);
-    let nodes = rule.right.nodes.iter().map(|node| label(&node.label));
-    let nodes = nodes.collect::<Option<Vec<Label>>>()?;
-    let edges = rule.right.edges.iter().map(|edge| label(&edge.label));
-    let edges = edges.collect::<Option<Vec<Label>>>()?;
-    Some(RightLabels { nodes, edges })
+/// The right side of a rule under the values of a match.
+struct Evaluation<'a> {
+    rule: &'a Rule,
+    values: &'a Assignment,
+    layout: &'a Layout,
+    observer: &'a mut dyn Observer,
 }
 
-/// The value of a label, if no sum or difference leaves 32 bits and it has at most 4 atoms.
-fn evaluate(
-    rule: &Rule,
-    elements: &[Element],
-    values: &Assignment,
-    exercised: &mut Exercised,
-) -> Option<Label> {
-    let mut atoms = Vec::new();
-    for element in elements {
-        *exercised.elements.of(element, &rule.variables) += 1;
-        match element {
-            Element::Constant(value) => atoms.push(*value),
-            Element::Variable(number) => {
-                let value = values[usize::from(*number)]?;
-                atoms.extend(value.atoms());
-            }
-            Element::Sum(a, b) => atoms.push(operand(a, values).checked_add(operand(b, values))?),
-            Element::Difference(a, b) => {
-                atoms.push(operand(a, values).checked_sub(operand(b, values))?)
+impl Evaluation<'_> {
+    /// The labels of the right side, if each can be held.
+    fn right_labels(&mut self) -> Option<RightLabels> {
+        let (nodes, edges) = (&self.rule.right.nodes, &self.rule.right.edges);
+        Some(RightLabels {
+            nodes: nodes
+                .iter()
+                .map(|node| self.label(&node.label))
+                .collect::<Option<_>>()?,
+            edges: edges
+                .iter()
+                .map(|edge| self.label(&edge.label))
+                .collect::<Option<_>>()?,
+        })
+    }
+
+    /// The value of a label, if no sum or difference leaves 32 bits and the layout can hold its atoms.
+    fn label(&mut self, elements: &[Element]) -> Option<Label> {
+        let mut atoms = Vec::new();
+        for element in elements {
+            self.observer.sees(Event::Evaluated(self.rule, element));
+            match element {
+                Element::Constant(value) => atoms.push(*value),
+                Element::Variable(number) => {
+                    let value = self.values[usize::from(*number)].as_ref()?;
+                    atoms.extend(value.atoms());
+                }
+                Element::Sum(a, b) => atoms.push(self.number(a).checked_add(self.number(b))?),
+                Element::Difference(a, b) => {
+                    atoms.push(self.number(a).checked_sub(self.number(b))?)
+                }
             }
         }
+        self.layout.holds(atoms.len()).then(|| Label::of(&atoms))
     }
-    Label::of(&atoms)
+
+    fn number(&self, of: &Operand) -> i32 {
+        operand(of, self.values)
+    }
 }
 
 fn free<T>(slots: &[Option<T>]) -> usize {
@@ -151,7 +132,13 @@ struct Change {
 }
 
 impl Change {
-    fn all(&mut self, rule: &Rule, found: &Match, labels: &RightLabels, exercised: &mut Exercised) {
+    fn all(
+        &mut self,
+        rule: &Rule,
+        found: &Match,
+        labels: &RightLabels,
+        observer: &mut dyn Observer,
+    ) {
         let interface = usize::from(rule.interface);
         for slot in &found.edges {
             self.set_edge(*slot, None);
@@ -166,13 +153,13 @@ impl Change {
         let mut images = found.nodes[..interface].to_vec();
         for number in interface..rule.right.nodes.len() {
             let slot = lowest_free(&self.host.nodes);
-            exercised.slots_reused += u64::from(found.nodes.contains(&slot));
+            observer.sees(Event::Placed(slot, &found.nodes));
             self.set_node(slot, Some(new_node(rule, number, labels)));
             images.push(slot);
         }
         for number in 0..rule.right.edges.len() {
             let slot = lowest_free(&self.host.edges);
-            exercised.slots_reused += u64::from(found.edges.contains(&slot));
+            observer.sees(Event::Placed(slot, &found.edges));
             self.set_edge(slot, Some(right_edge(rule, number, labels, &images)));
         }
     }
@@ -187,15 +174,13 @@ impl Change {
     }
 
     fn set_node(&mut self, slot: usize, node: Option<Node>) {
-        let record = Record::of_node(slot, &self.host.nodes[slot]);
-        self.records.push(record);
-        self.host.nodes[slot] = node;
+        let before = std::mem::replace(&mut self.host.nodes[slot], node);
+        self.records.push(Record::Node(slot, before));
     }
 
     fn set_edge(&mut self, slot: usize, edge: Option<Edge>) {
-        let record = Record::of_edge(slot, &self.host.edges[slot]);
-        self.records.push(record);
-        self.host.edges[slot] = edge;
+        let before = std::mem::replace(&mut self.host.edges[slot], edge);
+        self.records.push(Record::Edge(slot, before));
     }
 }
 
@@ -209,7 +194,7 @@ fn new_node(rule: &Rule, number: usize, labels: &RightLabels) -> Node {
     Node {
         mark: right.mark,
         root: right.root,
-        label: labels.nodes[number],
+        label: labels.nodes[number].clone(),
     }
 }
 
@@ -219,6 +204,6 @@ fn right_edge(rule: &Rule, number: usize, labels: &RightLabels, images: &[usize]
         mark: right.mark,
         source: images[usize::from(right.source)] as u16,
         target: images[usize::from(right.target)] as u16,
-        label: labels.edges[number],
+        label: labels.edges[number].clone(),
     }
 }

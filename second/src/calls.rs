@@ -1,42 +1,41 @@
 //! The two public calls, run and undo, on byte vectors: the order of the answers and what each leaves in
-//! the buffers.
+//! the buffers. Each is made at a layout; document 01's calls are those at the base layout.
 
-use std::rc::Rc;
-
-use crate::applying::Record;
+use crate::answer;
 use crate::commands::{Ending, Run, State};
-use crate::host::{limit, Host};
-use crate::tree::{self, Element, Program, Relation, TestKind, VariableType};
+use crate::host::Host;
+use crate::journal::{can_be_stored, journal, store_back};
+use crate::layout::Layout;
+use crate::observer::{Observer, Unobserved};
+use crate::tree::{self, Program};
 use crate::{decode, placement, references};
-
-/// The answers of document 01's table.
-pub mod answer {
-    pub const RESULT: u32 = 0;
-    pub const FAIL: u32 = 1;
-    pub const OUT_OF_FUEL: u32 = 2;
-    pub const NO_ROOM_NODES: u32 = 3;
-    pub const NO_ROOM_EDGES: u32 = 4;
-    pub const NO_ROOM_JOURNAL: u32 = 5;
-    pub const LABEL: u32 = 6;
-    pub const EDGE_ON_FREE_NODE: u32 = 7;
-    pub const REPORT: u32 = 9;
-    pub const NODE_TABLE: u32 = 10;
-    pub const EDGE_TABLE: u32 = 11;
-    pub const JOURNAL_TABLE: u32 = 12;
-    pub const FUEL: u32 = 13;
-    pub const IMAGE: u32 = 14;
-    pub const LAYOUT: u32 = 15;
-    pub const FORM: u32 = 16;
-    pub const REFERENCES: u32 = 17;
-    pub const PLACEMENT: u32 = 18;
-    pub const UNDO: u32 = 20;
-}
 
 /// The most fuel that a run takes.
 pub const MOST_FUEL: u32 = 1_000_000;
 
 /// The bytes of a report.
 pub const REPORT_BYTES: usize = 8;
+
+/// What the call run is given.
+#[derive(Clone, Debug, PartialEq, Eq)]
+pub struct RunCall {
+    pub nodes: Vec<u8>,
+    pub edges: Vec<u8>,
+    pub journal: Vec<u8>,
+    pub program: Vec<u8>,
+    pub fuel: u32,
+    pub report: Vec<u8>,
+}
+
+/// What the call undo is given.
+#[derive(Clone, Debug, PartialEq, Eq)]
+pub struct UndoCall {
+    pub nodes: Vec<u8>,
+    pub edges: Vec<u8>,
+    pub journal: Vec<u8>,
+    pub count: u32,
+    pub report: Vec<u8>,
+}
 
 /// The answer of a call and what each buffer holds after it.
 #[derive(Clone, Debug, PartialEq, Eq)]
@@ -48,78 +47,7 @@ pub struct Outcome {
     pub report: Vec<u8>,
 }
 
-/// What runs have exercised.
-#[derive(Clone, Debug, Default, PartialEq, Eq)]
-pub struct Exercised {
-    pub steps: u64,
-    pub applications: u64,
-    /// Guards given back after a rule was applied in them.
-    pub guards_undone: u64,
-    /// Failing loop bodies given back after a rule was applied in them.
-    pub bodies_undone: u64,
-    pub breaks: u64,
-    /// New nodes and right edges that took a slot which the same application had freed.
-    pub slots_reused: u64,
-    /// Placements that keep rules 1 to 4 and break the dangling condition.
-    pub dangling_refusals: u64,
-    /// Tests that held, negation included.
-    pub tests_true: TestCounts,
-    /// Tests that did not hold, negation included.
-    pub tests_false: TestCounts,
-    pub negated_tests: u64,
-    /// Elements of right labels that were evaluated.
-    pub elements: ElementCounts,
-    /// Left nodes and edges of mark any in matches.
-    pub any_marks_matched: u64,
-    /// Left roots in matches.
-    pub roots_matched: u64,
-}
-
-#[derive(Clone, Debug, Default, PartialEq, Eq)]
-pub struct TestCounts {
-    pub edge: u64,
-    pub in_degree: u64,
-    pub out_degree: u64,
-    pub equal: u64,
-    pub less: u64,
-}
-
-impl TestCounts {
-    pub fn of(&mut self, kind: &TestKind) -> &mut u64 {
-        match kind {
-            TestKind::Edge(..) => &mut self.edge,
-            TestKind::InDegree(..) => &mut self.in_degree,
-            TestKind::OutDegree(..) => &mut self.out_degree,
-            TestKind::Relation(Relation::Equal, ..) => &mut self.equal,
-            TestKind::Relation(Relation::Less, ..) => &mut self.less,
-        }
-    }
-}
-
-#[derive(Clone, Debug, Default, PartialEq, Eq)]
-pub struct ElementCounts {
-    pub constant: u64,
-    pub int_variable: u64,
-    pub list_variable: u64,
-    pub sum: u64,
-    pub difference: u64,
-}
-
-impl ElementCounts {
-    pub fn of(&mut self, element: &Element, variables: &[VariableType]) -> &mut u64 {
-        match element {
-            Element::Constant(_) => &mut self.constant,
-            Element::Variable(number) => match variables[usize::from(*number)] {
-                VariableType::Int => &mut self.int_variable,
-                VariableType::List => &mut self.list_variable,
-            },
-            Element::Sum(..) => &mut self.sum,
-            Element::Difference(..) => &mut self.difference,
-        }
-    }
-}
-
-/// The call run.
+/// The call run at the base layout.
 pub fn run(
     nodes: &[u8],
     edges: &[u8],
@@ -128,70 +56,182 @@ pub fn run(
     fuel: u32,
     report: &[u8],
 ) -> Outcome {
-    let mut exercised = Exercised::default();
-    run_counted(nodes, edges, journal, program, fuel, report, &mut exercised)
+    let call = RunCall {
+        nodes: nodes.to_vec(),
+        edges: edges.to_vec(),
+        journal: journal.to_vec(),
+        program: program.to_vec(),
+        fuel,
+        report: report.to_vec(),
+    };
+    call.outcome()
 }
 
-/// The call run, counting what was exercised.
-pub fn run_counted(
-    nodes: &[u8],
-    edges: &[u8],
-    journal: &[u8],
-    program: &[u8],
-    fuel: u32,
-    report: &[u8],
-    exercised: &mut Exercised,
-) -> Outcome {
-    let given = Outcome {
+/// The call undo at the base layout.
+pub fn undo(nodes: &[u8], edges: &[u8], journal: &[u8], count: u32, report: &[u8]) -> Outcome {
+    let call = UndoCall {
+        nodes: nodes.to_vec(),
+        edges: edges.to_vec(),
+        journal: journal.to_vec(),
+        count,
+        report: report.to_vec(),
+    };
+    call.outcome()
+}
+
+impl RunCall {
+    /// What the call gives at the base layout.
+    pub fn outcome(&self) -> Outcome {
+        self.outcome_at(&Layout::BASE, &mut Unobserved)
+    }
+
+    /// What the call gives at a layout.
+    pub fn outcome_at(&self, layout: &Layout, observer: &mut dyn Observer) -> Outcome {
+        match self.checked(layout) {
+            Err(answer) => refused(self.untouched(), answer),
+            Ok((host, program)) => self.started(layout, host, &program, observer),
+        }
+    }
+
+    fn untouched(&self) -> Outcome {
+        untouched(&self.nodes, &self.edges, &self.journal, &self.report)
+    }
+
+    /// The checks 9 to 18 in their order: the host and the program, or the lowest number that applies.
+    fn checked(&self, layout: &Layout) -> Result<(Host, Program), u32> {
+        lengths_are_right(layout, &self.untouched())?;
+        if self.fuel > MOST_FUEL {
+            return Err(answer::FUEL);
+        }
+        if self.program.len() > tree::limit::IMAGE_BYTES {
+            return Err(answer::IMAGE);
+        }
+        let host = Host::read(layout, &self.nodes, &self.edges).map_err(|_| answer::LAYOUT)?;
+        let program = decode::program(&self.program).map_err(|_| answer::FORM)?;
+        references::check(&program).map_err(|_| answer::REFERENCES)?;
+        if !placement::check(&program) {
+            return Err(answer::PLACEMENT);
+        }
+        Ok((host, program))
+    }
+
+    fn started(
+        &self,
+        layout: &Layout,
+        host: Host,
+        program: &Program,
+        observer: &mut dyn Observer,
+    ) -> Outcome {
+        let mut run = Run {
+            program,
+            layout,
+            fuel_left: self.fuel,
+            steps: 0,
+            record_slots: self.journal.len() / layout.record_length(),
+            observer,
+        };
+        let ending = run.command(&program.main, State::at_start(host));
+        let steps = run.steps;
+        match ending {
+            Ending::Success(state) | Ending::Break(state) => self.result(layout, &state, steps),
+            Ending::Fail => self.without_result(answer::FAIL, steps),
+            Ending::Stop(answer) => self.without_result(answer, steps),
+        }
+    }
+
+    fn result(&self, layout: &Layout, state: &State, steps: u32) -> Outcome {
+        Outcome {
+            answer: answer::RESULT,
+            nodes: state.host.node_table(layout),
+            edges: state.host.edge_table(layout),
+            journal: journal(layout, &state.records, self.journal.len()),
+            report: report(steps, state.records.len() as u32),
+        }
+    }
+
+    /// After 1 to 7 the graph is what came in and the journal is all zero.
+    fn without_result(&self, answer: u32, steps: u32) -> Outcome {
+        Outcome {
+            answer,
+            journal: vec![0; self.journal.len()],
+            report: report(steps, 0),
+            ..self.untouched()
+        }
+    }
+}
+
+impl UndoCall {
+    /// What the call gives at the base layout.
+    pub fn outcome(&self) -> Outcome {
+        self.outcome_at(&Layout::BASE)
+    }
+
+    /// What the call gives at a layout.
+    pub fn outcome_at(&self, layout: &Layout) -> Outcome {
+        match self.checked(layout) {
+            Err(answer) => refused(self.untouched(), answer),
+            Ok(()) => self.undone(layout),
+        }
+    }
+
+    fn untouched(&self) -> Outcome {
+        untouched(&self.nodes, &self.edges, &self.journal, &self.report)
+    }
+
+    /// The checks 9 to 12 and 20.
+    fn checked(&self, layout: &Layout) -> Result<(), u32> {
+        lengths_are_right(layout, &self.untouched())?;
+        let length = layout.record_length();
+        if self.count as usize > self.journal.len() / length {
+            return Err(answer::UNDO);
+        }
+        let mut counted = self.journal.chunks(length).take(self.count as usize);
+        match counted.all(|record| can_be_stored(layout, record, &self.nodes, &self.edges)) {
+            true => Ok(()),
+            false => Err(answer::UNDO),
+        }
+    }
+
+    /// The counted records are stored back from last to first and zeroed.
+    fn undone(&self, layout: &Layout) -> Outcome {
+        let mut left = self.untouched();
+        let length = layout.record_length();
+        let counted = &mut left.journal[..self.count as usize * length];
+        for record in counted.chunks_mut(length).rev() {
+            store_back(layout, record, &mut left.nodes, &mut left.edges);
+            record.fill(0);
+        }
+        left.report = report(0, self.count);
+        left
+    }
+}
+
+/// The buffers as they were given.
+fn untouched(nodes: &[u8], edges: &[u8], journal: &[u8], report: &[u8]) -> Outcome {
+    Outcome {
         answer: answer::RESULT,
         nodes: nodes.to_vec(),
         edges: edges.to_vec(),
         journal: journal.to_vec(),
         report: report.to_vec(),
-    };
-    match checked(&given, program, fuel) {
-        Err(answer) => refused(given, answer),
-        Ok((host, program)) => started(given, host, &program, fuel, exercised),
     }
-}
-
-/// The checks 9 to 18 in their order: the host and the program, or the lowest number that applies.
-fn checked(given: &Outcome, image: &[u8], fuel: u32) -> Result<(Host, Program), u32> {
-    lengths_are_right(given)?;
-    if fuel > MOST_FUEL {
-        return Err(answer::FUEL);
-    }
-    if image.len() > tree::limit::IMAGE_BYTES {
-        return Err(answer::IMAGE);
-    }
-    let host = Host::read(&given.nodes, &given.edges).map_err(|_| answer::LAYOUT)?;
-    let program = decode::program(image).map_err(|_| answer::FORM)?;
-    references::check(&program).map_err(|_| answer::REFERENCES)?;
-    if !placement::check(&program) {
-        return Err(answer::PLACEMENT);
-    }
-    Ok((host, program))
 }
 
 /// The checks 9 to 12, which both calls make.
-fn lengths_are_right(given: &Outcome) -> Result<(), u32> {
+fn lengths_are_right(layout: &Layout, given: &Outcome) -> Result<(), u32> {
     if given.report.len() != REPORT_BYTES {
         return Err(answer::REPORT);
     }
-    if !is_table(&given.nodes, limit::NODE_SLOT, limit::NODE_SLOTS) {
+    if !layout.is_node_table(given.nodes.len()) {
         return Err(answer::NODE_TABLE);
     }
-    if !is_table(&given.edges, limit::EDGE_SLOT, limit::EDGE_SLOTS) {
+    if !layout.is_edge_table(given.edges.len()) {
         return Err(answer::EDGE_TABLE);
     }
-    if !is_table(&given.journal, limit::RECORD, limit::RECORDS) {
+    if !layout.is_journal(given.journal.len()) {
         return Err(answer::JOURNAL_TABLE);
     }
     Ok(())
-}
-
-fn is_table(bytes: &[u8], slot: usize, most: usize) -> bool {
-    bytes.len() % slot == 0 && bytes.len() / slot <= most
 }
 
 /// A refusal writes zeros in the report, except on 9, and touches nothing more.
@@ -207,118 +247,6 @@ fn refused(given: Outcome, answer: u32) -> Outcome {
     }
 }
 
-fn started(
-    given: Outcome,
-    host: Host,
-    program: &Program,
-    fuel: u32,
-    exercised: &mut Exercised,
-) -> Outcome {
-    let mut run = Run {
-        program,
-        fuel_left: fuel,
-        steps: 0,
-        record_slots: given.journal.len() / limit::RECORD,
-        exercised,
-    };
-    let start = State {
-        host: Rc::new(host),
-        records: Rc::default(),
-    };
-    let ending = run.command(&program.main, start);
-    let steps = run.steps;
-    match ending {
-        Ending::Success(state) | Ending::Break(state) => result(given, &state, steps),
-        Ending::Fail => without_result(given, answer::FAIL, steps),
-        Ending::Stop(answer) => without_result(given, answer, steps),
-    }
-}
-
-fn result(given: Outcome, state: &State, steps: u32) -> Outcome {
-    Outcome {
-        answer: answer::RESULT,
-        nodes: state.host.node_table(),
-        edges: state.host.edge_table(),
-        journal: journal(&state.records, given.journal.len()),
-        report: report(steps, state.records.len() as u32),
-    }
-}
-
-/// The counted records from the front and zeros behind.
-fn journal(records: &[Record], length: usize) -> Vec<u8> {
-    let mut bytes: Vec<u8> = records.iter().flat_map(Record::bytes).collect();
-    bytes.resize(length, 0);
-    bytes
-}
-
-/// After 1 to 7 the graph is what came in and the journal is all zero.
-fn without_result(given: Outcome, answer: u32, steps: u32) -> Outcome {
-    Outcome {
-        answer,
-        journal: vec![0; given.journal.len()],
-        report: report(steps, 0),
-        ..given
-    }
-}
-
 fn report(steps: u32, records: u32) -> Vec<u8> {
     [steps.to_be_bytes(), records.to_be_bytes()].concat()
-}
-
-/// The call undo.
-pub fn undo(nodes: &[u8], edges: &[u8], journal: &[u8], count: u32, report: &[u8]) -> Outcome {
-    let given = Outcome {
-        answer: answer::RESULT,
-        nodes: nodes.to_vec(),
-        edges: edges.to_vec(),
-        journal: journal.to_vec(),
-        report: report.to_vec(),
-    };
-    match undo_checked(&given, count) {
-        Err(answer) => refused(given, answer),
-        Ok(()) => undone(given, count),
-    }
-}
-
-fn undo_checked(given: &Outcome, count: u32) -> Result<(), u32> {
-    lengths_are_right(given)?;
-    if count as usize > given.journal.len() / limit::RECORD {
-        return Err(answer::UNDO);
-    }
-    let mut counted = given.journal.chunks(limit::RECORD).take(count as usize);
-    match counted.all(|record| record_can_be_stored(given, record)) {
-        true => Ok(()),
-        false => Err(answer::UNDO),
-    }
-}
-
-/// The kind is 1 or 2, the second byte zero, the slot inside its table.
-fn record_can_be_stored(given: &Outcome, record: &[u8]) -> bool {
-    let slots = match record[0] {
-        1 => given.nodes.len() / limit::NODE_SLOT,
-        2 => given.edges.len() / limit::EDGE_SLOT,
-        _ => return false,
-    };
-    record[1] == 0 && slot_of(record) < slots
-}
-
-fn slot_of(record: &[u8]) -> usize {
-    usize::from(u16::from_be_bytes([record[2], record[3]]))
-}
-
-/// The counted records are stored back from last to first and zeroed.
-fn undone(mut given: Outcome, count: u32) -> Outcome {
-    for number in (0..count as usize).rev() {
-        let start = number * limit::RECORD;
-        let record = &mut given.journal[start..start + limit::RECORD];
-        let (table, length) = match record[0] {
-            1 => (&mut given.nodes, limit::NODE_SLOT),
-            _ => (&mut given.edges, limit::EDGE_SLOT),
-        };
-        let slot = slot_of(record) * length;
-        table[slot..slot + length].copy_from_slice(&record[4..4 + length]);
-        record.fill(0);
-    }
-    given.report = report(0, count);
-    given
 }

@@ -3,10 +3,13 @@
 
 use std::rc::Rc;
 
-use crate::applying::{apply, Record};
-use crate::calls::{answer, Exercised};
+use crate::answer;
+use crate::applying::apply;
 use crate::host::Host;
-use crate::matching::first_match_counted;
+use crate::journal::Record;
+use crate::layout::Layout;
+use crate::matching::first_match_observed;
+use crate::observer::{Event, Observer};
 use crate::tree::{Command, Program};
 
 /// The graph and the records so far. An application makes a new graph, so a copy of a state stays what
@@ -15,6 +18,23 @@ use crate::tree::{Command, Program};
 pub struct State {
     pub host: Rc<Host>,
     pub records: Rc<Vec<Record>>,
+}
+
+impl State {
+    /// The state before the first command.
+    pub fn at_start(host: Host) -> State {
+        State {
+            host: Rc::new(host),
+            records: Rc::default(),
+        }
+    }
+
+    /// The graph after an application, whose records come behind those so far.
+    fn changed(mut self, host: Host, records: Vec<Record>) -> State {
+        Rc::make_mut(&mut self.records).extend(records);
+        self.host = Rc::new(host);
+        self
+    }
 }
 
 /// How a command ends.
@@ -31,11 +51,12 @@ pub enum Ending {
 /// A run of a program whose form, references and placement are right.
 pub struct Run<'a> {
     pub program: &'a Program,
+    pub layout: &'a Layout,
     pub fuel_left: u32,
     pub steps: u32,
     /// The slots of the journal.
     pub record_slots: usize,
-    pub exercised: &'a mut Exercised,
+    pub observer: &'a mut dyn Observer,
 }
 
 impl Run<'_> {
@@ -45,7 +66,7 @@ impl Run<'_> {
         }
         self.fuel_left -= 1;
         self.steps += 1;
-        self.exercised.steps += 1;
+        self.observer.sees(Event::Entered(command));
         match command {
             Command::RuleSet(numbers) => self.rule_set(numbers, state),
             Command::Sequence(parts) => self.sequence(parts, state),
@@ -54,7 +75,7 @@ impl Run<'_> {
             Command::Loop(body) => self.loop_command(body, state),
             Command::Skip => Ending::Success(state),
             Command::Fail => Ending::Fail,
-            Command::Break => self.break_command(state),
+            Command::Break => Ending::Break(state),
         }
     }
 
@@ -62,12 +83,12 @@ impl Run<'_> {
     fn rule_set(&mut self, numbers: &[u8], state: State) -> Ending {
         for number in numbers {
             let rule = &self.program.rules[usize::from(*number)];
-            let Some(found) = first_match_counted(rule, &state.host, self.exercised) else {
+            let Some(found) = first_match_observed(rule, &state.host, self.observer) else {
                 continue;
             };
             let room = self.record_slots - state.records.len();
-            return match apply(rule, &found, &state.host, room, self.exercised) {
-                Ok((host, records)) => Ending::Success(with_records(state, host, &records)),
+            return match apply(rule, &found, &state.host, self.layout, room, self.observer) {
+                Ok((host, records)) => Ending::Success(state.changed(host, records)),
                 Err(answer) => Ending::Stop(answer),
             };
         }
@@ -92,19 +113,13 @@ impl Run<'_> {
         other: &Command,
         state: State,
     ) -> Ending {
-        let before = self.exercised.applications;
-        let ending = self.command(guard, state.clone());
-        match ending {
-            Ending::Success(_) | Ending::Break(_) => {
-                self.count_guard_undone(before);
-                self.command(then, state)
-            }
-            Ending::Fail => {
-                self.count_guard_undone(before);
-                self.command(other, state)
-            }
-            Ending::Stop(answer) => Ending::Stop(answer),
-        }
+        let next = match self.attempt(guard, &state) {
+            Ending::Success(_) | Ending::Break(_) => then,
+            Ending::Fail => other,
+            Ending::Stop(answer) => return Ending::Stop(answer),
+        };
+        self.observer.sees(Event::GuardUndone);
+        self.command(next, state)
     }
 
     /// The same, but a successful guard's changes stay.
@@ -115,12 +130,13 @@ impl Run<'_> {
         other: &Command,
         state: State,
     ) -> Ending {
-        let before = self.exercised.applications;
-        let ending = self.command(guard, state.clone());
-        match ending {
-            Ending::Success(after) | Ending::Break(after) => self.command(then, after),
+        match self.attempt(guard, &state) {
+            Ending::Success(after) | Ending::Break(after) => {
+                self.observer.sees(Event::Kept);
+                self.command(then, after)
+            }
             Ending::Fail => {
-                self.count_guard_undone(before);
+                self.observer.sees(Event::GuardUndone);
                 self.command(other, state)
             }
             Ending::Stop(answer) => Ending::Stop(answer),
@@ -131,37 +147,27 @@ impl Run<'_> {
     /// graph and the loop succeeds.
     fn loop_command(&mut self, body: &Command, mut state: State) -> Ending {
         loop {
-            let before = self.exercised.applications;
-            match self.command(body, state.clone()) {
-                Ending::Success(after) => state = after,
+            match self.attempt(body, &state) {
+                Ending::Success(after) => {
+                    self.observer.sees(Event::Kept);
+                    state = after;
+                }
                 Ending::Fail => {
-                    self.count_body_undone(before);
+                    self.observer.sees(Event::BodyUndone);
                     return Ending::Success(state);
                 }
-                Ending::Break(after) => return Ending::Success(after),
+                Ending::Break(after) => {
+                    self.observer.sees(Event::Kept);
+                    return Ending::Success(after);
+                }
                 Ending::Stop(answer) => return Ending::Stop(answer),
             }
         }
     }
 
-    fn break_command(&mut self, state: State) -> Ending {
-        self.exercised.breaks += 1;
-        Ending::Break(state)
+    /// Runs a guard or a loop body on a copy of the state, so that its changes can be given back.
+    fn attempt(&mut self, command: &Command, state: &State) -> Ending {
+        self.observer.sees(Event::Attempted);
+        self.command(command, state.clone())
     }
-
-    /// A guard is counted where a rule was applied in it.
-    fn count_guard_undone(&mut self, before: u64) {
-        self.exercised.guards_undone += u64::from(self.exercised.applications > before);
-    }
-
-    /// A body is counted where a rule was applied in the failing iteration.
-    fn count_body_undone(&mut self, before: u64) {
-        self.exercised.bodies_undone += u64::from(self.exercised.applications > before);
-    }
-}
-
-fn with_records(mut state: State, host: Host, records: &[Record]) -> State {
-    Rc::make_mut(&mut state.records).extend(records);
-    state.host = Rc::new(host);
-    state
 }

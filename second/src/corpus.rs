@@ -26,6 +26,7 @@ mod values;
 
 use crate::encode::{field, runner_input};
 use crate::families::program_images;
+use crate::layout::Layout;
 use crate::listing::listing;
 use crate::random::Random;
 use crate::tree::Program;
@@ -34,6 +35,9 @@ use fixed::fixed_images;
 
 pub use command_line::{main, write_files};
 pub use statistics::{Counter, Statistics};
+
+/// The layout of the images.
+const LAYOUT: &Layout = &Layout::BASE;
 
 /// The tag before each image of a corpus.
 pub const IMAGE_TAG: u8 = 0x06;

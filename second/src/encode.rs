@@ -1,6 +1,7 @@
-//! Writing a program tree, a runner input and table slots as bytes. Nothing is checked here: an
-//! illegal tree gives an illegal image, which the refusal tests need.
+//! Writing a program tree, a runner input and table slots of the base layout as bytes. Nothing of a tree is
+//! checked here: an illegal one gives an illegal image, which the refusal tests need.
 
+use crate::layout::Layout;
 use crate::tree::*;
 
 /// Tag, two bytes of length, payload. A payload of more than 65,535 bytes can't be written.
@@ -115,28 +116,21 @@ pub fn command(tree: &Command) -> Vec<u8> {
     }
 }
 
-/// A live node slot of 20 bytes. At most four atoms.
-pub fn node_slot(mark: u8, root: bool, atoms: &[i32]) -> [u8; 20] {
-    let mut slot = [0; 20];
-    slot[..4].copy_from_slice(&[1, mark, root as u8, atoms.len() as u8]);
-    put_atoms(&mut slot[4..], atoms);
-    slot
+/// A live node slot of the base layout.
+pub fn node_slot(mark: u8, root: bool, atoms: &[i32]) -> [u8; Layout::BASE.node_length()] {
+    let slot = Layout::BASE.node_slot(mark, root, atoms);
+    slot.try_into().expect("a slot has its length")
 }
 
-/// A live edge slot of 24 bytes. At most four atoms.
-pub fn edge_slot(mark: u8, source: u16, target: u16, atoms: &[i32]) -> [u8; 24] {
-    let mut slot = [0; 24];
-    slot[..4].copy_from_slice(&[1, mark, 0, atoms.len() as u8]);
-    slot[4..6].copy_from_slice(&source.to_be_bytes());
-    slot[6..8].copy_from_slice(&target.to_be_bytes());
-    put_atoms(&mut slot[8..], atoms);
-    slot
-}
-
-fn put_atoms(place: &mut [u8], atoms: &[i32]) {
-    for (four, atom) in place.chunks_exact_mut(4).zip(atoms) {
-        four.copy_from_slice(&atom.to_be_bytes());
-    }
+/// A live edge slot of the base layout.
+pub fn edge_slot(
+    mark: u8,
+    source: u16,
+    target: u16,
+    atoms: &[i32],
+) -> [u8; Layout::BASE.edge_length()] {
+    let slot = Layout::BASE.edge_slot(mark, source, target, atoms);
+    slot.try_into().expect("a slot has its length")
 }
 
 /// What the runner reads: both tables, the number of journal records, the fuel, the program.

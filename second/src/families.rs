@@ -10,9 +10,12 @@ pub use graph::{Edge, Graph, Node};
 
 use crate::calls::MOST_FUEL;
 use crate::encode::{self, RunnerInput};
-use crate::host::limit;
+use crate::layout::Layout;
 use crate::text;
 use crate::tree::Program;
+
+/// The layout of the tables.
+const LAYOUT: &Layout = &Layout::BASE;
 
 /// A published program and what it expects of a host.
 #[derive(Clone, Copy, Debug)]
@@ -95,7 +98,7 @@ impl Published {
             nodes,
             edges,
             fuel: MOST_FUEL,
-            records: limit::RECORDS as u16,
+            records: LAYOUT.most_records as u16,
             runs_out: None,
         }
     }

@@ -1,49 +1,33 @@
 //! The host graph as numbers instead of bytes: reading the lent tables with the layout test of document
-//! 01, clause by clause, and writing them back.
+//! 01, clause by clause, and writing them, at any layout.
 
-use crate::encode;
+use std::rc::Rc;
+
+use crate::layout::{atoms_of, number_of, place, Layout, ATOM_BYTES};
 use crate::tree::mark;
 
-/// The limits of the three tables.
-pub mod limit {
-    pub const NODE_SLOT: usize = 20;
-    pub const NODE_SLOTS: usize = 512;
-    pub const EDGE_SLOT: usize = 24;
-    pub const EDGE_SLOTS: usize = 1024;
-    pub const RECORD: usize = 28;
-    pub const RECORDS: usize = 1024;
-    pub const ATOMS: usize = 4;
-}
-
-/// A list of 0 to 4 atoms.
-#[derive(Clone, Copy, Debug, Default, PartialEq, Eq)]
-pub struct Label {
-    length: u8,
-    atoms: [i32; limit::ATOMS],
-}
+/// A list of atoms. How many a slot can hold is the layout's.
+#[derive(Clone, Debug, Default, PartialEq, Eq)]
+pub struct Label(Rc<[i32]>);
 
 impl Label {
-    /// The label of these atoms, if it can hold them.
-    pub fn of(list: &[i32]) -> Option<Label> {
-        let mut label = Label::default();
-        label.atoms.get_mut(..list.len())?.copy_from_slice(list);
-        label.length = list.len() as u8;
-        Some(label)
+    pub fn of(atoms: &[i32]) -> Label {
+        Label(atoms.into())
     }
 
     pub fn atoms(&self) -> &[i32] {
-        &self.atoms[..usize::from(self.length)]
+        &self.0
     }
 }
 
-#[derive(Clone, Copy, Debug, PartialEq, Eq)]
+#[derive(Clone, Debug, PartialEq, Eq)]
 pub struct Node {
     pub mark: u8,
     pub root: bool,
     pub label: Label,
 }
 
-#[derive(Clone, Copy, Debug, PartialEq, Eq)]
+#[derive(Clone, Debug, PartialEq, Eq)]
 pub struct Edge {
     pub mark: u8,
     pub source: u16,
@@ -61,14 +45,16 @@ pub struct Host {
 impl Host {
     /// The graph of two tables, or which clause of the layout they break and where. The lengths must be
     /// multiples of the slots.
-    pub fn read(nodes: &[u8], edges: &[u8]) -> Result<Host, String> {
+    pub fn read(layout: &Layout, nodes: &[u8], edges: &[u8]) -> Result<Host, String> {
         let mut host = Host::default();
-        for (number, slot) in nodes.chunks(limit::NODE_SLOT).enumerate() {
-            let node = read_node(slot).map_err(|reason| format!("node {number}: {reason}"))?;
+        for (number, slot) in nodes.chunks(layout.node_length()).enumerate() {
+            let node =
+                read_node(layout, slot).map_err(|reason| format!("node {number}: {reason}"))?;
             host.nodes.push(node);
         }
-        for (number, slot) in edges.chunks(limit::EDGE_SLOT).enumerate() {
-            let edge = read_edge(slot).map_err(|reason| format!("edge {number}: {reason}"))?;
+        for (number, slot) in edges.chunks(layout.edge_length()).enumerate() {
+            let edge =
+                read_edge(layout, slot).map_err(|reason| format!("edge {number}: {reason}"))?;
             host.edges.push(edge);
         }
         host.both_ends_of_live_edges_are_live()?;
@@ -107,75 +93,79 @@ impl Host {
         slots.filter_map(|(slot, edge)| Some((slot, edge.as_ref()?)))
     }
 
-    /// The node table as bytes.
-    pub fn node_table(&self) -> Vec<u8> {
-        self.nodes.iter().flat_map(node_slot).collect()
+    /// The node table as bytes. Every label and slot number must fit the layout.
+    pub fn node_table(&self, layout: &Layout) -> Vec<u8> {
+        let slots = self.nodes.iter();
+        slots.flat_map(|node| node_slot(layout, node)).collect()
     }
 
-    /// The edge table as bytes.
-    pub fn edge_table(&self) -> Vec<u8> {
-        self.edges.iter().flat_map(edge_slot).collect()
+    /// The edge table as bytes. Every label and slot number must fit the layout.
+    pub fn edge_table(&self, layout: &Layout) -> Vec<u8> {
+        let slots = self.edges.iter();
+        slots.flat_map(|edge| edge_slot(layout, edge)).collect()
     }
 }
 
 /// The bytes of a node slot, free or live.
-pub fn node_slot(node: &Option<Node>) -> [u8; limit::NODE_SLOT] {
+pub fn node_slot(layout: &Layout, node: &Option<Node>) -> Vec<u8> {
     match node {
-        None => [0; limit::NODE_SLOT],
-        Some(node) => encode::node_slot(node.mark, node.root, node.label.atoms()),
+        None => vec![0; layout.node_length()],
+        Some(node) => layout.node_slot(node.mark, node.root, node.label.atoms()),
     }
 }
 
 /// The bytes of an edge slot, free or live.
-pub fn edge_slot(edge: &Option<Edge>) -> [u8; limit::EDGE_SLOT] {
+pub fn edge_slot(layout: &Layout, edge: &Option<Edge>) -> Vec<u8> {
     match edge {
-        None => [0; limit::EDGE_SLOT],
-        Some(edge) => encode::edge_slot(edge.mark, edge.source, edge.target, edge.label.atoms()),
+        None => vec![0; layout.edge_length()],
+        Some(edge) => layout.edge_slot(edge.mark, edge.source, edge.target, edge.label.atoms()),
     }
 }
 
-fn read_node(slot: &[u8]) -> Result<Option<Node>, String> {
-    state_is_free_or_live(slot)?;
-    if slot[0] == 0 {
-        free_slot_is_all_zero(slot)?;
+fn read_node(layout: &Layout, slot: &[u8]) -> Result<Option<Node>, String> {
+    if !is_live(slot)? {
         return Ok(None);
     }
-    mark_is_a_node_mark(slot[1])?;
-    root_is_0_or_1(slot[2])?;
-    let label = read_label(slot[3], &slot[4..])?;
+    mark_is_a_node_mark(slot[place::MARK])?;
+    root_is_0_or_1(slot[place::ROOT])?;
     Ok(Some(Node {
-        mark: slot[1],
-        root: slot[2] == 1,
-        label,
+        mark: slot[place::MARK],
+        root: slot[place::ROOT] == 1,
+        label: read_label(layout, slot, layout.node_atoms())?,
     }))
 }
 
-fn read_edge(slot: &[u8]) -> Result<Option<Edge>, String> {
-    state_is_free_or_live(slot)?;
-    if slot[0] == 0 {
-        free_slot_is_all_zero(slot)?;
+fn read_edge(layout: &Layout, slot: &[u8]) -> Result<Option<Edge>, String> {
+    if !is_live(slot)? {
         return Ok(None);
     }
-    mark_is_an_edge_mark(slot[1])?;
-    third_byte_is_zero(slot[2])?;
-    let label = read_label(slot[3], &slot[8..])?;
+    mark_is_an_edge_mark(slot[place::MARK])?;
+    third_byte_is_zero(slot[place::ZERO])?;
     Ok(Some(Edge {
-        mark: slot[1],
-        source: u16::from_be_bytes([slot[4], slot[5]]),
-        target: u16::from_be_bytes([slot[6], slot[7]]),
-        label,
+        mark: slot[place::MARK],
+        source: number_of(&slot[layout.edge_source()]),
+        target: number_of(&slot[layout.edge_target()]),
+        label: read_label(layout, slot, layout.edge_atoms())?,
     }))
 }
 
-fn read_label(length: u8, bytes: &[u8]) -> Result<Label, String> {
-    label_has_at_most_four_atoms(length)?;
-    let (used, unused) = bytes.split_at(4 * usize::from(length));
+/// Whether a slot is live; a free one is all zero.
+fn is_live(slot: &[u8]) -> Result<bool, String> {
+    state_is_free_or_live(slot[place::STATE])?;
+    if slot[place::STATE] == 0 {
+        free_slot_is_all_zero(slot)?;
+        return Ok(false);
+    }
+    Ok(true)
+}
+
+/// The label of a slot whose atoms start at this place.
+fn read_label(layout: &Layout, slot: &[u8], atoms: usize) -> Result<Label, String> {
+    let length = usize::from(slot[place::LABEL_LENGTH]);
+    label_can_be_held(layout, length)?;
+    let (used, unused) = slot[atoms..].split_at(ATOM_BYTES * length);
     unused_atoms_are_zero(unused)?;
-    let atoms: Vec<i32> = used
-        .chunks(4)
-        .map(|b| i32::from_be_bytes([b[0], b[1], b[2], b[3]]))
-        .collect();
-    Ok(Label::of(&atoms).expect("four atoms at most"))
+    Ok(Label::of(&atoms_of(used)))
 }
 
 fn clause(holds: bool, broken: &str) -> Result<(), String> {
@@ -185,8 +175,8 @@ fn clause(holds: bool, broken: &str) -> Result<(), String> {
     }
 }
 
-fn state_is_free_or_live(slot: &[u8]) -> Result<(), String> {
-    clause(slot[0] <= 1, "its state is neither 0 nor 1")
+fn state_is_free_or_live(state: u8) -> Result<(), String> {
+    clause(state <= 1, "its state is neither 0 nor 1")
 }
 
 fn free_slot_is_all_zero(slot: &[u8]) -> Result<(), String> {
@@ -210,11 +200,22 @@ fn third_byte_is_zero(byte: u8) -> Result<(), String> {
     clause(byte == 0, "its third byte is not zero")
 }
 
-fn label_has_at_most_four_atoms(length: u8) -> Result<(), String> {
-    clause(
-        usize::from(length) <= limit::ATOMS,
-        "its label is longer than four atoms",
-    )
+fn label_can_be_held(layout: &Layout, length: usize) -> Result<(), String> {
+    match layout.holds(length) {
+        true => Ok(()),
+        false => Err(format!(
+            "its label is longer than {}",
+            atoms_in_words(layout.atoms)
+        )),
+    }
+}
+
+fn atoms_in_words(count: usize) -> String {
+    match count {
+        1 => "one atom".to_string(),
+        4 => "four atoms".to_string(),
+        _ => format!("{count} atoms"),
+    }
 }
 
 fn unused_atoms_are_zero(unused: &[u8]) -> Result<(), String> {

@@ -1,15 +1,40 @@
-//! The runner program's reading of its input and its listing of the outcome.
+//! The runner program's reading of its input and its listing of the outcome. The runner itself works at the base
+//! layout; each step takes any.
 
-use crate::calls::{self, answer, Outcome, REPORT_BYTES};
+use crate::answer;
+use crate::calls::{Outcome, RunCall, REPORT_BYTES};
 use crate::encode::RunnerInput;
-use crate::host::{limit, Host};
+use crate::host::Host;
+use crate::layout::Layout;
+use crate::observer::Unobserved;
 use crate::tree::mark;
 
 /// The longest input that the runner reads.
 pub const INPUT_BYTES: usize = 65_536;
 
+/// What the runner program prints for these bytes on its standard input.
+pub fn listing(bytes: &[u8]) -> String {
+    listing_at(&Layout::BASE, bytes)
+}
+
+/// The same for a runner of another layout.
+pub fn listing_at(layout: &Layout, bytes: &[u8]) -> String {
+    match read_input_at(layout, bytes) {
+        Some(input) => {
+            let outcome = call_of(layout, &input).outcome_at(layout, &mut Unobserved);
+            listing_of(layout, &outcome)
+        }
+        None => "input refused\n".to_string(),
+    }
+}
+
 /// The input in its five fields, or nothing where it is refused.
 pub fn read_input(bytes: &[u8]) -> Option<RunnerInput> {
+    read_input_at(&Layout::BASE, bytes)
+}
+
+/// The same for a runner of another layout.
+pub fn read_input_at(layout: &Layout, bytes: &[u8]) -> Option<RunnerInput> {
     if bytes.len() > INPUT_BYTES {
         return None;
     }
@@ -20,7 +45,7 @@ pub fn read_input(bytes: &[u8]) -> Option<RunnerInput> {
     let (program, rest) = field(0x05, rest)?;
     let records = u16::from_be_bytes(records.try_into().ok()?);
     let fuel = u32::from_be_bytes(fuel.try_into().ok()?);
-    if usize::from(records) > limit::RECORDS || !rest.is_empty() {
+    if usize::from(records) > layout.most_records || !rest.is_empty() {
         return None;
     }
     Some(RunnerInput {
@@ -42,29 +67,25 @@ fn field(tag: u8, bytes: &[u8]) -> Option<(&[u8], &[u8])> {
     }
 }
 
-/// What the call run gives for a runner input.
-pub fn run_input(input: &RunnerInput) -> Outcome {
-    let journal = vec![0; usize::from(input.records) * limit::RECORD];
-    calls::run(
-        &input.nodes,
-        &input.edges,
-        &journal,
-        &input.program,
-        input.fuel,
-        &[0; REPORT_BYTES],
-    )
-}
-
-/// What the runner program prints for these bytes on its standard input.
-pub fn listing(bytes: &[u8]) -> String {
-    match read_input(bytes) {
-        Some(input) => listing_of(&run_input(&input)),
-        None => "input refused\n".to_string(),
+/// The call that a runner input leads to, with a journal of zeros.
+pub fn call_of(layout: &Layout, input: &RunnerInput) -> RunCall {
+    RunCall {
+        nodes: input.nodes.clone(),
+        edges: input.edges.clone(),
+        journal: vec![0; usize::from(input.records) * layout.record_length()],
+        program: input.program.clone(),
+        fuel: input.fuel,
+        report: vec![0; REPORT_BYTES],
     }
 }
 
+/// What the call run gives for a runner input at the base layout.
+pub fn run_input(input: &RunnerInput) -> Outcome {
+    call_of(&Layout::BASE, input).outcome()
+}
+
 /// The listing of an outcome whose report has 8 bytes.
-pub fn listing_of(outcome: &Outcome) -> String {
+pub fn listing_of(layout: &Layout, outcome: &Outcome) -> String {
     let number = |at: usize| {
         let four = outcome.report[at..at + 4].try_into();
         u32::from_be_bytes(four.expect("four bytes"))
@@ -72,7 +93,7 @@ pub fn listing_of(outcome: &Outcome) -> String {
     let (answer, steps, records) = (outcome.answer, number(0), number(4));
     let mut text = format!("answer {answer} steps {steps} records {records}\n");
     if answer == answer::RESULT {
-        let host = Host::read(&outcome.nodes, &outcome.edges);
+        let host = Host::read(layout, &outcome.nodes, &outcome.edges);
         text.push_str(&graph(&host.expect("a result keeps the layout")));
     }
     text

@@ -4,8 +4,8 @@
 //! Rules 1 to 4 are also tested on each item by itself, as soon as it is placed. A full placement is
 //! tested by all six again.
 
-use crate::calls::Exercised;
 use crate::host::{Host, Label};
+use crate::observer::{Event, Observer, Unobserved};
 use crate::tree::*;
 
 /// Slots of the left nodes in left order, then of the left edges. While it is partial, the first ones.
@@ -27,24 +27,26 @@ pub struct Match {
 
 /// The first match in document 01's order.
 pub fn first_match(rule: &Rule, host: &Host) -> Option<Match> {
-    first_match_counted(rule, host, &mut Exercised::default())
+    first_match_observed(rule, host, &mut Unobserved)
 }
 
-/// The same, counting what was exercised.
-pub fn first_match_counted(rule: &Rule, host: &Host, exercised: &mut Exercised) -> Option<Match> {
+/// The same, observed.
+pub fn first_match_observed(
+    rule: &Rule,
+    host: &Host,
+    observer: &mut dyn Observer,
+) -> Option<Match> {
     let mut search = Search {
         rule,
         host,
         node_candidates: node_candidates(rule, host),
         edge_candidates: edge_candidates(rule, host),
         placement: Placement::default(),
-        exercised,
+        observer,
     };
-    let found = search.place_nodes();
-    if found.is_some() {
-        count_matched(rule, exercised);
-    }
-    found
+    let found = search.place_nodes()?;
+    observer.sees(Event::Matched(rule));
+    Some(found)
 }
 
 struct Search<'a> {
@@ -55,7 +57,7 @@ struct Search<'a> {
     /// For each left edge and each node slot, the edges that leave it and agree by themselves.
     edge_candidates: Vec<Vec<Vec<usize>>>,
     placement: Placement,
-    exercised: &'a mut Exercised,
+    observer: &'a mut dyn Observer,
 }
 
 impl Search<'_> {
@@ -115,11 +117,12 @@ impl Search<'_> {
         }
         let values = labels_agree(rule, host, placement)?;
         if !dangling_condition(rule, host, placement) {
-            self.exercised.dangling_refusals += 1;
+            self.observer.sees(Event::Dangled);
             return None;
         }
-        count_tests(rule, host, placement, &values, self.exercised);
-        if !every_test_holds(rule, host, placement, &values) {
+        let held = which_tests_hold(rule, host, placement, &values);
+        self.observer.sees(Event::Tested(&rule.tests, &held));
+        if held.contains(&false) {
             return None;
         }
         Some(Match {
@@ -268,7 +271,7 @@ fn element_agrees(element: &Element, atoms: &[i32], values: &mut Assignment) -> 
             match value {
                 Some(earlier) => earlier.atoms() == atoms,
                 None => {
-                    *value = Label::of(atoms);
+                    *value = Some(Label::of(atoms));
                     true
                 }
             }
@@ -296,12 +299,23 @@ pub fn every_test_holds(
     placement: &Placement,
     values: &Assignment,
 ) -> bool {
-    let mut tests = rule.tests.iter();
-    tests.all(|test| test_holds(test, host, placement, values))
+    !which_tests_hold(rule, host, placement, values).contains(&false)
+}
+
+fn which_tests_hold(
+    rule: &Rule,
+    host: &Host,
+    placement: &Placement,
+    values: &Assignment,
+) -> Vec<bool> {
+    let tests = rule.tests.iter();
+    tests
+        .map(|test| test_holds(test, host, placement, values))
+        .collect()
 }
 
 /// Whether one test holds, its negation included.
-pub fn test_holds(test: &Test, host: &Host, placement: &Placement, values: &Assignment) -> bool {
+fn test_holds(test: &Test, host: &Host, placement: &Placement, values: &Assignment) -> bool {
     let image = |node: u8| placement.nodes[usize::from(node)];
     let holds = match test.kind {
         TestKind::Edge(a, b) => an_edge_runs(host, image(a), image(b)),
@@ -345,33 +359,9 @@ pub fn operand(operand: &Operand, values: &Assignment) -> i32 {
     match operand {
         Operand::Constant(value) => *value,
         Operand::Variable(number) => {
-            let value = values[usize::from(*number)].expect("a variable that occurs on the left");
+            let value = &values[usize::from(*number)];
+            let value = value.as_ref().expect("a variable that occurs on the left");
             value.atoms()[0]
         }
-    }
-}
-
-fn count_matched(rule: &Rule, exercised: &mut Exercised) {
-    let any_nodes = rule.left.nodes.iter().filter(|n| n.mark == mark::ANY);
-    let any_edges = rule.left.edges.iter().filter(|e| e.mark == mark::ANY);
-    let roots = rule.left.nodes.iter().filter(|n| n.root);
-    exercised.any_marks_matched += (any_nodes.count() + any_edges.count()) as u64;
-    exercised.roots_matched += roots.count() as u64;
-}
-
-fn count_tests(
-    rule: &Rule,
-    host: &Host,
-    placement: &Placement,
-    values: &Assignment,
-    exercised: &mut Exercised,
-) {
-    for test in &rule.tests {
-        let counts = match test_holds(test, host, placement, values) {
-            true => &mut exercised.tests_true,
-            false => &mut exercised.tests_false,
-        };
-        *counts.of(&test.kind) += 1;
-        exercised.negated_tests += u64::from(test.negated);
     }
 }

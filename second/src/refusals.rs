@@ -12,43 +12,25 @@ mod runner;
 mod tables;
 mod undo;
 
-use crate::calls::{self, Outcome};
+use crate::calls;
 use crate::encode::{self, RunnerInput};
-use crate::host::limit;
+use crate::layout::{place, Layout};
 use crate::listing::INPUT_BYTES;
 use crate::tree::{self, mark, Command, Program};
 
+pub use crate::calls::{RunCall, UndoCall};
 pub use runner::of_runner;
 pub use undo::{of_undo, undo_refused_for};
 
-/// What the call run is given.
-#[derive(Clone, Debug, PartialEq, Eq)]
-pub struct RunCall {
-    pub nodes: Vec<u8>,
-    pub edges: Vec<u8>,
-    pub journal: Vec<u8>,
-    pub program: Vec<u8>,
-    pub fuel: u32,
-    pub report: Vec<u8>,
-}
+/// The layout of the buffers.
+const LAYOUT: &Layout = &Layout::BASE;
 
 impl RunCall {
-    pub fn outcome(&self) -> Outcome {
-        calls::run(
-            &self.nodes,
-            &self.edges,
-            &self.journal,
-            &self.program,
-            self.fuel,
-            &self.report,
-        )
-    }
-
     /// The runner input that leads to this call, where one does: the runner's report has 8 bytes, its
     /// journal is as many records as it was told, and its fields are short enough for an input.
     pub fn runner_input(&self) -> Option<RunnerInput> {
-        let records = self.journal.len() / limit::RECORD;
-        let whole = self.journal.len() % limit::RECORD == 0 && records <= limit::RECORDS;
+        let records = self.journal.len() / LAYOUT.record_length();
+        let whole = LAYOUT.is_journal(self.journal.len());
         let bytes = self.nodes.len() + self.edges.len() + self.program.len() + RUNNER_FRAME;
         if self.report.len() != calls::REPORT_BYTES || !whole || bytes > INPUT_BYTES {
             return None;
@@ -65,28 +47,6 @@ impl RunCall {
 
 /// The bytes of a runner input whose tables and program are empty.
 const RUNNER_FRAME: usize = 5 * 3 + 2 + 4;
-
-/// What the call undo is given.
-#[derive(Clone, Debug, PartialEq, Eq)]
-pub struct UndoCall {
-    pub nodes: Vec<u8>,
-    pub edges: Vec<u8>,
-    pub journal: Vec<u8>,
-    pub count: u32,
-    pub report: Vec<u8>,
-}
-
-impl UndoCall {
-    pub fn outcome(&self) -> Outcome {
-        calls::undo(
-            &self.nodes,
-            &self.edges,
-            &self.journal,
-            self.count,
-            &self.report,
-        )
-    }
-}
 
 /// A refused input and an accepted one, which differ in one clause.
 #[derive(Clone, Debug)]
@@ -126,7 +86,7 @@ pub fn run_refused_for(numbers: &[u32]) -> RunCall {
         call.report.pop();
     }
     if given(15) {
-        call.nodes[0] = 2;
+        call.nodes[place::STATE] = 2;
     }
     if given(10) {
         call.nodes.push(0);
@@ -170,17 +130,17 @@ fn accepted_run() -> RunCall {
     RunCall {
         nodes: [
             encode::node_slot(mark::NONE, false, &[]),
-            [0; limit::NODE_SLOT],
+            [0; LAYOUT.node_length()],
             encode::node_slot(mark::GREY, true, &[7, -7]),
         ]
         .concat(),
         edges: [
             encode::edge_slot(mark::NONE, 0, 2, &[]),
-            [0; limit::EDGE_SLOT],
+            [0; LAYOUT.edge_length()],
             encode::edge_slot(mark::DASHED, 2, 2, &[1, 2, 3]),
         ]
         .concat(),
-        journal: vec![UNTOUCHED; 4 * limit::RECORD],
+        journal: vec![UNTOUCHED; 4 * LAYOUT.record_length()],
         program: programs::program(Command::Skip),
         fuel: 100,
         report: vec![UNTOUCHED; calls::REPORT_BYTES],

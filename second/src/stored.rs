@@ -5,13 +5,18 @@ mod matches;
 
 use std::fmt::Write;
 
+use crate::answer;
 use crate::calls::{self, Outcome};
 use crate::corpus;
 use crate::encode::{self, field};
+use crate::layout::Layout;
 use crate::listing;
 use crate::refusals::{self, RunCall, UndoCall};
 
 pub use matches::{match_bench, match_cases, seen as seen_by_matches};
+
+/// The layout of the buffers.
+const LAYOUT: &Layout = &Layout::BASE;
 
 /// What a test program reads and what it must write.
 pub struct Stored {
@@ -81,7 +86,7 @@ pub fn undo_cases() -> Stored {
 fn undone_after(run: &RunCall) -> Vec<UndoCall> {
     let left = run.outcome();
     let records = records_of(&left);
-    if left.answer != calls::answer::RESULT || records == 0 {
+    if left.answer != answer::RESULT || records == 0 {
         return Vec::new();
     }
     let undo = |count: u32| UndoCall {
@@ -142,8 +147,8 @@ pub fn refusal_cases() -> Stored {
 /// The number that refuses a run, 0 where it starts.
 fn refused_by(call: &RunCall) -> u32 {
     match call.outcome().answer {
-        answer if answer < calls::answer::REPORT => 0,
-        answer => answer,
+        number if number < answer::REPORT => 0,
+        number => number,
     }
 }
 
@@ -162,7 +167,7 @@ fn drawn_calls() -> Vec<RunCall> {
         .map(|input: encode::RunnerInput| RunCall {
             nodes: input.nodes,
             edges: input.edges,
-            journal: vec![1; usize::from(input.records) * crate::host::limit::RECORD],
+            journal: vec![1; usize::from(input.records) * LAYOUT.record_length()],
             program: input.program,
             fuel: input.fuel,
             report: vec![7; calls::REPORT_BYTES],

@@ -3,10 +3,12 @@
 mod common;
 
 use common::{reported, Draft, Sample};
-use second::calls::{run, undo, Exercised, Outcome};
+use second::calls::{run, undo, Outcome};
 use second::corpus;
 use second::decode;
+use second::exercised::Exercised;
 use second::host::Host;
+use second::layout::Layout;
 use second::listing::read_input;
 use second::matching::{self, first_match, Match, Placement};
 use second::random::Random;
@@ -179,9 +181,9 @@ fn a_result_keeps_the_layout_and_its_journal_ends_in_zeros() {
         if outcome.answer != 0 {
             continue;
         }
-        let host = Host::read(&outcome.nodes, &outcome.edges).expect("the layout");
-        assert_eq!(host.node_table(), outcome.nodes);
-        assert_eq!(host.edge_table(), outcome.edges);
+        let host = Host::read(&Layout::BASE, &outcome.nodes, &outcome.edges).expect("the layout");
+        assert_eq!(host.node_table(&Layout::BASE), outcome.nodes);
+        assert_eq!(host.edge_table(&Layout::BASE), outcome.edges);
         let (_, records) = reported(&outcome);
         assert!(records as usize <= sample.records);
         let (counted, behind) = outcome.journal.split_at(records as usize * 28);

@@ -8,6 +8,7 @@ use second::calls::Outcome;
 use second::decode;
 use second::encode;
 use second::host::Host;
+use second::layout::Layout;
 use second::listing::listing;
 use second::references;
 use second::refusals::{
@@ -177,7 +178,7 @@ fn a_broken_reference_or_layout_has_a_reason() {
     for it in of_run() {
         match it.answer {
             15 => {
-                let host = Host::read(&it.refused.nodes, &it.refused.edges);
+                let host = Host::read(&Layout::BASE, &it.refused.nodes, &it.refused.edges);
                 assert!(!host.expect_err(&it.name).is_empty());
             }
             17 => {

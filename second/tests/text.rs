@@ -1,5 +1,7 @@
 //! The text tools, by what they make of texts and images.
 
+#[path = "text/changed_texts.rs"]
+mod changed_texts;
 #[path = "text/command_line.rs"]
 mod command_line;
 #[path = "text/commands.rs"]
@@ -12,8 +14,12 @@ mod hosts;
 mod images;
 #[path = "text/legal_programs.rs"]
 mod legal_programs;
-#[path = "text/refusals.rs"]
-mod refusals;
+#[path = "text/refused_conditions.rs"]
+mod refused_conditions;
+#[path = "text/refused_programs.rs"]
+mod refused_programs;
+#[path = "text/refused_rules.rs"]
+mod refused_rules;
 #[path = "text/round_trips.rs"]
 mod round_trips;
 #[path = "text/rules.rs"]

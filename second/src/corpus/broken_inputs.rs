@@ -2,8 +2,11 @@
 //! 13 and 15.
 
 use super::hosts::Host;
+use super::LAYOUT;
 use crate::encode::{field, runner_input, RunnerInput};
+use crate::layout::{place, ATOM_BYTES};
 use crate::random::Random;
+use std::ops::Range;
 
 /// An input that isn't five fields in order, or whose journal or fuel field isn't what it should be.
 pub fn refused(random: &mut Random, input: &RunnerInput) -> Vec<u8> {
@@ -28,8 +31,9 @@ pub fn refused(random: &mut Random, input: &RunnerInput) -> Vec<u8> {
 }
 
 fn too_many_records(random: &mut Random) -> u16 {
-    let any = random.between(1026, 0xFFFE) as u16;
-    random.pick(&[1025, 0x0500, 0xFFFF, any])
+    let least = LAYOUT.most_records as u16 + 1;
+    let any = random.between(usize::from(least) + 1, 0xFFFE) as u16;
+    random.pick(&[least, 0x0500, 0xFFFF, any])
 }
 
 fn parts(input: &RunnerInput) -> Vec<Vec<u8>> {
@@ -87,16 +91,19 @@ pub fn too_much_fuel(random: &mut Random) -> u32 {
     ])
 }
 
+/// Lengths that no label has.
+const TOO_LONG: [u8; 3] = [LAYOUT.atoms as u8 + 1, LAYOUT.atoms as u8 + 2, 0xFF];
+
 /// Answer 15: one slot of a table breaks the layout.
 pub fn break_layout(random: &mut Random, host: &Host, input: &mut RunnerInput) {
     let edges = host.live_edges();
     let nodes = host.live_nodes();
     if !edges.is_empty() && random.chance(55) {
-        let slot = random.pick(&edges);
-        break_edge(random, host, &mut input.edges[slot * 24..][..24]);
+        let (slot, length) = (random.pick(&edges), LAYOUT.edge_length());
+        break_edge(random, host, &mut input.edges[slot * length..][..length]);
     } else if !nodes.is_empty() && random.chance(80) {
-        let slot = random.pick(&nodes);
-        break_node(random, &mut input.nodes[slot * 20..][..20]);
+        let (slot, length) = (random.pick(&nodes), LAYOUT.node_length());
+        break_node(random, &mut input.nodes[slot * length..][..length]);
     } else {
         break_free_slot(random, host, input);
     }
@@ -104,26 +111,34 @@ pub fn break_layout(random: &mut Random, host: &Host, input: &mut RunnerInput) {
 
 fn break_node(random: &mut Random, slot: &mut [u8]) {
     match random.below(6) {
-        0 => slot[0] = random.pick(&[2, 3, 0xFF]),
-        1 => slot[1] = random.pick(&[5, 6, 7, 0xFF]),
-        2 => slot[2] = random.pick(&[2, 0xFF]),
-        3 => slot[3] = random.pick(&[5, 6, 0xFF]),
-        4 => slot[0] = 0,
-        _ => break_unused_atom(random, slot, 4),
+        0 => slot[place::STATE] = random.pick(&[2, 3, 0xFF]),
+        1 => slot[place::MARK] = random.pick(&[5, 6, 7, 0xFF]),
+        2 => slot[place::ROOT] = random.pick(&[2, 0xFF]),
+        3 => slot[place::LABEL_LENGTH] = random.pick(&TOO_LONG),
+        4 => slot[place::STATE] = 0,
+        _ => break_unused_atom(random, slot, LAYOUT.node_atoms()),
     }
 }
 
 fn break_edge(random: &mut Random, host: &Host, slot: &mut [u8]) {
     let slots = host.nodes.len() as u16;
     match random.below(8) {
-        0 => slot[0] = random.pick(&[2, 3, 0xFF]),
-        1 => slot[1] = random.pick(&[4, 6, 7, 0xFF]),
-        2 => slot[2] = random.pick(&[1, 2, 0xFF]),
-        3 => slot[3] = random.pick(&[5, 6, 0xFF]),
-        4 => slot[4..6].copy_from_slice(&random.pick(&[slots, slots + 1, 0xFFFF]).to_be_bytes()),
-        5 => slot[6..8].copy_from_slice(&random.pick(&[slots, slots + 1, 0x0100]).to_be_bytes()),
+        0 => slot[place::STATE] = random.pick(&[2, 3, 0xFF]),
+        1 => slot[place::MARK] = random.pick(&[4, 6, 7, 0xFF]),
+        2 => slot[place::ZERO] = random.pick(&[1, 2, 0xFF]),
+        3 => slot[place::LABEL_LENGTH] = random.pick(&TOO_LONG),
+        4 => aim(
+            slot,
+            LAYOUT.edge_source(),
+            random.pick(&[slots, slots + 1, 0xFFFF]),
+        ),
+        5 => aim(
+            slot,
+            LAYOUT.edge_target(),
+            random.pick(&[slots, slots + 1, 0x0100]),
+        ),
         6 => aim_at_free(random, host, slot),
-        _ => break_unused_atom(random, slot, 8),
+        _ => break_unused_atom(random, slot, LAYOUT.edge_atoms()),
     }
 }
 
@@ -133,17 +148,25 @@ fn aim_at_free(random: &mut Random, host: &Host, slot: &mut [u8]) {
     let free = (0..nodes.len())
         .find(|node| nodes[*node].is_none())
         .unwrap_or(nodes.len());
-    let end = random.pick(&[4, 6]);
-    slot[end..end + 2].copy_from_slice(&(free as u16).to_be_bytes());
+    let end = match random.pick(&[true, false]) {
+        true => LAYOUT.edge_source(),
+        false => LAYOUT.edge_target(),
+    };
+    aim(slot, end, free as u16);
 }
 
-/// A nonzero byte behind the label's atoms, or a label that is too long if all four are used.
+fn aim(slot: &mut [u8], end: Range<usize>, node: u16) {
+    slot[end].copy_from_slice(&LAYOUT.slot_number(node));
+}
+
+/// A nonzero byte behind the label's atoms, which start at this place, or a label that is too long if all are used.
 fn break_unused_atom(random: &mut Random, slot: &mut [u8], atoms: usize) {
-    let used = slot[3] as usize;
-    if used >= 4 {
-        slot[3] = 5;
+    let used = usize::from(slot[place::LABEL_LENGTH]);
+    if used >= LAYOUT.atoms {
+        slot[place::LABEL_LENGTH] = TOO_LONG[0];
     } else {
-        slot[random.between(atoms + 4 * used, atoms + 15)] = random.pick(&[1, 0x80, 0xFF]);
+        let nonzero = random.pick(&[1, 0x80, 0xFF]);
+        slot[random.between(atoms + ATOM_BYTES * used, slot.len() - 1)] = nonzero;
     }
 }
 
@@ -151,11 +174,14 @@ fn break_unused_atom(random: &mut Random, slot: &mut [u8], atoms: usize) {
 fn break_free_slot(random: &mut Random, host: &Host, input: &mut RunnerInput) {
     let nodes = &host.nodes;
     match (0..nodes.len()).rev().find(|node| nodes[*node].is_none()) {
-        Some(slot) => input.nodes[slot * 20 + random.between(1, 19)] = 1,
+        Some(slot) => {
+            let length = LAYOUT.node_length();
+            input.nodes[slot * length + random.between(1, length - 1)] = 1;
+        }
         None => {
-            input.edges.extend([0; 24]);
-            let last = input.edges.len() - 24;
-            input.edges[last + random.between(1, 23)] = 1;
+            let (last, length) = (input.edges.len(), LAYOUT.edge_length());
+            input.edges.extend(vec![0; length]);
+            input.edges[last + random.between(1, length - 1)] = 1;
         }
     }
 }

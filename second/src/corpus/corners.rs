@@ -1,6 +1,7 @@
 //! Inputs that random ones meet seldom: several reasons to end a run at once, the last item of lists of the greatest
 //! length, and labels that differ in one atom.
 
+use super::LAYOUT;
 use crate::encode::{self, node_slot, RunnerInput};
 use crate::tree::*;
 
@@ -51,16 +52,22 @@ fn every_reasons() -> Vec<Reasons> {
     every
 }
 
-/// A rule that labels a node, makes a new one and an edge between them, inside a try.
-fn input_of(reasons: Reasons) -> RunnerInput {
+/// A right label that can't be held for this reason. The list variable 0 stands for three atoms.
+fn right_label(reason: Option<Label>) -> Vec<Element> {
     let (least, most) = (Operand::Constant(i32::MIN), Operand::Constant(i32::MAX));
     let list = Element::Variable(0);
-    let label = match reasons.label {
+    match reason {
         None => vec![list],
         Some(Label::Over) => vec![Element::Sum(most, Operand::Constant(1))],
         Some(Label::Under) => vec![Element::Difference(least, Operand::Constant(1))],
         Some(Label::Long) => vec![list, list],
-    };
+    }
+}
+
+/// A rule that labels a node, makes a new one and an edge between them, inside a try.
+fn input_of(reasons: Reasons) -> RunnerInput {
+    let list = Element::Variable(0);
+    let label = right_label(reasons.label);
     let edge = RuleEdge {
         mark: mark::DASHED,
         source: 1,
@@ -83,10 +90,11 @@ fn input_of(reasons: Reasons) -> RunnerInput {
     let skip = || Box::new(Command::Skip);
     let main = Command::Try(Box::new(Command::RuleSet(vec![0])), skip(), skip());
     let mut nodes = node_slot(mark::NONE, false, &[1, 2, 3]).to_vec();
-    nodes.extend(vec![0; if reasons.nodes { 0 } else { 20 }]);
+    let one_slot = |lacking: bool, length: usize| if lacking { 0 } else { length };
+    nodes.extend(vec![0; one_slot(reasons.nodes, LAYOUT.node_length())]);
     RunnerInput {
         nodes,
-        edges: vec![0; if reasons.edges { 0 } else { 24 }],
+        edges: vec![0; one_slot(reasons.edges, LAYOUT.edge_length())],
         records: if reasons.journal { 2 } else { 3 },
         fuel: 10,
         program: encode::program(&Program {

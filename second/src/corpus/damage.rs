@@ -3,8 +3,8 @@
 use super::broken_inputs::*;
 use super::broken_programs::*;
 use super::drafts::Draft;
+use super::LAYOUT;
 use crate::encode::runner_input;
-use crate::host::limit::{EDGE_SLOT, NODE_SLOT};
 use crate::random::Random;
 
 /// What is damaged, in the order in which two of them are done.
@@ -54,8 +54,8 @@ pub fn damaged(random: &mut Random, mut draft: Draft) -> Vec<u8> {
             Kind::Layout => break_layout(random, &draft.host, &mut input),
             Kind::Bytes => mangle(random, &mut input.program),
             Kind::Length => make_too_long(random, &mut input.program),
-            Kind::Nodes => odd_length(random, &mut input.nodes, NODE_SLOT),
-            Kind::Edges => odd_length(random, &mut input.edges, EDGE_SLOT),
+            Kind::Nodes => odd_length(random, &mut input.nodes, LAYOUT.node_length()),
+            Kind::Edges => odd_length(random, &mut input.edges, LAYOUT.edge_length()),
             Kind::Fuel => input.fuel = too_much_fuel(random),
             _ => {}
         }

@@ -1,6 +1,7 @@
 //! Random host graphs with free slots between the live ones, and what can be asked of them.
 
 use super::palette::Palette;
+use super::LAYOUT;
 use crate::encode::{edge_slot, node_slot};
 use crate::random::Random;
 
@@ -145,7 +146,7 @@ impl Host {
     pub fn node_table(&self) -> Vec<u8> {
         let slot = |node: &Option<Node>| match node {
             Some(node) => node_slot(node.mark, node.root, &node.label),
-            None => [0; 20],
+            None => [0; LAYOUT.node_length()],
         };
         self.nodes.iter().flat_map(slot).collect()
     }
@@ -158,7 +159,7 @@ impl Host {
                 edge.target as u16,
                 &edge.label,
             ),
-            None => [0; 24],
+            None => [0; LAYOUT.edge_length()],
         };
         self.edges.iter().flat_map(slot).collect()
     }

@@ -5,12 +5,17 @@ use super::drafts::{Draft, Extent};
 use super::fixed::MOST_BYTES;
 use super::hosts::{new_edge, Host, Size};
 use super::palette::Palette;
-use crate::calls::answer;
+use super::LAYOUT;
+use crate::answer;
 use crate::encode::{self, runner_input, RunnerInput};
-use crate::host::limit::{EDGE_SLOTS, NODE_SLOT, NODE_SLOTS};
 use crate::listing::run_input;
 use crate::random::Random;
 use crate::tree::*;
+
+/// The slots of the greatest tables.
+const NODE_SLOTS: usize = LAYOUT.most_nodes;
+const EDGE_SLOTS: usize = LAYOUT.most_edges;
+const RECORDS: u16 = LAYOUT.most_records as u16;
 
 /// How many kinds of large images there are.
 pub const KINDS: u64 = 8;
@@ -124,7 +129,7 @@ fn over(random: &mut Random, palette: &Palette, host: Host) -> RunnerInput {
     };
     let draft = Draft::over(random, palette, host, extent);
     Draft {
-        records: 1024,
+        records: RECORDS,
         ..draft
     }
     .input()
@@ -178,7 +183,7 @@ fn root_on_a_path() -> RunnerInput {
     RunnerInput {
         nodes: (0..=LAST).flat_map(node).collect(),
         edges: (0..LAST).flat_map(edge).collect(),
-        records: 1024,
+        records: RECORDS,
         fuel: 1000,
         program: encode::program(&Program {
             rules: vec![one_step()],
@@ -238,9 +243,9 @@ fn filled_up(random: &mut Random) -> RunnerInput {
         tests: vec![],
     };
     RunnerInput {
-        nodes: vec![0; NODE_SLOTS * NODE_SLOT],
+        nodes: vec![0; NODE_SLOTS * LAYOUT.node_length()],
         edges: vec![],
-        records: random.pick(&[511, 512, 1024]),
+        records: random.pick(&[511, 512, RECORDS]),
         fuel: 1000,
         program: encode::program(&Program {
             rules: vec![rule],

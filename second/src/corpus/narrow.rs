@@ -1,19 +1,20 @@
 //! Room and fuel cut to what a run needs, or to one less: the bounds at which the answer changes.
 
+use super::LAYOUT;
 use crate::encode::RunnerInput;
-use crate::host::limit;
+use crate::layout::place;
 use crate::listing::run_input;
 use crate::random::Random;
 
 pub fn narrow(random: &mut Random, input: &mut RunnerInput) {
-    input.records = limit::RECORDS as u16;
+    input.records = LAYOUT.most_records as u16;
     let outcome = run_input(input);
     let less = random.pick(&[0, 0, 0, 1, 2]);
     match random.weighted(&[28, 18, 27, 27]) {
         0 => input.fuel = reported(&outcome.report[..4]).saturating_sub(less),
         1 => input.records = reported(&outcome.report[4..]).saturating_sub(less) as u16,
-        2 => cut(&mut input.nodes, &outcome.nodes, limit::NODE_SLOT, less),
-        _ => cut(&mut input.edges, &outcome.edges, limit::EDGE_SLOT, less),
+        2 => cut(&mut input.nodes, &outcome.nodes, LAYOUT.node_length(), less),
+        _ => cut(&mut input.edges, &outcome.edges, LAYOUT.edge_length(), less),
     }
 }
 
@@ -30,6 +31,8 @@ fn cut(table: &mut Vec<u8>, after: &[u8], slot: usize, less: u32) {
 
 /// The number of slots up to the last live one.
 fn slots_used(table: &[u8], slot: usize) -> usize {
-    let live = table.chunks(slot).rposition(|bytes| bytes[0] == 1);
+    let live = table
+        .chunks(slot)
+        .rposition(|bytes| bytes[place::STATE] == 1);
     live.map_or(0, |last| last + 1)
 }

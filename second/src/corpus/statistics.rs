@@ -1,9 +1,9 @@
 //! What running a corpus exercises: how often each answer occurs, and the counters of the second interpreter.
 
-use crate::calls::{run_counted, Exercised, TestCounts, REPORT_BYTES};
+use super::LAYOUT;
 use crate::encode::RunnerInput;
-use crate::host::limit;
-use crate::listing::read_input;
+use crate::exercised::{Exercised, TestCounts};
+use crate::listing::{call_of, read_input};
 use std::collections::BTreeMap;
 use std::fmt;
 
@@ -50,15 +50,7 @@ impl Statistics {
 
     fn add_run(&mut self, input: &RunnerInput) {
         let mut exercised = Exercised::default();
-        let outcome = run_counted(
-            &input.nodes,
-            &input.edges,
-            &vec![0; usize::from(input.records) * limit::RECORD],
-            &input.program,
-            input.fuel,
-            &[0; REPORT_BYTES],
-            &mut exercised,
-        );
+        let outcome = call_of(LAYOUT, input).outcome_at(LAYOUT, &mut exercised);
         *self.answers.entry(outcome.answer).or_default() += 1;
         self.started += u64::from(outcome.answer < FIRST_REFUSAL);
         self.add_counters(&exercised);

@@ -3,6 +3,7 @@
 
 use super::lefts::{Left, Value};
 use super::palette::Palette;
+use super::LAYOUT;
 use crate::random::Random;
 use crate::tree::*;
 
@@ -22,7 +23,7 @@ pub fn atoms(label: &[Element], values: &[Value]) -> Option<Vec<i32>> {
             }
         }
     }
-    (atoms.len() <= limit::ELEMENTS).then_some(atoms)
+    LAYOUT.holds(atoms.len()).then_some(atoms)
 }
 
 /// The number of an operand. Operands name int variables alone.

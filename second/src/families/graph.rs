@@ -1,7 +1,7 @@
 //! Graphs of several families: shapes by rule, random ones from a seed, changes of them, and their tables.
 
+use super::LAYOUT;
 use crate::encode;
-use crate::host::limit;
 use crate::random::Random;
 use crate::tree::mark;
 
@@ -320,7 +320,7 @@ impl Graph {
     /// Labels of 0 to 4 atoms on nodes and edges.
     pub fn labelled(&self, seed: u64) -> Graph {
         let mut random = Random::new(seed);
-        let mut label = || -> Vec<i32> { (0..random.below(5)).map(|_| random.next() as i32 >> 24).collect() };
+        let mut label = || -> Vec<i32> { (0..random.below(LAYOUT.atoms + 1)).map(|_| random.next() as i32 >> 24).collect() };
         let mut graph = self.clone();
         for node in &mut graph.nodes {
             node.label = label();
@@ -347,13 +347,13 @@ impl Graph {
 impl Graph {
     pub fn node_table(&self, free_slots: usize) -> Vec<u8> {
         let slots = self.nodes.iter().map(|node| encode::node_slot(node.mark, node.root, &node.label));
-        slots.chain(vec![[0; limit::NODE_SLOT]; free_slots]).flatten().collect()
+        slots.chain(vec![[0; LAYOUT.node_length()]; free_slots]).flatten().collect()
     }
 
     pub fn edge_table(&self, free_slots: usize) -> Vec<u8> {
         let slots = self.edges.iter().map(|edge| {
             encode::edge_slot(edge.mark, edge.source as u16, edge.target as u16, &edge.label)
         });
-        slots.chain(vec![[0; limit::EDGE_SLOT]; free_slots]).flatten().collect()
+        slots.chain(vec![[0; LAYOUT.edge_length()]; free_slots]).flatten().collect()
     }
 }

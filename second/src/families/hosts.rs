@@ -1,9 +1,8 @@
 //! The hosts of each published program: some for each answer, from several families.
 
 use super::graph::Graph;
-use super::{published, ProgramRun, Published};
-use crate::calls::answer;
-use crate::host::limit;
+use super::{published, ProgramRun, Published, LAYOUT};
+use crate::answer;
 
 /// A program's runs in their order.
 pub struct Runs {
@@ -48,7 +47,7 @@ pub fn transitive_closure() -> Runs {
     for length in [2, 3, 7, 12] {
         runs.add(format!("list of {length}"), Graph::list(length));
     }
-    runs.again("no edge slot free", answer::NO_ROOM_EDGES, |run| run.edges.truncate(11 * limit::EDGE_SLOT));
+    runs.again("no edge slot free", answer::NO_ROOM_EDGES, |run| run.edges.truncate(11 * LAYOUT.edge_length()));
     runs.add("shuffled list of 10", Graph::list(10).shuffled(2));
     runs.add("list of 17", Graph::list(17));
     runs.add_too_large("list of 18", Graph::list(18));
@@ -266,7 +265,7 @@ pub fn topological_sorting() -> Runs {
     runs.add("empty", Graph::empty());
     runs.add("one node", Graph::discrete(1));
     runs.add("list of 2", Graph::list(2));
-    runs.again("no node slot free", answer::NO_ROOM_NODES, |run| run.nodes.truncate(2 * limit::NODE_SLOT));
+    runs.again("no node slot free", answer::NO_ROOM_NODES, |run| run.nodes.truncate(2 * LAYOUT.node_length()));
     runs.add("list of 25", Graph::list(25));
     runs.add("reversed list of 12", Graph::list(12).reversed());
     runs.add("shuffled list of 16", Graph::list(16).shuffled(1));
@@ -306,7 +305,7 @@ pub fn minimum_spanning_tree() -> Runs {
     runs.add("one node", Graph::discrete(1));
     runs.add("one node with a loop", Graph::cycle(1).weighted(1, 1, 9));
     runs.add("one edge", Graph::list(2).weighted(1, 1, 9));
-    runs.again("one node slot free", answer::NO_ROOM_NODES, |run| run.nodes.truncate(3 * limit::NODE_SLOT));
+    runs.again("one node slot free", answer::NO_ROOM_NODES, |run| run.nodes.truncate(3 * LAYOUT.node_length()));
     runs.add("list of 12", Graph::list(12).weighted(2, 1, 1000));
     runs.add("cycle of 3 with equal weights", Graph::cycle(3).weighted(3, 7, 7));
     runs.add("cycle of 10", Graph::cycle(10).weighted(4, 1, 1000));

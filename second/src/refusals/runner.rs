@@ -1,9 +1,11 @@
 //! Inputs that the runner refuses.
 
-use super::{accepted_run, Refusal};
+use super::{accepted_run, Refusal, LAYOUT};
 use crate::encode::{self, field};
 use crate::listing::INPUT_BYTES;
 use crate::tree::Command;
+
+const MOST_RECORDS: u16 = LAYOUT.most_records as u16;
 
 /// Inputs on which the runner prints `input refused`, each beside one that it reads. No call is made, so the
 /// answer has no meaning here.
@@ -35,7 +37,7 @@ fn runner_fields() -> Vec<Vec<u8>> {
     vec![
         field(0x01, &call.nodes),
         field(0x02, &call.edges),
-        field(0x03, &1024u16.to_be_bytes()),
+        field(0x03, &MOST_RECORDS.to_be_bytes()),
         field(0x04, &call.fuel.to_be_bytes()),
         field(0x05, &encode::command(&Command::Skip)),
     ]
@@ -87,7 +89,7 @@ fn wrong_numbers() -> Vec<Refusal<Vec<u8>>> {
             with(|f| f[3] = field(0x04, &vec![0; length])),
         ));
     }
-    for records in [1025u16, u16::MAX] {
+    for records in [MOST_RECORDS + 1, u16::MAX] {
         let name = format!("{records} records");
         list.push(refused(
             name,

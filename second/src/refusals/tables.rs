@@ -1,7 +1,7 @@
 //! The refusals 9 to 13 and 15: lengths, fuel, and the layout of the host tables.
 
-use super::{accepted_run, refusal, run_with, Refusal, RunCall, UNTOUCHED};
-use crate::host::limit;
+use super::{accepted_run, refusal, run_with, Refusal, RunCall, LAYOUT, UNTOUCHED};
+use crate::layout::{place, ATOM_BYTES};
 use crate::tree::mark;
 
 /// The numbers 9 to 12.
@@ -15,31 +15,63 @@ pub(super) fn lengths() -> Vec<Refusal<RunCall>> {
             run_with(|call| call.report = vec![UNTOUCHED; length]),
         ));
     }
-    let tables: [(u32, &str, usize, usize, Buffer); 3] = [
-        (10, "node table", 20, 512, |call| &mut call.nodes),
-        (11, "edge table", 24, 1024, |call| &mut call.edges),
-        (12, "journal", 28, 1024, |call| &mut call.journal),
-    ];
-    for (answer, words, slot, most, buffer) in tables {
-        for length in [slot - 1, slot + 1, 1] {
-            refusals.push(refusal(
-                &format!("{words} of {length} bytes"),
-                answer,
-                run_with(|call| free_graph(call, buffer, slot)),
-                run_with(|call| free_graph(call, buffer, length)),
-            ));
-        }
-        refusals.push(refusal(
-            &format!("{words} of {} slots", most + 1),
-            answer,
-            run_with(|call| free_graph(call, buffer, most * slot)),
-            run_with(|call| free_graph(call, buffer, (most + 1) * slot)),
-        ));
-    }
+    refusals.extend(tables().iter().flat_map(lengths_of));
     refusals
 }
 
+/// A lent table.
+struct Table {
+    words: &'static str,
+    /// The number that refuses its length.
+    answer: u32,
+    slot: usize,
+    most: usize,
+    buffer: Buffer,
+}
+
 type Buffer = fn(&mut RunCall) -> &mut Vec<u8>;
+
+fn tables() -> [Table; 3] {
+    [
+        Table {
+            words: "node table",
+            answer: 10,
+            slot: LAYOUT.node_length(),
+            most: LAYOUT.most_nodes,
+            buffer: |call| &mut call.nodes,
+        },
+        Table {
+            words: "edge table",
+            answer: 11,
+            slot: LAYOUT.edge_length(),
+            most: LAYOUT.most_edges,
+            buffer: |call| &mut call.edges,
+        },
+        Table {
+            words: "journal",
+            answer: 12,
+            slot: LAYOUT.record_length(),
+            most: LAYOUT.most_records,
+            buffer: |call| &mut call.journal,
+        },
+    ]
+}
+
+/// Lengths beside one slot, and one slot too many.
+fn lengths_of(table: &Table) -> Vec<Refusal<RunCall>> {
+    let (slot, most) = (table.slot, table.most);
+    let of_bytes = |length: usize| run_with(|call| free_graph(call, table.buffer, length));
+    let refused = |name: String, accepted: usize, length: usize| {
+        let name = format!("{} of {name}", table.words);
+        refusal(&name, table.answer, of_bytes(accepted), of_bytes(length))
+    };
+    let mut refusals: Vec<Refusal<RunCall>> = [slot - 1, slot + 1, 1]
+        .map(|length| refused(format!("{length} bytes"), slot, length))
+        .into();
+    let slots = format!("{} slots", most + 1);
+    refusals.push(refused(slots, most * slot, (most + 1) * slot));
+    refusals
+}
 
 /// No live slot anywhere, and so many zeros in this buffer.
 fn free_graph(call: &mut RunCall, buffer: Buffer, length: usize) {
@@ -82,28 +114,41 @@ fn edge_byte(name: &str, at: usize, byte: u8) -> Refusal<RunCall> {
     broken(name, |call| call.edges[at] = byte)
 }
 
+/// The least length that no label has.
+const TOO_LONG: u8 = LAYOUT.atoms as u8 + 1;
+
 /// Slot 0 has an empty label, slot 1 is free, slot 2 has a label of two atoms.
 fn layout_of_nodes() -> Vec<Refusal<RunCall>> {
-    let (free, labelled) = (limit::NODE_SLOT, 2 * limit::NODE_SLOT);
+    let length = LAYOUT.node_length();
+    let (free, labelled) = (length, 2 * length);
+    let third_atom = labelled + LAYOUT.node_atoms() + 2 * ATOM_BYTES;
     let mut refusals = vec![
-        node_byte("node state 2", 0, 2),
-        node_byte("node state 255", 0, 255),
-        node_byte("node state 0 on a live slot", labelled, 0),
-        node_byte("dashed node", 1, mark::DASHED),
-        node_byte("node of mark any", 1, mark::ANY),
-        node_byte("node mark 255", 1, 255),
-        node_byte("node root 2", 2, 2),
-        node_byte("node root 255", 2, 255),
-        node_byte("node label of 5 atoms", 3, 5),
-        node_byte("node label of 255 atoms", 3, 255),
-        node_byte("node label of two atoms with a third", labelled + 15, 1),
-        node_byte("node label cut by an atom", labelled + 3, 1),
+        node_byte("node state 2", place::STATE, 2),
+        node_byte("node state 255", place::STATE, 255),
+        node_byte("node state 0 on a live slot", labelled + place::STATE, 0),
+        node_byte("dashed node", place::MARK, mark::DASHED),
+        node_byte("node of mark any", place::MARK, mark::ANY),
+        node_byte("node mark 255", place::MARK, 255),
+        node_byte("node root 2", place::ROOT, 2),
+        node_byte("node root 255", place::ROOT, 255),
+        node_byte(
+            "node label of an atom too many",
+            place::LABEL_LENGTH,
+            TOO_LONG,
+        ),
+        node_byte("node label of 255 atoms", place::LABEL_LENGTH, 255),
+        node_byte("node label of two atoms with a third", third_atom + 3, 1),
+        node_byte(
+            "node label cut by an atom",
+            labelled + place::LABEL_LENGTH,
+            1,
+        ),
     ];
-    for at in 1..limit::NODE_SLOT {
+    for at in 1..length {
         let name = format!("free node slot with byte {at} not zero");
         refusals.push(node_byte(&name, free + at, 1));
     }
-    for at in 4..limit::NODE_SLOT {
+    for at in LAYOUT.node_atoms()..length {
         let name = format!("empty node label with byte {at} not zero");
         refusals.push(node_byte(&name, at, 1));
     }
@@ -112,25 +157,35 @@ fn layout_of_nodes() -> Vec<Refusal<RunCall>> {
 
 /// Slot 0 has an empty label, slot 1 is free, slot 2 has a label of three atoms.
 fn layout_of_edges() -> Vec<Refusal<RunCall>> {
-    let (free, labelled) = (limit::EDGE_SLOT, 2 * limit::EDGE_SLOT);
+    let length = LAYOUT.edge_length();
+    let (free, labelled) = (length, 2 * length);
+    let fourth_atom = labelled + LAYOUT.edge_atoms() + 3 * ATOM_BYTES;
     let mut refusals = vec![
-        edge_byte("edge state 2", 0, 2),
-        edge_byte("edge state 255", 0, 255),
-        edge_byte("edge state 0 on a live slot", labelled, 0),
-        edge_byte("grey edge", 1, mark::GREY),
-        edge_byte("edge of mark any", 1, mark::ANY),
-        edge_byte("edge mark 255", 1, 255),
-        edge_byte("edge with third byte 1", 2, 1),
-        edge_byte("edge label of 5 atoms", 3, 5),
-        edge_byte("edge label of 255 atoms", 3, 255),
-        edge_byte("edge label of three atoms with a fourth", labelled + 20, 1),
-        edge_byte("edge label cut by an atom", labelled + 3, 2),
+        edge_byte("edge state 2", place::STATE, 2),
+        edge_byte("edge state 255", place::STATE, 255),
+        edge_byte("edge state 0 on a live slot", labelled + place::STATE, 0),
+        edge_byte("grey edge", place::MARK, mark::GREY),
+        edge_byte("edge of mark any", place::MARK, mark::ANY),
+        edge_byte("edge mark 255", place::MARK, 255),
+        edge_byte("edge with third byte 1", place::ZERO, 1),
+        edge_byte(
+            "edge label of an atom too many",
+            place::LABEL_LENGTH,
+            TOO_LONG,
+        ),
+        edge_byte("edge label of 255 atoms", place::LABEL_LENGTH, 255),
+        edge_byte("edge label of three atoms with a fourth", fourth_atom, 1),
+        edge_byte(
+            "edge label cut by an atom",
+            labelled + place::LABEL_LENGTH,
+            2,
+        ),
     ];
-    for at in 1..limit::EDGE_SLOT {
+    for at in 1..length {
         let name = format!("free edge slot with byte {at} not zero");
         refusals.push(edge_byte(&name, free + at, 1));
     }
-    for at in 8..limit::EDGE_SLOT {
+    for at in LAYOUT.edge_atoms()..length {
         let name = format!("empty edge label with byte {at} not zero");
         refusals.push(edge_byte(&name, at, 1));
     }
@@ -139,15 +194,16 @@ fn layout_of_edges() -> Vec<Refusal<RunCall>> {
 
 /// Edge 0 runs from node 0 to node 2; node slot 1 is free, and there are three.
 fn layout_of_ends() -> Vec<Refusal<RunCall>> {
+    let (source, target) = (LAYOUT.edge_source(), LAYOUT.edge_target());
     vec![
-        edge_byte("source in a free slot", 5, 1),
-        edge_byte("target in a free slot", 7, 1),
-        edge_byte("source behind the table", 5, 3),
-        edge_byte("target behind the table", 7, 3),
-        edge_byte("source 256", 4, 1),
-        edge_byte("target 258", 6, 1),
+        edge_byte("source in a free slot", source.end - 1, 1),
+        edge_byte("target in a free slot", target.end - 1, 1),
+        edge_byte("source behind the table", source.end - 1, 3),
+        edge_byte("target behind the table", target.end - 1, 3),
+        edge_byte("source 256", source.start, 1),
+        edge_byte("target 258", target.start, 1),
         broken("ends in a slot that became free", |call| {
-            call.nodes[2 * limit::NODE_SLOT..].fill(0);
+            call.nodes[2 * LAYOUT.node_length()..].fill(0);
         }),
         broken("live edges and no node slots", |call| call.nodes.clear()),
     ]

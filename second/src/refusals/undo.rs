@@ -1,14 +1,15 @@
 //! The refusals of the call undo.
 
-use super::{accepted_run, refusal, Refusal, UndoCall, UNTOUCHED};
-use crate::host::limit;
+use super::{accepted_run, refusal, Refusal, UndoCall, LAYOUT, UNTOUCHED};
+use crate::journal::kind;
+use crate::layout::place;
 
 /// A call of undo that is refused for each of the numbers 9 to 12 and 20 given, and for no other.
 pub fn undo_refused_for(numbers: &[u32]) -> UndoCall {
     let mut call = accepted_undo();
     let given = |number: u32| numbers.contains(&number);
     if given(20) {
-        call.journal[0] = 3;
+        call.journal[place::KIND] = 3;
     }
     if given(9) {
         call.report.pop();
@@ -25,14 +26,21 @@ pub fn undo_refused_for(numbers: &[u32]) -> UndoCall {
     call
 }
 
-/// Records of all kinds: two of node slots, two of edge slots, and four bytes behind a node's that undo
-/// doesn't look at.
+/// Records of all kinds: two of node slots, two of edge slots, and bytes behind a node's that undo doesn't
+/// look at.
 fn accepted_undo() -> UndoCall {
     let run = accepted_run();
-    let records = [(1, 0), (2, 2), (1, 2), (2, 0)];
-    let record = |(number, (kind, slot)): (usize, &(u8, u8))| {
-        let mut record = vec![kind.to_owned(), 0, 0, *slot];
-        record.extend((0..24).map(|byte| (number as u8) * 32 + byte));
+    let records = [
+        (kind::NODE, 0),
+        (kind::EDGE, 2),
+        (kind::NODE, 2),
+        (kind::EDGE, 0),
+    ];
+    let record = |(number, (kind, slot)): (usize, &(u8, u16))| {
+        let mut record = vec![0; LAYOUT.record_before()];
+        record[place::KIND] = *kind;
+        record[LAYOUT.record_slot()].copy_from_slice(&LAYOUT.slot_number(*slot));
+        record.extend((0..LAYOUT.edge_length()).map(|byte| (number * 32 + byte) as u8));
         record
     };
     UndoCall {
@@ -66,16 +74,19 @@ fn lengths() -> Vec<Refusal<UndoCall>> {
         refused("report of 7 bytes", 9, |call| call.report.truncate(7)),
         refused("report of 9 bytes", 9, |call| call.report.push(UNTOUCHED)),
         refused("node table with a byte more", 10, |call| call.nodes.push(0)),
-        refused("node table of 513 slots", 10, |call| {
-            call.nodes.resize(513 * 20, 0)
+        refused("node table of a slot too many", 10, |call| {
+            call.nodes
+                .resize((LAYOUT.most_nodes + 1) * LAYOUT.node_length(), 0)
         }),
         refused("edge table with a byte more", 11, |call| call.edges.push(0)),
-        refused("edge table of 1,025 slots", 11, |call| {
-            call.edges.resize(1025 * 24, 0)
+        refused("edge table of a slot too many", 11, |call| {
+            call.edges
+                .resize((LAYOUT.most_edges + 1) * LAYOUT.edge_length(), 0)
         }),
         refused("journal with a byte more", 12, |call| call.journal.push(0)),
-        refused("journal of 1,025 slots", 12, |call| {
-            call.journal.resize(1025 * 28, 0)
+        refused("journal of a slot too many", 12, |call| {
+            call.journal
+                .resize((LAYOUT.most_records + 1) * LAYOUT.record_length(), 0)
         }),
     ]
 }
@@ -88,10 +99,10 @@ fn counts() -> Vec<Refusal<UndoCall>> {
             call.journal.clear()
         }),
         refused("node record behind a shorter node table", 20, |call| {
-            call.nodes.truncate(40)
+            call.nodes.truncate(2 * LAYOUT.node_length())
         }),
         refused("edge record behind a shorter edge table", 20, |call| {
-            call.edges.truncate(48)
+            call.edges.truncate(2 * LAYOUT.edge_length())
         }),
     ]
 }
@@ -100,17 +111,22 @@ fn counts() -> Vec<Refusal<UndoCall>> {
 fn records(number: usize) -> Vec<Refusal<UndoCall>> {
     let record = |name: &str, edit: &dyn Fn(&mut [u8])| {
         let name = format!("record {number} with {name}");
-        let start = number * limit::RECORD;
+        let length = LAYOUT.record_length();
         refused(&name, 20, |call| {
-            edit(&mut call.journal[start..start + limit::RECORD])
+            edit(&mut call.journal[number * length..][..length])
         })
     };
+    let aimed = |bytes: &mut [u8], slot: u16| {
+        bytes[LAYOUT.record_slot()].copy_from_slice(&LAYOUT.slot_number(slot));
+    };
     vec![
-        record("kind 0", &|bytes| bytes[0] = 0),
-        record("kind 3", &|bytes| bytes[0] = 3),
-        record("kind 255", &|bytes| bytes[0] = 255),
-        record("second byte 1", &|bytes| bytes[1] = 1),
-        record("slot 3 of three", &|bytes| bytes[3] = 3),
-        record("slot 256", &|bytes| bytes[2..4].copy_from_slice(&[1, 0])),
+        record("kind 0", &|bytes| bytes[place::KIND] = 0),
+        record("kind 3", &|bytes| bytes[place::KIND] = 3),
+        record("kind 255", &|bytes| bytes[place::KIND] = 255),
+        record("second byte 1", &|bytes| {
+            bytes[LAYOUT.record_zeros()].fill(1)
+        }),
+        record("slot 3 of three", &|bytes| aimed(bytes, 3)),
+        record("slot 256", &|bytes| aimed(bytes, 256)),
     ]
 }

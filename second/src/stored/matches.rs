@@ -3,18 +3,19 @@
 
 use std::fmt::Write;
 
-use crate::calls::{self, Exercised};
+use crate::calls;
 use crate::corpus;
 use crate::decode;
 use crate::encode;
-use crate::host::{limit as table, Edge, Host, Label, Node};
+use crate::exercised::Exercised;
+use crate::host::{Edge, Host, Label, Node};
 use crate::listing;
 use crate::matching::{self, Match};
 use crate::random::Random;
 use crate::refusals::RunCall;
 use crate::tree::*;
 
-use super::{case, Stored};
+use super::{case, Stored, LAYOUT};
 
 /// Small drawn images that are looked at, and how long the tables and the program of one may be together.
 const DRAWN: u64 = 1_000;
@@ -107,10 +108,10 @@ fn lines(pair: &Pairs, seen: &mut Seen) -> String {
         return "refused\n".to_string();
     }
     let program = decode::program(&pair.program).expect("a run that starts has a program");
-    let host = Host::read(&pair.nodes, &pair.edges).expect("a run that starts has a host");
+    let host = Host::read(LAYOUT, &pair.nodes, &pair.edges).expect("a run that starts has a host");
     let mut text = String::new();
     for rule in &program.rules {
-        let found = matching::first_match_counted(rule, &host, &mut seen.exercised);
+        let found = matching::first_match_observed(rule, &host, &mut seen.exercised);
         match &found {
             Some(_) => seen.matched += 1,
             None => seen.unmatched += 1,
@@ -149,7 +150,7 @@ fn full_pairs(index: u64) -> Pairs {
         }
     }
     let program = Program { rules, main: Command::Skip };
-    Pairs { nodes: host.node_table(), edges: host.edge_table(), program: encode::program(&program) }
+    Pairs { nodes: host.node_table(LAYOUT), edges: host.edge_table(LAYOUT), program: encode::program(&program) }
 }
 
 /// How many nodes agree with a left node by mark, root and a constant at the front.
@@ -169,19 +170,19 @@ fn candidates(left: &RuleNode, host: &Host) -> usize {
 fn full_host(random: &mut Random, gaps: bool) -> Host {
     let free = |random: &mut Random| gaps && random.chance(20);
     let mut host = Host::default();
-    for _ in 0..table::NODE_SLOTS {
+    for _ in 0..LAYOUT.most_nodes {
         let mut atoms = vec![random.below(40) as i32];
         atoms.extend((0..random.below(4)).map(|_| random.between(0, 5) as i32 - 2));
         let node = Node {
             mark: random.pick(&[mark::NONE, mark::RED, mark::GREEN, mark::BLUE, mark::GREY]),
             root: random.chance(4),
-            label: Label::of(&atoms).expect("at most four atoms"),
+            label: Label::of(&atoms),
         };
         host.nodes.push((!free(random)).then_some(node));
     }
-    for _ in 0..table::EDGE_SLOTS {
-        let source = random.below(table::NODE_SLOTS);
-        let target = (source + random.below(5)) % table::NODE_SLOTS;
+    for _ in 0..LAYOUT.most_edges {
+        let source = random.below(LAYOUT.most_nodes);
+        let target = (source + random.below(5)) % LAYOUT.most_nodes;
         let atoms: Vec<i32> = (0..random.below(3)).map(|_| random.between(0, 5) as i32 - 2).collect();
         let (source, target) = if random.chance(50) { (source, target) } else { (target, source) };
         let ends_live = host.node(source).is_some() && host.node(target).is_some();
@@ -189,7 +190,7 @@ fn full_host(random: &mut Random, gaps: bool) -> Host {
             mark: random.pick(&[mark::NONE, mark::RED, mark::GREEN, mark::BLUE, mark::DASHED]),
             source: source as u16,
             target: target as u16,
-            label: Label::of(&atoms).expect("at most four atoms"),
+            label: Label::of(&atoms),
         };
         host.edges.push((ends_live && !free(random)).then_some(edge));
     }

@@ -2,9 +2,9 @@
 
 use super::complaint::Problem;
 use super::syntax::*;
+use super::LAYOUT;
 use crate::encode::{edge_slot, node_slot};
-use crate::host::limit as slots;
-use crate::tree::{limit, mark};
+use crate::tree::mark;
 use std::collections::HashMap;
 
 /// The free slots behind a host graph where no number of slots is asked for.
@@ -49,33 +49,35 @@ impl HostGraph {
         node_slots: usize,
         edge_slots: usize,
     ) -> Result<(Vec<u8>, Vec<u8>), String> {
-        check_slots("node", node_slots, self.listed_nodes, slots::NODE_SLOTS)?;
-        check_slots("edge", edge_slots, self.listed_edges, slots::EDGE_SLOTS)?;
-        let mut nodes = vec![0; node_slots * slots::NODE_SLOT];
+        check_slots("node", node_slots, self.listed_nodes, LAYOUT.most_nodes)?;
+        check_slots("edge", edge_slots, self.listed_edges, LAYOUT.most_edges)?;
+        let length = LAYOUT.node_length();
+        let mut nodes = vec![0; node_slots * length];
         for node in &self.nodes {
             let slot = node_slot(node.mark, node.root, &node.atoms);
-            nodes[node.slot * slots::NODE_SLOT..][..slots::NODE_SLOT].copy_from_slice(&slot);
+            nodes[node.slot * length..][..length].copy_from_slice(&slot);
         }
-        let mut edges = vec![0; edge_slots * slots::EDGE_SLOT];
+        let length = LAYOUT.edge_length();
+        let mut edges = vec![0; edge_slots * length];
         for edge in &self.edges {
             let (source, target) = (
                 self.nodes[edge.source].slot as u16,
                 self.nodes[edge.target].slot as u16,
             );
             let slot = edge_slot(edge.mark, source, target, &edge.atoms);
-            edges[edge.slot * slots::EDGE_SLOT..][..slots::EDGE_SLOT].copy_from_slice(&slot);
+            edges[edge.slot * length..][..length].copy_from_slice(&slot);
         }
         Ok((nodes, edges))
     }
 
     /// As many node slots as the text speaks of and some free ones.
     pub fn usual_node_slots(&self) -> usize {
-        (self.listed_nodes + FREE_SLOTS).min(slots::NODE_SLOTS)
+        (self.listed_nodes + FREE_SLOTS).min(LAYOUT.most_nodes)
     }
 
     /// As many edge slots as the text speaks of and some free ones.
     pub fn usual_edge_slots(&self) -> usize {
-        (self.listed_edges + FREE_SLOTS).min(slots::EDGE_SLOTS)
+        (self.listed_edges + FREE_SLOTS).min(LAYOUT.most_edges)
     }
 }
 
@@ -189,10 +191,10 @@ fn host_label(label: &LabelText) -> Result<(u8, Vec<i32>), Problem> {
             "mark any in a host graph, expected another mark or none",
         ));
     }
-    if let Some(extra) = label.elements.get(limit::ELEMENTS) {
+    if let Some(extra) = label.elements.get(LAYOUT.atoms) {
         return Err(Problem::new(
             extra.place,
-            format!("an atom too many, expected at most {}", limit::ELEMENTS),
+            format!("an atom too many, expected at most {}", LAYOUT.atoms),
         ));
     }
     let atoms: Result<Vec<i32>, Problem> = label.elements.iter().map(atom).collect();

@@ -1,9 +1,11 @@
 //! Reading an image of either kind, with the place and the reason where it can't be read.
 
 use super::offsets::{offset_of_command, offset_of_rule};
-use crate::calls::{answer, MOST_FUEL};
+use super::LAYOUT;
+use crate::answer;
+use crate::calls::MOST_FUEL;
 use crate::encode::RunnerInput;
-use crate::host::{limit, Host};
+use crate::host::Host;
 use crate::listing::INPUT_BYTES;
 use crate::tree::{self, Command, Program};
 use crate::{decode, placement, references};
@@ -95,14 +97,19 @@ fn records_number(at: usize, payload: &[u8]) -> Result<u16, Fault> {
     let bytes = <[u8; 2]>::try_from(payload)
         .map_err(|_| input_refused(at, "journal records", "expected two bytes"))?;
     let records = u16::from_be_bytes(bytes);
-    if usize::from(records) > limit::RECORDS {
-        return Err(input_refused(
-            at,
-            "journal records",
-            "expected at most 1,024 records",
-        ));
+    if usize::from(records) > LAYOUT.most_records {
+        let expected = format!("expected at most {} records", grouped(LAYOUT.most_records));
+        return Err(input_refused(at, "journal records", &expected));
     }
     Ok(records)
+}
+
+/// A number below a million as a reader expects it.
+fn grouped(number: usize) -> String {
+    match number / 1000 {
+        0 => number.to_string(),
+        thousands => format!("{thousands},{:03}", number % 1000),
+    }
 }
 
 fn input_refused(at: usize, field: &str, expected: &str) -> Fault {
@@ -159,40 +166,38 @@ impl RunnerImage {
     pub fn host(&self) -> Result<Host, Fault> {
         self.check_table_lengths()?;
         let (nodes, edges) = (&self.input.nodes, &self.input.edges);
-        for (number, slot) in nodes.chunks(limit::NODE_SLOT).enumerate() {
-            let at = self.nodes_at + number * limit::NODE_SLOT;
-            Host::read(slot, &[]).map_err(|reason| layout(at, "node", number, &reason))?;
+        for (number, slot) in nodes.chunks(LAYOUT.node_length()).enumerate() {
+            let at = self.nodes_at + number * slot.len();
+            Host::read(LAYOUT, slot, &[]).map_err(|reason| layout(at, "node", number, &reason))?;
         }
-        for (number, slot) in edges.chunks(limit::EDGE_SLOT).enumerate() {
-            let at = self.edges_at + number * limit::EDGE_SLOT;
-            Host::read(nodes, slot).map_err(|reason| layout(at, "edge", number, &reason))?;
+        for (number, slot) in edges.chunks(LAYOUT.edge_length()).enumerate() {
+            let at = self.edges_at + number * slot.len();
+            Host::read(LAYOUT, nodes, slot)
+                .map_err(|reason| layout(at, "edge", number, &reason))?;
         }
-        Host::read(nodes, edges)
+        Host::read(LAYOUT, nodes, edges)
             .map_err(|reason| fault(self.nodes_at, "host tables", reason, answer::LAYOUT))
     }
 
     fn check_table_lengths(&self) -> Result<(), Fault> {
         let (nodes, edges) = (self.input.nodes.len(), self.input.edges.len());
-        if nodes % limit::NODE_SLOT != 0 || nodes / limit::NODE_SLOT > limit::NODE_SLOTS {
-            let expected = format!("expected 0 to 512 slots of 20 bytes, found {nodes} bytes");
-            return Err(fault(
-                self.nodes_at,
-                "node table",
-                expected,
-                answer::NODE_TABLE,
-            ));
+        if !LAYOUT.is_node_table(nodes) {
+            let expected = expected_slots(LAYOUT.most_nodes, LAYOUT.node_length(), nodes);
+            let number = answer::NODE_TABLE;
+            return Err(fault(self.nodes_at, "node table", expected, number));
         }
-        if edges % limit::EDGE_SLOT != 0 || edges / limit::EDGE_SLOT > limit::EDGE_SLOTS {
-            let expected = format!("expected 0 to 1,024 slots of 24 bytes, found {edges} bytes");
-            return Err(fault(
-                self.edges_at,
-                "edge table",
-                expected,
-                answer::EDGE_TABLE,
-            ));
+        if !LAYOUT.is_edge_table(edges) {
+            let expected = expected_slots(LAYOUT.most_edges, LAYOUT.edge_length(), edges);
+            let number = answer::EDGE_TABLE;
+            return Err(fault(self.edges_at, "edge table", expected, number));
         }
         Ok(())
     }
+}
+
+fn expected_slots(most: usize, length: usize, found: usize) -> String {
+    let most = grouped(most);
+    format!("expected 0 to {most} slots of {length} bytes, found {found} bytes")
 }
 
 fn fault(at: usize, field: &str, expected: impl Into<String>, answer: u32) -> Fault {

@@ -33,6 +33,8 @@ mod syntax;
 mod tools;
 mod variables;
 
+use crate::layout::Layout;
+
 pub use arguments::{task, Task};
 pub use assemble::{assemble, assemble_program, read_graph, runner_input, Assembly, HostSection};
 pub use complaint::{Complaint, Place};
@@ -43,3 +45,6 @@ pub use print_host::host_graph_text;
 pub use print_program::program_text;
 pub use sizes::Sizes;
 pub use tools::{disassemble, draw, draw_after, image_graph, perform};
+
+/// The layout of the images that the tools read and write.
+const LAYOUT: &Layout = &Layout::BASE;

@@ -5,7 +5,7 @@ use super::cursor::Cursor;
 use super::lexer::Token;
 use super::parse_rules::{edge, node};
 use super::syntax::*;
-use crate::host::limit;
+use super::LAYOUT;
 
 /// A text that holds one host graph and nothing else.
 pub fn host_graph(source: &str) -> Result<HostGraphText, Problem> {
@@ -70,9 +70,9 @@ fn expect_end(cursor: &Cursor, expected: &str) -> Result<(), Problem> {
 
 fn graph(cursor: &mut Cursor) -> Result<HostGraphText, Problem> {
     cursor.expect_symbol("[", "at the start of the host graph")?;
-    let nodes = slots(cursor, node, "a node", limit::NODE_SLOTS)?;
+    let nodes = slots(cursor, node, "a node", LAYOUT.most_nodes)?;
     cursor.expect_symbol("|", "behind the nodes, or `(` and a node")?;
-    let edges = slots(cursor, edge, "an edge", limit::EDGE_SLOTS)?;
+    let edges = slots(cursor, edge, "an edge", LAYOUT.most_edges)?;
     cursor.expect_symbol("]", "behind the edges, or `(` and an edge")?;
     Ok(HostGraphText { nodes, edges })
 }

@@ -1,11 +1,11 @@
 //! The numbers that a runner image needs beside program and graph: fuel, journal records and slots.
 
 use super::host_graph::HostGraph;
+use super::LAYOUT;
 use crate::calls::MOST_FUEL;
-use crate::host::limit;
 
 pub const USUAL_FUEL: u32 = 100_000;
-pub const USUAL_RECORDS: u16 = 1024;
+pub const USUAL_RECORDS: u16 = LAYOUT.most_records as u16;
 
 /// The numbers that were asked for; the others take their usual values.
 #[derive(Clone, Debug, Default, PartialEq, Eq)]
@@ -21,9 +21,12 @@ impl Sizes {
     pub fn set(&mut self, name: &str, digits: &str) -> Result<(), String> {
         match name {
             "fuel" => set_once(&mut self.fuel, number(digits, MOST_FUEL)?),
-            "records" => set_once(&mut self.records, number(digits, limit::RECORDS as u16)?),
-            "nodes" => set_once(&mut self.nodes, number(digits, limit::NODE_SLOTS as u16)?),
-            "edges" => set_once(&mut self.edges, number(digits, limit::EDGE_SLOTS as u16)?),
+            "records" => set_once(
+                &mut self.records,
+                number(digits, LAYOUT.most_records as u16)?,
+            ),
+            "nodes" => set_once(&mut self.nodes, number(digits, LAYOUT.most_nodes as u16)?),
+            "edges" => set_once(&mut self.edges, number(digits, LAYOUT.most_edges as u16)?),
             _ => Err("no such number, expected fuel, records, nodes or edges".to_string()),
         }
     }

@@ -8,7 +8,8 @@ use super::image::{is_runner_image, program, runner_image, RunnerImage};
 use super::print_host::{host_graph_text, host_section_text};
 use super::print_program::program_text;
 use super::sizes::Sizes;
-use crate::calls::answer;
+use super::LAYOUT;
+use crate::answer;
 use crate::encode;
 use crate::host::Host;
 use crate::listing::run_input;
@@ -116,7 +117,10 @@ pub fn draw_after(bytes: &[u8]) -> Result<String, String> {
     let image = with_host(bytes)?;
     let outcome = run_input(&image.input);
     match outcome.answer {
-        answer::RESULT => Ok(drawing(&Host::read(&outcome.nodes, &outcome.edges)?)),
+        answer::RESULT => {
+            let after = Host::read(LAYOUT, &outcome.nodes, &outcome.edges)?;
+            Ok(drawing(&after))
+        }
         number => Err(format!(
             "the run answers {number}, expected a result (0) to draw"
         )),

@@ -1,8 +1,10 @@
 //! Small random runs: a host, rules sampled from it so that they tend to match, and a command tree.
 
-use second::calls::{run_counted, Exercised, Outcome};
+use second::calls::{Outcome, RunCall};
 use second::encode::{self, RunnerInput};
+use second::exercised::Exercised;
 use second::host::{Edge, Host, Label, Node};
+use second::layout::Layout;
 use second::random::Random;
 use second::tree::*;
 
@@ -33,15 +35,15 @@ impl Sample {
     }
 
     pub fn counted(&self, exercised: &mut Exercised) -> Outcome {
-        run_counted(
-            &self.nodes,
-            &self.edges,
-            &vec![0xEE; self.records * 28],
-            &self.image,
-            self.fuel,
-            &[0xEE; 8],
-            exercised,
-        )
+        let call = RunCall {
+            nodes: self.nodes.clone(),
+            edges: self.edges.clone(),
+            journal: vec![0xEE; self.records * 28],
+            program: self.image.clone(),
+            fuel: self.fuel,
+            report: vec![0xEE; 8],
+        };
+        call.outcome_at(&Layout::BASE, exercised)
     }
 }
 
@@ -76,8 +78,8 @@ impl Draft {
 
     pub fn sample(&self) -> Sample {
         Sample {
-            nodes: self.host.node_table(),
-            edges: self.host.edge_table(),
+            nodes: self.host.node_table(&Layout::BASE),
+            edges: self.host.edge_table(&Layout::BASE),
             image: encode::program(&self.program),
             fuel: self.fuel,
             records: self.records,
@@ -126,7 +128,7 @@ fn host_edge(random: &mut Random, live: &[usize]) -> Edge {
 fn host_label(random: &mut Random) -> Label {
     let length = random.weighted(&[50, 25, 10, 10, 5]);
     let atoms: Vec<i32> = (0..length).map(|_| atom(random)).collect();
-    Label::of(&atoms).expect("at most four atoms")
+    Label::of(&atoms)
 }
 
 fn atom(random: &mut Random) -> i32 {

@@ -277,69 +277,71 @@ fn numbers_need_a_host_and_a_host_stands_once() {
     );
 }
 
+/// Command lines, and what is wrong with each.
+const MISUSES: &[(&[&str], &str)] = &[
+    (&[], "no subcommand, expected asm, dis, dot or --help"),
+    (
+        &["run"],
+        "no subcommand `run`, expected asm, dis, dot or --help",
+    ),
+    (&["asm", "-o", "x"], "no PROGRAM, expected a file or -"),
+    (&["asm", "p.gp2"], "no -o, expected the image's file or -"),
+    (
+        &["asm", "p.gp2", "-o"],
+        "nothing behind `-o`, expected its value",
+    ),
+    (
+        &["asm", "p.gp2", "q", "-o", "x"],
+        "`q` beside another PROGRAM, expected one",
+    ),
+    (
+        &["asm", "p.gp2", "-o", "x", "-o", "y"],
+        "`y` beside another -o, expected one",
+    ),
+    (
+        &["asm", "p.gp2", "--slots", "x"],
+        "no option `--slots`, expected --host, --fuel, --records, --nodes, --edges or -o",
+    ),
+    (
+        &["asm", "p.gp2", "--fuel", "1000001"],
+        "--fuel: 1000001 is out of range, expected a number from 0 to 1000000",
+    ),
+    (
+        &["asm", "p.gp2", "--fuel", "-1"],
+        "--fuel: -1 is out of range, expected a number from 0 to 1000000",
+    ),
+    (
+        &["asm", "p.gp2", "--records", "1025"],
+        "--records: 1025 is out of range, expected a number from 0 to 1024",
+    ),
+    (
+        &["asm", "p.gp2", "--nodes", "513"],
+        "--nodes: 513 is out of range, expected a number from 0 to 512",
+    ),
+    (
+        &["asm", "p.gp2", "--edges", "x"],
+        "--edges: x is out of range, expected a number from 0 to 1024",
+    ),
+    (
+        &["asm", "p.gp2", "--fuel", "1", "--fuel", "1"],
+        "--fuel: given twice, expected once",
+    ),
+    (&["dis"], "no IMAGE, expected a file or -"),
+    (&["dis", "x", "y"], "`y` beside another IMAGE, expected one"),
+    (
+        &["dis", "x", "--after"],
+        "no option `--after`, expected --host",
+    ),
+    (
+        &["dot", "x", "--host"],
+        "no option `--host`, expected --after",
+    ),
+];
+
 #[test]
 fn command_lines_are_refused_with_status_2() {
     let place = Place::new("misuse");
-    let cases = [
-        (&[][..], "no subcommand, expected asm, dis, dot or --help"),
-        (
-            &["run"],
-            "no subcommand `run`, expected asm, dis, dot or --help",
-        ),
-        (&["asm", "-o", "x"], "no PROGRAM, expected a file or -"),
-        (&["asm", "p.gp2"], "no -o, expected the image's file or -"),
-        (
-            &["asm", "p.gp2", "-o"],
-            "nothing behind `-o`, expected its value",
-        ),
-        (
-            &["asm", "p.gp2", "q", "-o", "x"],
-            "`q` beside another PROGRAM, expected one",
-        ),
-        (
-            &["asm", "p.gp2", "-o", "x", "-o", "y"],
-            "`y` beside another -o, expected one",
-        ),
-        (
-            &["asm", "p.gp2", "--slots", "x"],
-            "no option `--slots`, expected --host, --fuel, --records, --nodes, --edges or -o",
-        ),
-        (
-            &["asm", "p.gp2", "--fuel", "1000001"],
-            "--fuel: 1000001 is out of range, expected a number from 0 to 1000000",
-        ),
-        (
-            &["asm", "p.gp2", "--fuel", "-1"],
-            "--fuel: -1 is out of range, expected a number from 0 to 1000000",
-        ),
-        (
-            &["asm", "p.gp2", "--records", "1025"],
-            "--records: 1025 is out of range, expected a number from 0 to 1024",
-        ),
-        (
-            &["asm", "p.gp2", "--nodes", "513"],
-            "--nodes: 513 is out of range, expected a number from 0 to 512",
-        ),
-        (
-            &["asm", "p.gp2", "--edges", "x"],
-            "--edges: x is out of range, expected a number from 0 to 1024",
-        ),
-        (
-            &["asm", "p.gp2", "--fuel", "1", "--fuel", "1"],
-            "--fuel: given twice, expected once",
-        ),
-        (&["dis"], "no IMAGE, expected a file or -"),
-        (&["dis", "x", "y"], "`y` beside another IMAGE, expected one"),
-        (
-            &["dis", "x", "--after"],
-            "no option `--after`, expected --host",
-        ),
-        (
-            &["dot", "x", "--host"],
-            "no option `--host`, expected --after",
-        ),
-    ];
-    for (arguments, message) in cases {
+    for (arguments, message) in MISUSES {
         let output = place.gp2(arguments);
         assert_refused(
             &output,
@@ -407,8 +409,7 @@ fn dot_draws_before_and_after_the_run() {
     assert!(out(&before).contains("  n0 -> n1 [label=\"\"];\n"));
     let after = place.gp2(&["dot", "--after", "p.run"]);
     assert_done(&after);
-    assert!(out(&after)
-        .contains("  n1 [xlabel=\"1\", label=\"12\", fillcolor=lightskyblue];\n"));
+    assert!(out(&after).contains("  n1 [xlabel=\"1\", label=\"12\", fillcolor=lightskyblue];\n"));
     assert!(out(&after).contains("  n1 -> n0 [label=\"\"];\n"));
     assert_done(&place.gp2(&[
         "asm", "p.gp2", "--host", "p.host", "--fuel", "1", "-o", "p.run",

@@ -74,3 +74,31 @@ pub fn refusal(source: &str) -> String {
         Err(complaint) => complaint.to_string()["test:".len()..].to_string(),
     }
 }
+
+/// Checks that each text is refused with that start of `LINE:COLUMN: message`.
+pub fn check(cases: &[(&str, &str)]) {
+    for (source, expected) in cases {
+        let found = refusal(source);
+        assert!(
+            found.starts_with(expected),
+            "{source}\nexpected {expected}\nfound    {found}"
+        );
+    }
+}
+
+/// The same of rules, which start on the second line.
+pub fn check_rules(cases: &[(&str, &str)]) {
+    for (rule, expected) in cases {
+        check(&[(&format!("Main = skip\n{rule}"), expected)]);
+    }
+}
+
+/// The same of conditions over nodes 1 and 2, int variables i and j and the list x. The condition starts
+/// on the third line.
+pub fn check_conditions(cases: &[(&str, &str)]) {
+    for (condition, expected) in cases {
+        let head =
+            "r(i, j, free: int; x: list) [ (1, i) (2, j:x) | ] => [ | ] interface = {} where";
+        check(&[(&format!("Main = skip\n{head}\n{condition}"), expected)]);
+    }
+}

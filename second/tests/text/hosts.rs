@@ -151,137 +151,141 @@ fn a_host_section_may_leave_numbers_out_and_a_rule_may_be_called_host() {
     );
 }
 
+/// Host sections on the second line, and the start of the refusal of each.
+const REFUSED_SECTIONS: &[(&str, &str)] = &[
+    (
+        "host fuel 1000001 [ | ]",
+        "2:11: fuel: 1000001 is out of range, expected a number from 0 to 1000000",
+    ),
+    (
+        "host records 1025 [ | ]",
+        "2:14: records: 1025 is out of range, expected a number from 0 to 1024",
+    ),
+    (
+        "host nodes 513 [ | ]",
+        "2:12: nodes: 513 is out of range, expected a number from 0 to 512",
+    ),
+    (
+        "host edges 99999999999999999999 [ | ]",
+        "2:12: edges: 99999999999999999999 is out of range",
+    ),
+    (
+        "host fuel 1 fuel 1 [ | ]",
+        "2:18: fuel: given twice, expected once",
+    ),
+    (
+        "host steps 1 [ | ]",
+        "2:6: found `steps`, expected fuel, records, nodes, edges or the host graph's `[`",
+    ),
+    (
+        "host fuel [ | ]",
+        "2:11: found `[`, expected a number behind `fuel`",
+    ),
+    (
+        "host nodes 0 [ (1, 1) | ]",
+        "2:1: 0 node slots, expected from 1 (the host graph's) to 512",
+    ),
+    (
+        "host [ | ] Main = skip",
+        "2:12: found `Main`, expected the end of the text behind the host section",
+    ),
+    (
+        "host\n[ (1, x) | ]",
+        "3:7: a host label has integers alone, expected one",
+    ),
+];
+
 #[test]
 fn host_sections_are_refused_with_their_places() {
     let refusal = |section: &str| {
         let complaint = assemble("test", &format!("Main = skip\n{section}"));
         complaint.expect_err("not refused").to_string()["test:".len()..].to_string()
     };
-    let cases = [
-        (
-            "host fuel 1000001 [ | ]",
-            "2:11: fuel: 1000001 is out of range, expected a number from 0 to 1000000",
-        ),
-        (
-            "host records 1025 [ | ]",
-            "2:14: records: 1025 is out of range, expected a number from 0 to 1024",
-        ),
-        (
-            "host nodes 513 [ | ]",
-            "2:12: nodes: 513 is out of range, expected a number from 0 to 512",
-        ),
-        (
-            "host edges 99999999999999999999 [ | ]",
-            "2:12: edges: 99999999999999999999 is out of range",
-        ),
-        (
-            "host fuel 1 fuel 1 [ | ]",
-            "2:18: fuel: given twice, expected once",
-        ),
-        (
-            "host steps 1 [ | ]",
-            "2:6: found `steps`, expected fuel, records, nodes, edges or the host graph's `[`",
-        ),
-        (
-            "host fuel [ | ]",
-            "2:11: found `[`, expected a number behind `fuel`",
-        ),
-        (
-            "host nodes 0 [ (1, 1) | ]",
-            "2:1: 0 node slots, expected from 1 (the host graph's) to 512",
-        ),
-        (
-            "host [ | ] Main = skip",
-            "2:12: found `Main`, expected the end of the text behind the host section",
-        ),
-        (
-            "host\n[ (1, x) | ]",
-            "3:7: a host label has integers alone, expected one",
-        ),
-    ];
-    for (section, expected) in cases {
+    for (section, expected) in REFUSED_SECTIONS {
         let found = refusal(section);
         assert!(found.starts_with(expected), "{section}\n{found}");
     }
 }
 
+/// Host graphs, and the start of the refusal of each.
+const REFUSED_GRAPHS: &[(&str, &str)] = &[
+    (
+        "",
+        "1:1: found the end of the text, expected `[` at the start of the host graph",
+    ),
+    (
+        "[ (1, 5) ]",
+        "1:10: found `]`, expected `|` behind the nodes, or `(` and a node",
+    ),
+    (
+        "[ (1, 5) | (1, 1, 1, 5)",
+        "1:24: found the end of the text, expected `]` behind the edges",
+    ),
+    (
+        "[ | ] x",
+        "1:7: found `x`, expected the end of the text behind the host graph",
+    ),
+    (
+        "[ (1, 5) (1, 6) | ]",
+        "1:11: the node `1` twice, expected each identifier once",
+    ),
+    (
+        "[ (1, 5) |\n (e, 1, 1, 6) (e, 1, 1, 6) ]",
+        "2:16: the edge `e` twice, expected each identifier once",
+    ),
+    (
+        "[ (1, 5) | (e, 2, 1, 6) ]",
+        "1:16: no node `2`, expected one of the host graph's identifiers",
+    ),
+    (
+        "[ (1, 5) | (e, 1, 2, 6) ]",
+        "1:19: no node `2`, expected one of the host graph's identifiers",
+    ),
+    (
+        "[ (1, 5) | (e(B), 1, 1, 6) ]",
+        "1:13: a bidirectional edge in a host graph, expected no `(B)`",
+    ),
+    (
+        "[ (1, 2147483648) | ]",
+        "1:7: 2147483648 can't be held, expected a number from -2147483648",
+    ),
+    (
+        "[ (1, -2147483649) | ]",
+        "1:7: -2147483649 can't be held, expected a number from -2147483648",
+    ),
+    (
+        "[ (1, 1:2:3:4:5) | ]",
+        "1:15: an atom too many, expected at most 4",
+    ),
+    (
+        "[ (1, 1+1) | ]",
+        "1:7: a host label has integers alone, expected one",
+    ),
+    (
+        "[ (1, \"a\") | ]",
+        "1:7: a string can't be held, expected an integer or a variable",
+    ),
+    (
+        "[ (1, 5 # any) | ]",
+        "1:11: mark any in a host graph, expected another mark or none",
+    ),
+    (
+        "[ (1, 5 # dashed) | ]",
+        "1:11: found `dashed`, expected a mark of a node: red, green, blue, grey, any",
+    ),
+    (
+        "[ (1, 5) | (1, 1, 1, 5 # grey) ]",
+        "1:26: found `grey`, expected a mark of an edge: red, green, blue, dashed, any",
+    ),
+    (
+        "[ (1) | ]",
+        "1:5: found `)`, expected `,` and a label behind the node's identifier",
+    ),
+];
+
 #[test]
 fn host_graphs_are_refused_with_their_places() {
-    let cases = [
-        (
-            "",
-            "1:1: found the end of the text, expected `[` at the start of the host graph",
-        ),
-        (
-            "[ (1, 5) ]",
-            "1:10: found `]`, expected `|` behind the nodes, or `(` and a node",
-        ),
-        (
-            "[ (1, 5) | (1, 1, 1, 5)",
-            "1:24: found the end of the text, expected `]` behind the edges",
-        ),
-        (
-            "[ | ] x",
-            "1:7: found `x`, expected the end of the text behind the host graph",
-        ),
-        (
-            "[ (1, 5) (1, 6) | ]",
-            "1:11: the node `1` twice, expected each identifier once",
-        ),
-        (
-            "[ (1, 5) |\n (e, 1, 1, 6) (e, 1, 1, 6) ]",
-            "2:16: the edge `e` twice, expected each identifier once",
-        ),
-        (
-            "[ (1, 5) | (e, 2, 1, 6) ]",
-            "1:16: no node `2`, expected one of the host graph's identifiers",
-        ),
-        (
-            "[ (1, 5) | (e, 1, 2, 6) ]",
-            "1:19: no node `2`, expected one of the host graph's identifiers",
-        ),
-        (
-            "[ (1, 5) | (e(B), 1, 1, 6) ]",
-            "1:13: a bidirectional edge in a host graph, expected no `(B)`",
-        ),
-        (
-            "[ (1, 2147483648) | ]",
-            "1:7: 2147483648 can't be held, expected a number from -2147483648",
-        ),
-        (
-            "[ (1, -2147483649) | ]",
-            "1:7: -2147483649 can't be held, expected a number from -2147483648",
-        ),
-        (
-            "[ (1, 1:2:3:4:5) | ]",
-            "1:15: an atom too many, expected at most 4",
-        ),
-        (
-            "[ (1, 1+1) | ]",
-            "1:7: a host label has integers alone, expected one",
-        ),
-        (
-            "[ (1, \"a\") | ]",
-            "1:7: a string can't be held, expected an integer or a variable",
-        ),
-        (
-            "[ (1, 5 # any) | ]",
-            "1:11: mark any in a host graph, expected another mark or none",
-        ),
-        (
-            "[ (1, 5 # dashed) | ]",
-            "1:11: found `dashed`, expected a mark of a node: red, green, blue, grey, any",
-        ),
-        (
-            "[ (1, 5) | (1, 1, 1, 5 # grey) ]",
-            "1:26: found `grey`, expected a mark of an edge: red, green, blue, dashed, any",
-        ),
-        (
-            "[ (1) | ]",
-            "1:5: found `)`, expected `,` and a label behind the node's identifier",
-        ),
-    ];
-    for (source, expected) in cases {
+    for (source, expected) in REFUSED_GRAPHS {
         let found = refusal(source);
         assert!(found.starts_with(expected), "{source}\n{found}");
     }

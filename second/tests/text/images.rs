@@ -166,15 +166,29 @@ fn runner_images_are_refused_with_the_runs_answer() {
     );
 }
 
-#[test]
-fn refused_inputs_say_where_the_runner_stops() {
+/// A runner image of empty tables and `skip`, with these payloads of its numbers.
+fn fields(records: &[u8], fuel: &[u8]) -> Vec<u8> {
+    let parts = [
+        (1, &[][..]),
+        (2, &[]),
+        (3, records),
+        (4, fuel),
+        (5, &[0x55, 0, 0]),
+    ];
+    parts
+        .map(|(tag, payload)| encode::field(tag, payload))
+        .concat()
+}
+
+/// Damaged runner images, and what is said of each.
+fn damaged_inputs() -> [(Vec<u8>, &'static str); 6] {
     let legal = encode::runner_input(&runner(image(vec![], Command::Skip)));
     let with = |at: usize, byte: u8| {
         let mut damaged = legal.clone();
         damaged[at] = byte;
         damaged
     };
-    let cases = [
+    [
         (
             with(23, 3),
             "offset 23, edge table: expected a field with tag 0x02",
@@ -199,25 +213,17 @@ fn refused_inputs_say_where_the_runner_stops() {
             vec![1; 65_537],
             "offset 65536, runner image: expected at most 65,536 bytes",
         ),
-    ];
-    for (damaged, expected) in cases {
+    ]
+}
+
+#[test]
+fn refused_inputs_say_where_the_runner_stops() {
+    for (damaged, expected) in damaged_inputs() {
         assert_eq!(
             refusal(&damaged),
             format!("{expected}; the runner prints `input refused`")
         );
     }
-    let fields = |records: &[u8], fuel: &[u8]| {
-        let parts = [
-            (1, &[][..]),
-            (2, &[]),
-            (3, records),
-            (4, fuel),
-            (5, &[0x55, 0, 0]),
-        ];
-        parts
-            .map(|(tag, payload)| encode::field(tag, payload))
-            .concat()
-    };
     let found = refusal(&fields(&[0], &[0; 4]));
     assert_eq!(
         found,

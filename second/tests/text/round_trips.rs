@@ -249,78 +249,90 @@ fn full_tables_come_back() {
     assert_eq!(runner_again(&image), image);
 }
 
-#[test]
-fn the_text_of_a_small_image_reads_so() {
-    let rule = Rule {
-        variables: vec![VariableType::List, VariableType::Int, VariableType::Int],
-        left: RuleGraph {
-            nodes: vec![
-                RuleNode {
-                    mark: mark::ANY,
-                    root: true,
-                    label: vec![Element::Variable(0)],
-                },
-                RuleNode {
-                    mark: 0,
-                    root: false,
-                    label: vec![Element::Variable(1), Element::Variable(2)],
-                },
-            ],
-            edges: vec![RuleEdge {
-                mark: mark::DASHED,
-                source: 1,
-                target: 0,
-                label: vec![],
-            }],
-        },
-        right: RuleGraph {
-            nodes: vec![
-                RuleNode {
-                    mark: mark::ANY,
-                    root: false,
-                    label: vec![],
-                },
-                RuleNode {
-                    mark: 0,
-                    root: false,
-                    label: vec![
-                        Element::Constant(-7),
-                        Element::Difference(Operand::Variable(1), Operand::Constant(-2)),
-                        Element::Sum(Operand::Constant(3), Operand::Variable(2)),
-                    ],
-                },
-            ],
-            edges: vec![RuleEdge {
-                mark: mark::RED,
-                source: 0,
-                target: 1,
-                label: vec![],
-            }],
-        },
-        interface: 1,
-        tests: vec![
-            Test {
-                negated: true,
-                kind: TestKind::Edge(0, 1),
+fn small_left() -> RuleGraph {
+    RuleGraph {
+        nodes: vec![
+            RuleNode {
+                mark: mark::ANY,
+                root: true,
+                label: vec![Element::Variable(0)],
             },
-            Test {
-                negated: true,
-                kind: TestKind::InDegree(1, 2),
-            },
-            Test {
-                negated: false,
-                kind: TestKind::OutDegree(0, 0),
-            },
-            Test {
-                negated: true,
-                kind: TestKind::Relation(
-                    Relation::Less,
-                    Operand::Variable(1),
-                    Operand::Constant(5),
-                ),
+            RuleNode {
+                mark: 0,
+                root: false,
+                label: vec![Element::Variable(1), Element::Variable(2)],
             },
         ],
-    };
+        edges: vec![RuleEdge {
+            mark: mark::DASHED,
+            source: 1,
+            target: 0,
+            label: vec![],
+        }],
+    }
+}
+
+fn small_right() -> RuleGraph {
+    RuleGraph {
+        nodes: vec![
+            RuleNode {
+                mark: mark::ANY,
+                root: false,
+                label: vec![],
+            },
+            RuleNode {
+                mark: 0,
+                root: false,
+                label: vec![
+                    Element::Constant(-7),
+                    Element::Difference(Operand::Variable(1), Operand::Constant(-2)),
+                    Element::Sum(Operand::Constant(3), Operand::Variable(2)),
+                ],
+            },
+        ],
+        edges: vec![RuleEdge {
+            mark: mark::RED,
+            source: 0,
+            target: 1,
+            label: vec![],
+        }],
+    }
+}
+
+fn small_tests() -> Vec<Test> {
+    vec![
+        Test {
+            negated: true,
+            kind: TestKind::Edge(0, 1),
+        },
+        Test {
+            negated: true,
+            kind: TestKind::InDegree(1, 2),
+        },
+        Test {
+            negated: false,
+            kind: TestKind::OutDegree(0, 0),
+        },
+        Test {
+            negated: true,
+            kind: TestKind::Relation(Relation::Less, Operand::Variable(1), Operand::Constant(5)),
+        },
+    ]
+}
+
+/// A rule in which most parts of the notation occur.
+fn small_rule() -> Rule {
+    Rule {
+        variables: vec![VariableType::List, VariableType::Int, VariableType::Int],
+        left: small_left(),
+        right: small_right(),
+        interface: 1,
+        tests: small_tests(),
+    }
+}
+
+#[test]
+fn the_text_of_a_small_image_reads_so() {
     let main = Command::Sequence(vec![
         Command::Loop(Box::new(Command::RuleSet(vec![0]))),
         Command::Sequence(vec![Command::RuleSet(vec![0, 0])]),
@@ -331,7 +343,7 @@ fn the_text_of_a_small_image_reads_so() {
         ),
     ]);
     let image = encode::program(&Program {
-        rules: vec![rule],
+        rules: vec![small_rule()],
         main,
     });
     let expected = "\

@@ -1,0 +1,168 @@
+//! What runs exercise: an observer that counts.
+
+use crate::observer::{Event, Observer};
+use crate::tree::{mark, Command, Element, Relation, Rule, Test, TestKind, VariableType};
+
+#[derive(Clone, Debug, Default, PartialEq, Eq)]
+pub struct Exercised {
+    pub steps: u64,
+    pub applications: u64,
+    /// Guards given back after a rule was applied in them.
+    pub guards_undone: u64,
+    /// Failing loop bodies given back after a rule was applied in them.
+    pub bodies_undone: u64,
+    pub breaks: u64,
+    /// New nodes and right edges that took a slot which the same application had freed.
+    pub slots_reused: u64,
+    /// Placements that keep rules 1 to 4 and break the dangling condition.
+    pub dangling_refusals: u64,
+    /// Tests that held, negation included.
+    pub tests_true: TestCounts,
+    /// Tests that did not hold, negation included.
+    pub tests_false: TestCounts,
+    pub negated_tests: u64,
+    /// Elements of right labels that were evaluated.
+    pub elements: ElementCounts,
+    /// Left nodes and edges of mark any in matches.
+    pub any_marks_matched: u64,
+    /// Left roots in matches.
+    pub roots_matched: u64,
+    /// For each guard and body that has begun and not ended, the applications before it.
+    applications_before: Vec<u64>,
+}
+
+#[derive(Clone, Debug, Default, PartialEq, Eq)]
+pub struct TestCounts {
+    pub edge: u64,
+    pub in_degree: u64,
+    pub out_degree: u64,
+    pub equal: u64,
+    pub less: u64,
+}
+
+#[derive(Clone, Debug, Default, PartialEq, Eq)]
+pub struct ElementCounts {
+    pub constant: u64,
+    pub int_variable: u64,
+    pub list_variable: u64,
+    pub sum: u64,
+    pub difference: u64,
+}
+
+impl Observer for Exercised {
+    fn sees(&mut self, event: Event) {
+        match event {
+            Event::Entered(command) => self.entered(command),
+            Event::Attempted => self.applications_before.push(self.applications),
+            Event::Kept => drop(self.applications_before.pop()),
+            Event::GuardUndone => self.guards_undone += u64::from(self.applied_in_last()),
+            Event::BodyUndone => self.bodies_undone += u64::from(self.applied_in_last()),
+            Event::Dangled => self.dangling_refusals += 1,
+            Event::Tested(tests, held) => self.tested(tests, held),
+            Event::Matched(rule) => self.matched(rule),
+            Event::Evaluated(rule, element) => {
+                *self.elements.of(element, &rule.variables) += 1;
+            }
+            Event::Placed(slot, left) => self.slots_reused += u64::from(left.contains(&slot)),
+            Event::Applied => self.applications += 1,
+        }
+    }
+}
+
+impl Exercised {
+    fn entered(&mut self, command: &Command) {
+        self.steps += 1;
+        self.breaks += u64::from(*command == Command::Break);
+    }
+
+    /// Whether a rule was applied in the guard or body that began last, which has ended.
+    fn applied_in_last(&mut self) -> bool {
+        let before = self.applications_before.pop();
+        before.is_some_and(|before| self.applications > before)
+    }
+
+    fn tested(&mut self, tests: &[Test], held: &[bool]) {
+        for (test, holds) in tests.iter().zip(held) {
+            let counts = match holds {
+                true => &mut self.tests_true,
+                false => &mut self.tests_false,
+            };
+            *counts.of(&test.kind) += 1;
+            self.negated_tests += u64::from(test.negated);
+        }
+    }
+
+    fn matched(&mut self, rule: &Rule) {
+        let any_nodes = rule.left.nodes.iter().filter(|n| n.mark == mark::ANY);
+        let any_edges = rule.left.edges.iter().filter(|e| e.mark == mark::ANY);
+        let roots = rule.left.nodes.iter().filter(|n| n.root);
+        self.any_marks_matched += (any_nodes.count() + any_edges.count()) as u64;
+        self.roots_matched += roots.count() as u64;
+    }
+}
+
+impl TestCounts {
+    fn of(&mut self, kind: &TestKind) -> &mut u64 {
+        match kind {
+            TestKind::Edge(..) => &mut self.edge,
+            TestKind::InDegree(..) => &mut self.in_degree,
+            TestKind::OutDegree(..) => &mut self.out_degree,
+            TestKind::Relation(Relation::Equal, ..) => &mut self.equal,
+            TestKind::Relation(Relation::Less, ..) => &mut self.less,
+        }
+    }
+}
+
+impl ElementCounts {
+    fn of(&mut self, element: &Element, variables: &[VariableType]) -> &mut u64 {
+        match element {
+            Element::Constant(_) => &mut self.constant,
+            Element::Variable(number) => match variables[usize::from(*number)] {
+                VariableType::Int => &mut self.int_variable,
+                VariableType::List => &mut self.list_variable,
+            },
+            Element::Sum(..) => &mut self.sum,
+            Element::Difference(..) => &mut self.difference,
+        }
+    }
+}
+
+#[cfg(test)]
+mod tests {
+    use super::*;
+
+    fn seen(events: &[Event]) -> Exercised {
+        let mut exercised = Exercised::default();
+        events.iter().for_each(|event| exercised.sees(*event));
+        exercised
+    }
+
+    #[test]
+    fn what_is_undone_counts_where_a_rule_was_applied_in_it() {
+        use Event::{Applied, Attempted, BodyUndone, GuardUndone, Kept};
+        let idle = seen(&[Applied, Attempted, GuardUndone, Attempted, BodyUndone]);
+        assert_eq!((idle.guards_undone, idle.bodies_undone), (0, 0));
+        let inner = seen(&[Attempted, Attempted, Applied, BodyUndone, GuardUndone]);
+        assert_eq!((inner.guards_undone, inner.bodies_undone), (1, 1));
+        let outer = seen(&[
+            Attempted,
+            Applied,
+            Attempted,
+            Kept,
+            Attempted,
+            BodyUndone,
+            GuardUndone,
+        ]);
+        assert_eq!((outer.guards_undone, outer.bodies_undone), (1, 0));
+    }
+
+    #[test]
+    fn a_slot_counts_as_reused_where_a_left_item_had_it() {
+        let exercised = seen(&[
+            Event::Placed(3, &[1, 3]),
+            Event::Placed(2, &[1, 3]),
+            Event::Placed(0, &[]),
+        ]);
+        assert_eq!(exercised.slots_reused, 1);
+    }
+}

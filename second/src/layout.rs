@@ -1,0 +1,274 @@
+//! The layout of the tables and the journal as a value: the most slots of each, the atoms of a label, the width of a
+//! slot number, and from these the length of a slot and the place of each byte in it. It is handed to whoever reads or
+//! writes bytes, so runs of different layouts stand side by side.
+
+use std::ops::Range;
+
+/// The bytes of an atom.
+pub const ATOM_BYTES: usize = 4;
+
+/// Places that are the same in every layout.
+pub mod place {
+    /// In a node or edge slot: 0 free or 1 live.
+    pub const STATE: usize = 0;
+    pub const MARK: usize = 1;
+    /// A node's root flag.
+    pub const ROOT: usize = 2;
+    /// The byte of an edge that is zero.
+    pub const ZERO: usize = 2;
+    pub const LABEL_LENGTH: usize = 3;
+    /// In a journal record.
+    pub const KIND: usize = 0;
+}
+
+/// The bytes of a slot before a node's atoms or an edge's ends.
+const HEAD: usize = place::LABEL_LENGTH + 1;
+
+#[derive(Clone, Copy, Debug, PartialEq, Eq)]
+pub struct Layout {
+    /// The most atoms of a label.
+    pub atoms: usize,
+    /// The bytes of a slot number, one or two.
+    pub width: usize,
+    pub most_nodes: usize,
+    pub most_edges: usize,
+    pub most_records: usize,
+}
+
+impl Layout {
+    /// The layout of document 01.
+    pub const BASE: Layout = Layout {
+        atoms: 4,
+        width: 2,
+        most_nodes: 512,
+        most_edges: 1024,
+        most_records: 1024,
+    };
+
+    /// Whether a label can have so many atoms.
+    pub const fn holds(&self, atoms: usize) -> bool {
+        atoms <= self.atoms
+    }
+}
+
+/// Lengths in bytes.
+impl Layout {
+    pub const fn node_length(&self) -> usize {
+        self.node_atoms() + self.label_bytes()
+    }
+
+    pub const fn edge_length(&self) -> usize {
+        self.edge_atoms() + self.label_bytes()
+    }
+
+    /// A record has room for an edge slot, the longer of the two kinds.
+    pub const fn record_length(&self) -> usize {
+        self.record_before() + self.edge_length()
+    }
+
+    /// The atoms of a slot, unused ones included.
+    const fn label_bytes(&self) -> usize {
+        ATOM_BYTES * self.atoms
+    }
+
+    /// Whether a node table can have so many bytes.
+    pub const fn is_node_table(&self, bytes: usize) -> bool {
+        is_table(bytes, self.node_length(), self.most_nodes)
+    }
+
+    /// Whether an edge table can have so many bytes.
+    pub const fn is_edge_table(&self, bytes: usize) -> bool {
+        is_table(bytes, self.edge_length(), self.most_edges)
+    }
+
+    /// Whether a journal can have so many bytes.
+    pub const fn is_journal(&self, bytes: usize) -> bool {
+        is_table(bytes, self.record_length(), self.most_records)
+    }
+}
+
+/// Whole slots, and not too many of them.
+const fn is_table(bytes: usize, slot: usize, most: usize) -> bool {
+    bytes % slot == 0 && bytes / slot <= most
+}
+
+/// Places that depend on the width of a slot number: where something starts, or the range that it takes.
+impl Layout {
+    pub const fn node_atoms(&self) -> usize {
+        HEAD
+    }
+
+    pub const fn edge_source(&self) -> Range<usize> {
+        HEAD..HEAD + self.width
+    }
+
+    pub const fn edge_target(&self) -> Range<usize> {
+        HEAD + self.width..HEAD + 2 * self.width
+    }
+
+    pub const fn edge_atoms(&self) -> usize {
+        HEAD + 2 * self.width
+    }
+
+    /// The zeros between a record's kind and its slot number, which fill the kind up to the width of a slot number.
+    pub const fn record_zeros(&self) -> Range<usize> {
+        place::KIND + 1..self.width
+    }
+
+    pub const fn record_slot(&self) -> Range<usize> {
+        self.width..2 * self.width
+    }
+
+    /// What the slot held before.
+    pub const fn record_before(&self) -> usize {
+        2 * self.width
+    }
+}
+
+/// Writing.
+impl Layout {
+    /// A slot number as bytes.
+    pub fn slot_number(&self, slot: u16) -> Vec<u8> {
+        let bytes = slot.to_be_bytes();
+        let (unused, used) = bytes.split_at(bytes.len() - self.width);
+        assert!(
+            unused.iter().all(|byte| *byte == 0),
+            "slot {slot} is too wide for the layout"
+        );
+        used.to_vec()
+    }
+
+    /// A live node slot.
+    pub fn node_slot(&self, mark: u8, root: bool, atoms: &[i32]) -> Vec<u8> {
+        let mut slot = vec![0; self.node_length()];
+        slot[place::ROOT] = u8::from(root);
+        self.put_head(&mut slot, mark, atoms);
+        put_atoms(&mut slot[self.node_atoms()..], atoms);
+        slot
+    }
+
+    /// A live edge slot.
+    pub fn edge_slot(&self, mark: u8, source: u16, target: u16, atoms: &[i32]) -> Vec<u8> {
+        let mut slot = vec![0; self.edge_length()];
+        self.put_head(&mut slot, mark, atoms);
+        slot[self.edge_source()].copy_from_slice(&self.slot_number(source));
+        slot[self.edge_target()].copy_from_slice(&self.slot_number(target));
+        put_atoms(&mut slot[self.edge_atoms()..], atoms);
+        slot
+    }
+
+    fn put_head(&self, slot: &mut [u8], mark: u8, atoms: &[i32]) {
+        assert!(
+            self.holds(atoms.len()),
+            "{} atoms are too many for the layout",
+            atoms.len()
+        );
+        slot[place::STATE] = 1;
+        slot[place::MARK] = mark;
+        slot[place::LABEL_LENGTH] = atoms.len() as u8;
+    }
+}
+
+fn put_atoms(bytes: &mut [u8], atoms: &[i32]) {
+    for (four, atom) in bytes.chunks_exact_mut(ATOM_BYTES).zip(atoms) {
+        four.copy_from_slice(&atom.to_be_bytes());
+    }
+}
+
+/// The slot number that these bytes write.
+pub fn number_of(bytes: &[u8]) -> u16 {
+    bytes
+        .iter()
+        .fold(0, |number, byte| number << 8 | u16::from(*byte))
+}
+
+/// The atoms that these bytes write.
+pub fn atoms_of(bytes: &[u8]) -> Vec<i32> {
+    let fours = bytes.chunks_exact(ATOM_BYTES);
+    fours
+        .map(|four| i32::from_be_bytes([four[0], four[1], four[2], four[3]]))
+        .collect()
+}
+
+#[cfg(test)]
+mod tests {
+    use super::*;
+
+    const SMALL: Layout = Layout {
+        atoms: 1,
+        width: 1,
+        most_nodes: 128,
+        most_edges: 255,
+        most_records: 255,
+    };
+
+    fn lengths(layout: &Layout) -> [usize; 3] {
+        [
+            layout.node_length(),
+            layout.edge_length(),
+            layout.record_length(),
+        ]
+    }
+
+    #[test]
+    fn the_base_layout_is_document_01s() {
+        let base = Layout::BASE;
+        assert_eq!(lengths(&base), [20, 24, 28]);
+        assert_eq!(
+            [base.most_nodes, base.most_edges, base.most_records],
+            [512, 1024, 1024]
+        );
+        assert_eq!((base.edge_source(), base.edge_target()), (4..6, 6..8));
+        assert_eq!((base.record_zeros(), base.record_slot()), (1..2, 2..4));
+    }
+
+    #[test]
+    fn lengths_follow_from_atoms_and_width() {
+        assert_eq!(lengths(&SMALL), [8, 10, 12]);
+        assert!(SMALL.record_zeros().is_empty());
+        let longer = Layout {
+            atoms: 8,
+            ..Layout::BASE
+        };
+        assert_eq!(lengths(&longer), [36, 40, 44]);
+    }
+
+    #[test]
+    fn a_table_has_whole_slots_and_not_too_many() {
+        let base = Layout::BASE;
+        assert!([0, 20, 512 * 20]
+            .map(|bytes| base.is_node_table(bytes))
+            .iter()
+            .all(|holds| *holds));
+        assert!(![19, 21, 513 * 20]
+            .map(|bytes| base.is_node_table(bytes))
+            .contains(&true));
+        assert!(base.is_edge_table(1024 * 24) && !base.is_edge_table(1025 * 24));
+        assert!(base.is_journal(1024 * 28) && !base.is_journal(1025 * 28));
+        assert!(SMALL.is_node_table(128 * 8) && !SMALL.is_node_table(129 * 8));
+        assert!(SMALL.is_edge_table(255 * 10) && !SMALL.is_edge_table(256 * 10));
+        assert!(SMALL.is_journal(255 * 12) && !SMALL.is_journal(256 * 12));
+    }
+
+    #[test]
+    fn slots_are_written_byte_by_byte() {
+        let wide = Layout::BASE.edge_slot(5, 3, 258, &[-2]);
+        let unused = [0; 12];
+        assert_eq!(
+            wide,
+            [&[1, 5, 0, 1, 0, 3, 1, 2, 255, 255, 255, 254], &unused[..]].concat()
+        );
+        assert_eq!(
+            SMALL.edge_slot(5, 3, 127, &[-2]),
+            [1, 5, 0, 1, 3, 127, 255, 255, 255, 254]
+        );
+        assert_eq!(SMALL.node_slot(4, true, &[258]), [1, 4, 1, 1, 0, 0, 1, 2]);
+        assert_eq!(SMALL.node_slot(0, false, &[]), [1, 0, 0, 0, 0, 0, 0, 0]);
+    }
+
+    #[test]
+    #[should_panic(expected = "too wide")]
+    fn a_slot_number_that_is_too_wide_is_not_written() {
+        SMALL.slot_number(256);
+    }
+}

@@ -1,0 +1,41 @@
+//! What a run tells an observer from outside. Nothing that a run does depends on who observes it.
+
+use crate::tree::{Command, Element, Rule, Test};
+
+/// What a run has just done.
+#[derive(Clone, Copy, Debug)]
+pub enum Event<'a> {
+    /// A command was entered, which is one step.
+    Entered(&'a Command),
+    /// A guard or a loop body begins. Once it has ended its changes are kept or undone, unless the whole run ends.
+    Attempted,
+    /// The changes of what was attempted last stay.
+    Kept,
+    /// A guard's changes are given back.
+    GuardUndone,
+    /// A failing loop body's changes are given back.
+    BodyUndone,
+    /// A placement keeps the matching rules 1 to 4 and breaks the dangling condition.
+    Dangled,
+    /// The tests of a rule at a placement that keeps the matching rules 1 to 5, and whether each holds.
+    Tested(&'a [Test], &'a [bool]),
+    /// A match of the rule was found.
+    Matched(&'a Rule),
+    /// An element of one of the rule's right labels is evaluated.
+    Evaluated(&'a Rule, &'a Element),
+    /// A new item takes a slot; the slots of the left items of its kind.
+    Placed(usize, &'a [usize]),
+    /// A rule was applied.
+    Applied,
+}
+
+pub trait Observer {
+    fn sees(&mut self, event: Event);
+}
+
+/// The observer of plain runs, who looks away.
+pub struct Unobserved;
+
+impl Observer for Unobserved {
+    fn sees(&mut self, _: Event) {}
+}

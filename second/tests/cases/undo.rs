@@ -1,0 +1,28 @@
+//! The call undo.
+
+use super::bytes::*;
+use second::calls::undo;
+
+#[test]
+fn undo_stores_the_counted_records_from_last_to_first_and_zeros_them() {
+    let first: [u8; 20] = std::array::from_fn(|byte| byte as u8 + 1);
+    let second = [9; 20];
+    let edge: [u8; 24] = std::array::from_fn(|byte| byte as u8 + 100);
+    let mut records = [
+        node_record(1, &first),
+        node_record(1, &second),
+        edge_record(0, &edge),
+        vec![7; 28],
+    ]
+    .concat();
+    records[24..28].fill(5);
+    let outcome = undo(&[3; 40], &[4; 24], &records, 3, &[0xEE; 8]);
+    assert_eq!(numbers(&outcome), (0, 0, 3));
+    assert_eq!(outcome.nodes, [[3; 20], first].concat());
+    assert_eq!(outcome.edges, edge);
+    assert_eq!(outcome.journal, [&[0; 84][..], &[7; 28]].concat());
+    let outcome = undo(&[3; 40], &[4; 24], &records, 0, &[0xEE; 8]);
+    assert_eq!(numbers(&outcome), (0, 0, 0));
+    assert_eq!((outcome.nodes, outcome.edges), (vec![3; 40], vec![4; 24]));
+    assert_eq!(outcome.journal, records);
+}

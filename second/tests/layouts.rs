@@ -1,0 +1,334 @@
+//! The calls at another layout than the base one, in the same process: a smaller one, whose slots have 8, 10 and 12
+//! bytes. Bytes are written out by hand.
+
+use second::calls::{Outcome, RunCall, UndoCall};
+use second::corpus;
+use second::encode::{self, RunnerInput};
+use second::host::{Edge, Host, Label, Node};
+use second::layout::Layout;
+use second::listing::{call_of, listing, listing_at, read_input};
+use second::observer::Unobserved;
+use second::tree::*;
+
+const SMALL: Layout = Layout {
+    atoms: 1,
+    width: 1,
+    most_nodes: 128,
+    most_edges: 255,
+    most_records: 255,
+};
+
+fn reported(outcome: &Outcome) -> (u32, u32, u32) {
+    let number = |at: usize| u32::from_be_bytes(outcome.report[at..at + 4].try_into().unwrap());
+    (outcome.answer, number(0), number(4))
+}
+
+/// A live root in slot 1 of three, a dashed edge from it to node 2 in slot 0 of two.
+fn graph() -> Host {
+    let node = |mark, root, atoms: &[i32]| Node {
+        mark,
+        root,
+        label: Label::of(atoms),
+    };
+    let edge = Edge {
+        mark: mark::DASHED,
+        source: 1,
+        target: 2,
+        label: Label::of(&[-1]),
+    };
+    Host {
+        nodes: vec![
+            None,
+            Some(node(mark::GREY, true, &[258])),
+            Some(node(mark::NONE, false, &[])),
+        ],
+        edges: vec![Some(edge), None],
+    }
+}
+
+#[test]
+fn a_table_written_at_another_layout_is_read_back_as_the_same_graph() {
+    let (nodes, edges) = (graph().node_table(&SMALL), graph().edge_table(&SMALL));
+    let free = [0; 8];
+    assert_eq!(
+        nodes,
+        [free, [1, 4, 1, 1, 0, 0, 1, 2], [1, 0, 0, 0, 0, 0, 0, 0]].concat()
+    );
+    assert_eq!(
+        edges,
+        [[1, 5, 0, 1, 1, 2, 255, 255, 255, 255], [0; 10]].concat()
+    );
+    assert_eq!(Host::read(&SMALL, &nodes, &edges), Ok(graph()));
+    let (nodes, edges) = (
+        graph().node_table(&Layout::BASE),
+        graph().edge_table(&Layout::BASE),
+    );
+    assert_eq!((nodes.len(), edges.len()), (3 * 20, 2 * 24));
+    assert_eq!(Host::read(&Layout::BASE, &nodes, &edges), Ok(graph()));
+}
+
+#[test]
+fn a_label_longer_than_the_layouts_breaks_it() {
+    let long = [1, 0, 0, 2, 0, 0, 0, 0];
+    let reason = Host::read(&SMALL, &long, &[]).unwrap_err();
+    assert_eq!(reason, "node 0: its label is longer than one atom");
+    let mut long = [0; 20];
+    (long[0], long[3]) = (1, 5);
+    let reason = Host::read(&Layout::BASE, &long, &[]).unwrap_err();
+    assert_eq!(reason, "node 0: its label is longer than four atoms");
+}
+
+fn node(mark: u8, label: &[Element]) -> RuleNode {
+    RuleNode {
+        mark,
+        root: false,
+        label: label.to_vec(),
+    }
+}
+
+fn edge(source: u8, target: u8) -> RuleEdge {
+    RuleEdge {
+        mark: mark::NONE,
+        source,
+        target,
+        label: vec![],
+    }
+}
+
+/// Case P's program: as long as possible grey x to grey y becomes red x, blue x + y, with the edge turned round.
+fn case_p() -> Vec<u8> {
+    let (x, y) = (Element::Variable(0), Element::Variable(1));
+    let sum = Element::Sum(Operand::Variable(0), Operand::Variable(1));
+    let rule = Rule {
+        variables: vec![VariableType::Int; 2],
+        left: RuleGraph {
+            nodes: vec![node(mark::GREY, &[x]), node(mark::GREY, &[y])],
+            edges: vec![edge(0, 1)],
+        },
+        right: RuleGraph {
+            nodes: vec![node(mark::RED, &[x]), node(mark::BLUE, &[sum])],
+            edges: vec![edge(1, 0)],
+        },
+        interface: 2,
+        tests: vec![],
+    };
+    let main = Command::Loop(Box::new(Command::RuleSet(vec![0])));
+    encode::program(&Program {
+        rules: vec![rule],
+        main,
+    })
+}
+
+const FIVE: [u8; 8] = [1, 4, 0, 1, 0, 0, 0, 5];
+const SEVEN: [u8; 8] = [1, 4, 0, 1, 0, 0, 0, 7];
+const THERE: [u8; 10] = [1, 0, 0, 0, 0, 1, 0, 0, 0, 0];
+const BACK: [u8; 10] = [1, 0, 0, 0, 1, 0, 0, 0, 0, 0];
+
+#[test]
+fn case_p_runs_at_the_small_layout_and_is_undone_there() {
+    let call = RunCall {
+        nodes: [FIVE, SEVEN].concat(),
+        edges: THERE.to_vec(),
+        journal: vec![0xEE; 5 * 12],
+        program: case_p(),
+        fuel: 10,
+        report: vec![0xEE; 8],
+    };
+    let after = call.outcome_at(&SMALL, &mut Unobserved);
+    assert_eq!(reported(&after), (0, 3, 4));
+    assert_eq!(
+        after.nodes,
+        [[1, 1, 0, 1, 0, 0, 0, 5], [1, 3, 0, 1, 0, 0, 0, 12]].concat()
+    );
+    assert_eq!(after.edges, BACK);
+    let records: [&[u8]; 6] = [
+        &[2, 0, 1, 0, 0, 0, 0, 1, 0, 0, 0, 0],
+        &[1, 0, 1, 4, 0, 1, 0, 0, 0, 5, 0, 0],
+        &[1, 1, 1, 4, 0, 1, 0, 0, 0, 7, 0, 0],
+        &[2, 0, 0, 0, 0, 0, 0, 0, 0, 0, 0, 0],
+        &[0; 12],
+        &[],
+    ];
+    assert_eq!(after.journal, records.concat());
+    let undone = UndoCall {
+        nodes: after.nodes,
+        edges: after.edges,
+        journal: after.journal,
+        count: 4,
+        report: vec![0xEE; 8],
+    }
+    .outcome_at(&SMALL);
+    assert_eq!(reported(&undone), (0, 0, 4));
+    assert_eq!((undone.nodes, undone.edges), (call.nodes, call.edges));
+    assert_eq!(undone.journal, [0; 5 * 12]);
+}
+
+#[test]
+fn the_runner_lists_case_p_at_the_small_layout() {
+    let mut input = RunnerInput {
+        nodes: [FIVE, SEVEN].concat(),
+        edges: THERE.to_vec(),
+        records: 255,
+        fuel: 10,
+        program: case_p(),
+    };
+    let expected = "answer 0 steps 3 records 4\n\
+                    node 0 red plain 5\n\
+                    node 1 blue plain 12\n\
+                    edge 0 1 0 none\n";
+    assert_eq!(listing_at(&SMALL, &encode::runner_input(&input)), expected);
+    input.records = 256;
+    let bytes = encode::runner_input(&input);
+    assert_eq!(listing_at(&SMALL, &bytes), "input refused\n");
+    assert_eq!(listing(&bytes), "answer 10 steps 0 records 0\n");
+}
+
+/// A call on one unlabelled node, which a rule gives a label of so many atoms.
+fn labelling(layout: &Layout, atoms: usize) -> RunCall {
+    let rule = Rule {
+        variables: vec![],
+        left: RuleGraph {
+            nodes: vec![node(mark::NONE, &[])],
+            edges: vec![],
+        },
+        right: RuleGraph {
+            nodes: vec![node(mark::NONE, &vec![Element::Constant(9); atoms])],
+            edges: vec![],
+        },
+        interface: 1,
+        tests: vec![],
+    };
+    let main = Command::RuleSet(vec![0]);
+    RunCall {
+        nodes: layout.node_slot(mark::NONE, false, &[]),
+        edges: vec![],
+        journal: vec![0; layout.record_length()],
+        program: encode::program(&Program {
+            rules: vec![rule],
+            main,
+        }),
+        fuel: 1,
+        report: vec![0; 8],
+    }
+}
+
+#[test]
+fn a_label_over_the_layouts_atoms_answers_6() {
+    let answer = |layout: &Layout, atoms: usize| {
+        let call = labelling(layout, atoms);
+        let outcome = call.outcome_at(layout, &mut Unobserved);
+        match outcome.answer {
+            0 => assert_eq!(
+                outcome.nodes,
+                layout.node_slot(mark::NONE, false, &vec![9; atoms])
+            ),
+            _ => assert_eq!(outcome.nodes, call.nodes),
+        }
+        outcome.answer
+    };
+    assert_eq!(
+        [0, 1, 2, 4].map(|atoms| answer(&SMALL, atoms)),
+        [0, 0, 6, 6]
+    );
+    assert_eq!(
+        [0, 1, 2, 4].map(|atoms| answer(&Layout::BASE, atoms)),
+        [0; 4]
+    );
+}
+
+#[test]
+fn lengths_are_refused_by_the_layouts_numbers() {
+    let answer = |nodes: usize, edges: usize, journal: usize| {
+        let call = RunCall {
+            nodes: vec![0; nodes],
+            edges: vec![0; edges],
+            journal: vec![0; journal],
+            program: encode::command(&Command::Skip),
+            fuel: 1,
+            report: vec![0; 8],
+        };
+        call.outcome_at(&SMALL, &mut Unobserved).answer
+    };
+    assert_eq!(answer(128 * 8, 255 * 10, 255 * 12), 0);
+    assert_eq!(answer(129 * 8, 255 * 10, 255 * 12), 10);
+    assert_eq!(answer(128 * 8, 256 * 10, 255 * 12), 11);
+    assert_eq!(answer(128 * 8, 255 * 10, 256 * 12), 12);
+    assert_eq!(
+        [answer(20, 0, 0), answer(0, 24, 0), answer(0, 0, 28)],
+        [10, 11, 12]
+    );
+}
+
+#[test]
+fn undo_looks_at_kind_and_slot_of_a_narrow_record() {
+    let answer = |kind: u8, slot: u8| {
+        let mut journal = vec![7; 12];
+        (journal[0], journal[1]) = (kind, slot);
+        let call = UndoCall {
+            nodes: vec![0; 2 * 8],
+            edges: vec![0; 10],
+            journal,
+            count: 1,
+            report: vec![0; 8],
+        };
+        let left = call.outcome_at(&SMALL);
+        let written = left
+            .nodes
+            .iter()
+            .chain(&left.edges)
+            .filter(|byte| **byte == 7);
+        (left.answer, written.count())
+    };
+    assert_eq!([answer(1, 1), answer(2, 0)], [(0, 8), (0, 10)]);
+    assert_eq!(
+        [answer(1, 2), answer(2, 1), answer(3, 0), answer(0, 0)],
+        [(20, 0); 4]
+    );
+}
+
+/// The input at the small layout, where its tables fit there.
+fn narrowed(input: &RunnerInput) -> Option<RunnerInput> {
+    let base = Layout::BASE;
+    if !base.is_node_table(input.nodes.len()) || !base.is_edge_table(input.edges.len()) {
+        return None;
+    }
+    let host = Host::read(&base, &input.nodes, &input.edges).ok()?;
+    let short = |label: &Label| SMALL.holds(label.atoms().len());
+    let fits = host.nodes.len() <= SMALL.most_nodes
+        && host.edges.len() <= SMALL.most_edges
+        && host.live_nodes().all(|(_, node)| short(&node.label))
+        && host.live_edges().all(|(_, edge)| short(&edge.label));
+    fits.then(|| RunnerInput {
+        nodes: host.node_table(&SMALL),
+        edges: host.edge_table(&SMALL),
+        records: input.records.min(SMALL.most_records as u16),
+        ..input.clone()
+    })
+}
+
+#[test]
+fn a_result_or_fail_of_the_small_layout_is_the_base_layouts() {
+    const SEED: u64 = 5;
+    const IMAGES: u64 = 3_000;
+    let (mut results, mut fails) = (0, 0);
+    let images = corpus::images(SEED, IMAGES).into_iter();
+    let inputs = images.filter_map(|image| read_input(&image));
+    for (small, input) in inputs.filter_map(|input| Some((narrowed(&input)?, input))) {
+        let left = call_of(&SMALL, &small).outcome_at(&SMALL, &mut Unobserved);
+        if left.answer > 1 {
+            continue;
+        }
+        let base = call_of(&Layout::BASE, &input).outcome();
+        assert_eq!(reported(&left), reported(&base));
+        let after = Host::read(&SMALL, &left.nodes, &left.edges);
+        assert_eq!(after, Host::read(&Layout::BASE, &base.nodes, &base.edges));
+        match left.answer {
+            0 => results += 1,
+            _ => fails += 1,
+        }
+    }
+    assert!(
+        results > 100 && fails > 20,
+        "{results} results, {fails} fails"
+    );
+}
