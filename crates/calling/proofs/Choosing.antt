@@ -47,7 +47,7 @@ module _ (rules : List Rule) (h : Host) where
     tried-none e = tried none e
 
     tried-some : (p : List ℕ) → firstMatch h (ruleAt rules n) ≡ some p
-        → firstRule rules h (drop i l) ≡ some (record { rule = ruleAt rules n; slots = p })
+        → firstRule rules h (drop i l) ≡ some (record { number = n; rule = ruleAt rules n; slots = p })
     unfolding orLater
     tried-some p e = tried (some p) e
 

@@ -19,13 +19,13 @@ use Rattle.parts.specs.Runs.{For}
 use Rattle.graph.specs.Graph.{Legal}
 use Rattle.meaning.specs.Layout.{hostOf}
 use Rattle.matching.specs.declared.Outcome.the-variants.{Match, NoMatch}
-use Rattle.ledger.specs.Running.{ledgerOf, stateOf, Running}
+use Rattle.ledger.specs.Running.{ledgerOf, stateOf, Running, outOf}
 use Rattle.ledger.specs.Whole.{running-keeps}
 use Rattle.ledger.specs.declared.Applied.{Applied as Came}
 use Rattle.ledger.specs.declared.Applied.the-variants.{Done, Stopped}
 use Rattle.applying.specs.Application.{appliedOf, AtMatch, Applies}
 use Rattle.applying.specs.declared.After.{After}
-use Rattle.calling.specs.Called.{Listed, outOf, Called}
+use Rattle.calling.specs.Called.{Listed, Called}
 use Rattle.calling.specs.Choosing.{chosenAt, IsChoice, endOf, ranAfter}
 use Rattle.meaning.specs.declared.Ran.{Ran}
 use Rattle.calling.specs.declared.Choice.{Choice}

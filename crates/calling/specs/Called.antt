@@ -15,7 +15,7 @@ use Rattle.meaning.specs.Laws.LegalCommands.{LegalRules}
 use Rattle.meaning.specs.declared.Layout.{Layout}
 use Rattle.meaning.specs.declared.Tally.{Tally}
 use Rattle.meaning.specs.Layout.{hostOf}
-use Rattle.ledger.specs.Running.{stateOf, Running}
+use Rattle.ledger.specs.Running.{stateOf, outOf, Running}
 use Rattle.meaning.specs.declared.Ran.{Ran}
 
 -- the image is a program whose rules are legal
@@ -30,13 +30,9 @@ pub record Listed (image numbers : List ℕ) : Type 0 where
   pub exist : every (λ i. ltb i (length (programmed .tree .rules))) numbers ≡ true
 
 module _ (L : Layout) where
-  -- how a command ended, with the state that the bytes hold after it
-  abbrev pub outOf : Ran → List ℕ → List ℕ → List ℕ → Out
-  outOf r nodes edges journal = record { end = r .end; state = stateOf L nodes edges journal (r .tally) }
-
   -- what a call of the rules of these numbers leaves: the definition's end and state, and bytes that run on
   pub record Called (image numbers nodes edges journal : List ℕ) (t : Tally) (r : Ran) (nodes′ edges′ journal′ : List ℕ) : Type 0 where
     pub right : (p : Program) → program image ≡ some p
-        → outOf r nodes′ edges′ journal′
+        → outOf L r nodes′ edges′ journal′
         ≡ call (L .atoms) (journalRoom L journal) (p .rules) (firstRule (p .rules) (hostOf L nodes edges) numbers) (stateOf L nodes edges journal t)
     pub running : Running L nodes′ edges′ journal′ (r .tally .records)

@@ -18,55 +18,11 @@ use Rattle.meaning.specs.declared.Tally.{Tally}
 use Rattle.meaning.specs.declared.End.{End}
 use Rattle.meaning.specs.declared.End.the-variants.{Done, Failed, Broke, Stopped}
 use Rattle.parts.specs.Runs.{Run}
-use Rattle.ledger.specs.Running.{ledgerOf, stateOf, Running}
-use Rattle.calling.specs.Called.{Programmed, outOf}
+use Rattle.ledger.specs.Running.{ledgerOf, stateOf, Running, outOf}
+use Rattle.calling.specs.Called.{Programmed}
 use Rattle.meaning.specs.declared.Ran.{Ran}
-use Rattle.commands.specs.declared.Kind.{Kind}
-use Rattle.commands.specs.declared.Kind.the-variants.{RuleSet, Sequence, Guarded, Loop, Leaf}
-
--- Kinds and ends.
-
--- the tag of a command that ends at once
-abbrev pub LeafTag : ℕ → End → Type 0
-LeafTag tag Done = tag ≡ 0x55
-LeafTag tag Failed = tag ≡ 0x56
-LeafTag tag Broke = tag ≡ 0x57
-LeafTag tag (Stopped w) = ⊥
-
--- the tag of each kind
-abbrev pub Tagged : ℕ → Kind → Type 0
-Tagged tag RuleSet = tag ≡ 0x50
-Tagged tag Sequence = tag ≡ 0x51
-Tagged tag (Guarded keep) = tag ≡ choose keep 0x53 0x52
-Tagged tag Loop = tag ≡ 0x54
-Tagged tag (Leaf e) = LeafTag tag e
-
-unfoldable pub isDone : End → Bool
-isDone Done = true
-isDone Failed = false
-isDone Broke = false
-isDone (Stopped w) = false
-
--- the part of a guarded command that follows its guard, 0 if none does
-unfoldable pub partAfter : End → ℕ
-partAfter Done = 1
-partAfter Failed = 2
-partAfter Broke = 0
-partAfter (Stopped w) = 0
-
--- the state that it begins in, after a guard that began at s
-unfoldable pub settled : End → Bool → State → State → State
-settled Done keep s t = choose keep t (back s t)
-settled Failed keep s t = back s t
-settled Broke keep s t = t
-settled (Stopped w) keep s t = t
-
--- how a loop ends with a round whose body began at s
-unfoldable pub closed : End → State → State → Out
-closed Done s t = ends Done t
-closed Failed s t = ends Done (back s t)
-closed Broke s t = ends Done t
-closed (Stopped w) s t = ends (Stopped w) t
+use Rattle.ends.specs.declared.Kind.{Kind}
+use Rattle.ends.specs.declared.Kind.the-variants.{RuleSet, Sequence, Guarded, Loop, Leaf}
 
 -- What is known of the parts of a program.
 
@@ -115,24 +71,3 @@ module _ (L : Layout) where
   pub record Comes (W : Type 0) (runs : ℕ → W → State → Out) (nodes edges journal : List ℕ) (t : Tally) (r : Ran) (nodes′ edges′ journal′ : List ℕ) : Type 0 where
     pub right : (w : W) → outOf L r nodes′ edges′ journal′ ≡ runs (journalRoom L journal) w (stateOf L nodes edges journal t)
     pub running : Running L nodes′ edges′ journal′ (r .tally .records)
-
-  -- a state that the bytes have come from, with so many records
-  pub record Earlier (s : State) (nodes edges journal : List ℕ) (used mark : ℕ) : Type 0 where
-    pub legal : LegalHost L (s .ledger .host)
-    pub from : From (s .ledger) (ledgerOf L nodes edges journal used)
-    pub count : length (s .ledger .journal) ≡ mark
-
-  -- what undoing leaves: that state, with the fuel and the steps of now
-  pub record Restored (nodes edges journal : List ℕ) (t : Tally) (mark : ℕ) (r : Tally) (nodes′ edges′ journal′ : List ℕ) : Type 0 where
-    pub again : (s : State) → Earlier s nodes edges journal (t .records) mark
-        → (stateOf L nodes′ edges′ journal′ r ≡ back s (stateOf L nodes edges journal t)) × Running L nodes′ edges′ journal′ (r .records)
-
-  -- the state in which the part after a guard begins
-  pub record Settled (keep : Bool) (nodes edges journal : List ℕ) (ran : Ran) (mark : ℕ) (r : Tally) (nodes′ edges′ journal′ : List ℕ) : Type 0 where
-    pub again : (s : State) → Earlier s nodes edges journal (ran .tally .records) mark
-        → (stateOf L nodes′ edges′ journal′ r ≡ settled (ran .end) keep s (stateOf L nodes edges journal (ran .tally))) × Running L nodes′ edges′ journal′ (r .records)
-
-  -- how a loop ends
-  pub record Closed (nodes edges journal : List ℕ) (ran : Ran) (mark : ℕ) (r : Ran) (nodes′ edges′ journal′ : List ℕ) : Type 0 where
-    pub again : (s : State) → Earlier s nodes edges journal (ran .tally .records) mark
-        → (outOf L r nodes′ edges′ journal′ ≡ closed (ran .end) s (stateOf L nodes edges journal (ran .tally))) × Running L nodes′ edges′ journal′ (r .tally .records)

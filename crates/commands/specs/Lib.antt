@@ -2,5 +2,4 @@ pub mod Program
 pub mod Cycle
 pub mod Parts
 pub mod States
-pub mod Ends
 pub mod Turns

@@ -23,7 +23,8 @@ use Rattle.parts.specs.Runs.{Run, only-run, partOf, nthPart, nthTag, nth-item, 
 use Rattle.parts.specs.Rows.{main-is}
 use Rattle.calling.specs.Called.{Listed}
 use Rattle.commands.specs.Program.{Runnable}
-use Rattle.commands.specs.Cycle.{LeafTag, Known, Row, at}
+use Rattle.ends.specs.Ends.{LeafTag}
+use Rattle.commands.specs.Cycle.{Known, Row, at}
 
 -- the rules that commands in order name
 pub exist-row : (n : ℕ) (l : List Command) → allRulesExist (inOrder l) n ≡ every (λ c. rulesExist c n) l

@@ -11,8 +11,8 @@ use Rattle.meaning.specs.Commands.{exec}
 use Rattle.meaning.specs.Calls.{journalRoom}
 use Rattle.meaning.specs.declared.Layout.{Layout}
 use Rattle.meaning.specs.declared.Tally.{Tally}
-use Rattle.ledger.specs.Running.{stateOf, Running}
-use Rattle.calling.specs.Called.{Programmed, outOf}
+use Rattle.ledger.specs.Running.{stateOf, Running, outOf}
+use Rattle.calling.specs.Called.{Programmed}
 use Rattle.meaning.specs.declared.Ran.{Ran}
 
 -- the image is a program whose references hold

@@ -15,7 +15,7 @@ use Rattle.meaning.specs.Laws.Fuel.{exec-spending, rounds-bound}
 use Rattle.meaning.specs.declared.Stop.the-variants.{OutOfFuel}
 use Rattle.meaning.specs.declared.End.{End}
 use Rattle.meaning.specs.declared.End.the-variants.{Done, Failed, Broke, Stopped}
-use Rattle.commands.specs.Cycle.{LeafTag, isDone, partAfter, settled, closed}
+use Rattle.ends.specs.Ends.{LeafTag, isDone, partAfter, settled, closed}
 use Rattle.commands.specs.Parts.{leafOf}
 
 -- Ends.

@@ -24,13 +24,14 @@ use Rattle.meaning.specs.declared.End.{End}
 use Rattle.meaning.specs.declared.End.the-variants.{Done, Failed, Broke, Stopped}
 use Rattle.fields.specs.Laws.{Lies}
 use Rattle.parts.specs.Runs.{Run, Taken, run-none, run-some, run-there, nthPart, nthTag}
-use Rattle.ledger.specs.Running.{ledgerOf, stateOf, Running}
+use Rattle.ledger.specs.Running.{ledgerOf, stateOf, Running, outOf}
 use Rattle.ledger.specs.Whole.{records-count, running-legal}
-use Rattle.calling.specs.Called.{outOf, Called}
+use Rattle.calling.specs.Called.{Called}
 use Rattle.meaning.specs.declared.Ran.{Ran}
-use Rattle.commands.specs.declared.Kind.{Kind}
+use Rattle.ends.specs.declared.Kind.{Kind}
 use Rattle.commands.specs.Program.{Runnable, RunsProgram}
-use Rattle.commands.specs.Cycle.{LeafTag, Tagged, isDone, partAfter, settled, Known, Row, at, runsCommand, runsRow, runsGuarded, runsLoop, Begun, Comes, Earlier, Settled, Closed}
+use Rattle.ends.specs.Ends.{LeafTag, Tagged, isDone, partAfter, settled, Earlier, Settled, Closed}
+use Rattle.commands.specs.Cycle.{Known, Row, at, runsCommand, runsRow, runsGuarded, runsLoop, Begun, Comes}
 use Rattle.commands.specs.Parts.{in-range, rule-set-is, row-of, row-is, guarded-of, guarded-is, loop-of, loop-is, leafOf, leaf-is, nth-known, main-known}
 use Rattle.commands.specs.States.{done-is, settled-fuel, settled-steps, enter-none, enter-paid, leaf-work, row-more, row-ends, row-done, guarded-runs, guarded-stops, loop-out, loop-more, loop-closes}
 

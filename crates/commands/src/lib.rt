@@ -4,142 +4,14 @@ ghost use mathlib.Core.Path.{_≡_};
 ghost use Prim.Native.Nat.{_+_, _≤_};
 ghost use Rattle.ledger.specs.Running.{Running};
 ghost use Rattle.commands.specs.Program.{Runnable, RunsProgram};
-ghost use Rattle.commands.specs.Cycle.{Tagged, isDone, partAfter, Begun, Known, Row, Comes, runsCommand, runsRow, runsGuarded, runsLoop, Restored, Settled, Closed};
-use meaning::Ran;
+ghost use Rattle.commands.specs.Cycle.{Begun, Known, Row, Comes, runsCommand, runsRow, runsGuarded, runsLoop};
+use ends::Kind;
 use fields::Found;
 use meaning::End;
 use meaning::Layout;
+use meaning::Ran;
 use meaning::Stop;
 use meaning::Tally;
-
-// How a command is run.
-pub enum Kind {
-    RuleSet,
-    Sequence,
-    // A try where the flag is set, which keeps the changes of a guard that succeeds, and else an if.
-    Guarded(bool),
-    Loop,
-    // Skip, fail and break: how they end.
-    Leaf(End),
-}
-
-// The kind that a command's tag says.
-fn kind_of(tag: u8) -> Kind
-    ensures { λ r. ⌜ (80 ≤ tag → tag ≤ 87 → Tagged tag r) ⌝ }
-{
-    match tag {
-        0x50 => Kind::RuleSet,
-        0x51 => Kind::Sequence,
-        0x52 => Kind::Guarded(false),
-        0x53 => Kind::Guarded(true),
-        0x54 => Kind::Loop,
-        0x55 => Kind::Leaf(End::Done),
-        0x56 => Kind::Leaf(End::Failed),
-        _ => Kind::Leaf(End::Broke),
-    }
-}
-
-// Whether a row goes on with its next command, and a loop with its next round.
-fn goes_on(end: End) -> bool
-    ensures { λ r. ⌜ r ≡ isDone end ⌝ }
-{
-    match end {
-        End::Done => true,
-        End::Failed => false,
-        End::Broke => false,
-        End::Stopped(_) => false,
-    }
-}
-
-// The part of an if or a try that follows its guard, by the guard's end: the second, the third, or 0 if none does.
-fn part_after(end: End) -> usize
-    ensures { λ r. ⌜ r ≡ partAfter end ⌝ }
-{
-    match end {
-        End::Done => 1,
-        End::Failed => 2,
-        End::Broke => 0,
-        End::Stopped(_) => 0,
-    }
-}
-
-// Undoes what was recorded beyond `mark` records.
-fn back(
-    l: Layout,
-    nodes: &mut [u8],
-    edges: &mut [u8],
-    journal: &mut [u8],
-    t: Tally,
-    mark: usize,
-) -> Tally
-    requires { ⌜ Running l (now nodes) (now edges) (now journal) (t .records) ⌝ }
-    requires { ⌜ mark ≤ t .records ⌝ }
-    ensures { λ r. ⌜ Restored l (now (nodes .entry)) (now (edges .entry)) (now (journal .entry)) t mark r (now (nodes .exit)) (now (edges .exit)) (now (journal .exit)) ⌝ }
-{
-    undoing::back_to(l, nodes, edges, journal, t.records, mark);
-    tally::counted(t, mark)
-}
-
-// After a guard that succeeded or failed: its changes are undone, unless it succeeded and they are kept.
-fn settle(
-    l: Layout,
-    keep: bool,
-    nodes: &mut [u8],
-    edges: &mut [u8],
-    journal: &mut [u8],
-    ran: Ran,
-    mark: usize,
-) -> Tally
-    requires { ⌜ Running l (now nodes) (now edges) (now journal) (ran .tally .records) ⌝ }
-    requires { ⌜ mark ≤ ran .tally .records ⌝ }
-    ensures { λ r. ⌜ Settled l keep (now (nodes .entry)) (now (edges .entry)) (now (journal .entry)) ran mark r (now (nodes .exit)) (now (edges .exit)) (now (journal .exit)) ⌝ }
-{
-    let end = ran.end;
-    let t = ran.tally;
-    match end {
-        End::Done => {
-            if keep {
-                return t;
-            }
-            back(l, nodes, edges, journal, t, mark)
-        }
-        End::Failed => back(l, nodes, edges, journal, t, mark),
-        End::Broke => t,
-        End::Stopped(_) => t,
-    }
-}
-
-// After the last round of a loop: a body that failed is undone, and it and a break end the loop.
-fn close(
-    l: Layout,
-    nodes: &mut [u8],
-    edges: &mut [u8],
-    journal: &mut [u8],
-    ran: Ran,
-    mark: usize,
-) -> Ran
-    requires { ⌜ Running l (now nodes) (now edges) (now journal) (ran .tally .records) ⌝ }
-    requires { ⌜ mark ≤ ran .tally .records ⌝ }
-    ensures { λ r. ⌜ Closed l (now (nodes .entry)) (now (edges .entry)) (now (journal .entry)) ran mark r (now (nodes .exit)) (now (edges .exit)) (now (journal .exit)) ⌝ }
-{
-    let end = ran.end;
-    let t = ran.tally;
-    match end {
-        End::Done => ran,
-        End::Failed => {
-            let undone = back(l, nodes, edges, journal, t, mark);
-            Ran {
-                end: End::Done,
-                tally: undone,
-            }
-        }
-        End::Broke => Ran {
-            end: End::Done,
-            tally: t,
-        },
-        End::Stopped(_) => ran,
-    }
-}
 
 // Enters and runs a command, from its tag and payload.
 fn run_command(
@@ -164,7 +36,7 @@ fn run_command(
         };
     }
     let spent = tally::entered(t);
-    let kind = kind_of(tag);
+    let kind = ends::kind_of(tag);
     match kind {
         Kind::RuleSet => calling::call(l, image, p, nodes, edges, journal, spent),
         Kind::Sequence => run_row(l, image, p, nodes, edges, journal, spent),
@@ -204,7 +76,7 @@ fn run_row(
         let part = fields::part(p, start, end);
         let ran = run_command(l, image, tag, part, nodes, edges, journal, now_t);
         let how = ran.end;
-        if goes_on(how) {
+        if ends::goes_on(how) {
             at = end;
             now_t = ran.tally;
         } else {
@@ -245,13 +117,13 @@ fn run_guarded(
         t,
     );
     let how = ran.end;
-    let which = part_after(how);
+    let which = ends::part_after(how);
     if which == 0 {
         return ran;
     }
     let part = parts::nth_part(p, which);
     let tag = parts::nth_tag(p, which);
-    let after = settle(l, keep, nodes, edges, journal, ran, mark);
+    let after = ends::settle(l, keep, nodes, edges, journal, ran, mark);
     run_command(l, image, tag, part, nodes, edges, journal, after)
 }
 
@@ -276,10 +148,10 @@ fn run_loop(
         let mark = now_t.records;
         let ran = run_command(l, image, tag, body, nodes, edges, journal, now_t);
         let how = ran.end;
-        if goes_on(how) {
+        if ends::goes_on(how) {
             now_t = ran.tally;
         } else {
-            return close(l, nodes, edges, journal, ran, mark);
+            return ends::close(l, nodes, edges, journal, ran, mark);
         }
     }
     Ran {

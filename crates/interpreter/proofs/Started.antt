@@ -25,9 +25,8 @@ use Rattle.meaning.specs.declared.Answer.{Answer}
 use Rattle.meaning.specs.declared.Answer.the-variants.{Fail, Stopped as stoppedBy}
 use Rattle.meaning.specs.declared.End.{End}
 use Rattle.meaning.specs.declared.End.the-variants.{Done, Failed, Broke, Stopped}
-use Rattle.ledger.specs.Running.{journalOf, ledgerOf, Running}
+use Rattle.ledger.specs.Running.{journalOf, ledgerOf, Running, outOf}
 use Rattle.ledger.specs.Whole.{records-count, running-legal, running-start}
-use Rattle.calling.specs.Called.{outOf}
 use Rattle.meaning.specs.declared.Ran.{Ran}
 use Rattle.commands.specs.Program.{Runnable, RunsProgram}
 use Rattle.interpreter.specs.Run.{RunLayout, Stays, Returns, Finishes}

@@ -8,12 +8,13 @@ use lib.ListN.{length, getD}
 use Rattle.meaning.specs.Basics.{concat, padded}
 use Rattle.meaning.specs.Layout.{Slot, Node, Edge, free, Change, Sized, nodeLength, edgeLength, recordLength, fitsTable, pieces, readNode, readEdge, readNodes, readEdges, hostOf, writeNodes, writeEdges, writeRecord, readRecord}
 use Rattle.meaning.specs.Applying.{Ledger, ledgerAt}
-use Rattle.meaning.specs.Commands.{State, stateAt}
+use Rattle.meaning.specs.Commands.{State, stateAt, Out, ends}
 use Rattle.meaning.specs.Laws.Every.{Every}
 use Rattle.meaning.specs.Laws.Hosts.{LegalNode, LegalEdge, Attached, OnLive}
 use Rattle.meaning.specs.Laws.Records.{mapChange, LegalChange, Within}
 use Rattle.meaning.specs.declared.Layout.{Layout}
 use Rattle.meaning.specs.declared.Tally.{Tally}
+use Rattle.meaning.specs.declared.Ran.{Ran}
 
 module _ (L : Layout) where
   -- the change that a record's bytes hold
@@ -31,6 +32,10 @@ module _ (L : Layout) where
   abbrev pub stateOf : List ℕ → List ℕ → List ℕ → Tally → State
   stateOf nodes edges journal t =
       stateAt (ledgerOf nodes edges journal (t .records)) (t .fuel) (t .steps)
+
+  -- how a command ended, with the state that the bytes hold after it
+  abbrev pub outOf : Ran → List ℕ → List ℕ → List ℕ → Out
+  outOf r nodes edges journal = ends (r .end) (stateOf nodes edges journal (r .tally))
 
   -- what the bytes keep through every change: each table is its slots as they are written, the journal is the written records
   -- with zeros behind them, and slots and records are legal

@@ -7,7 +7,7 @@ use native.Mathlib.Omega.{arith}
 use borrow.Author.Needs.{needs}
 use lib.ListN.{length}
 use Rattle.parts.proofs.Loops.{a-field, nearer, no-field, part-in}
-use Rattle.commands.specs.declared.Kind.the-variants.{RuleSet, Sequence, Guarded, Loop, Leaf}
+use Rattle.ends.specs.declared.Kind.the-variants.{RuleSet, Sequence, Guarded, Loop, Leaf}
 use Rattle.commands.specs.Parts.{listed, row-of, guarded-of, loop-of, nth-known, nth-shorter}
 use Rattle.commands.specs.Turns.{Going, Looping, is-kind, which-less, mark-below, fuel-less, out-of-fuel, begun-spent, paid-call, paid-row, paid-guarded, paid-loop, paid-leaf, row-start, row-over, row-cut, here-known, here-shorter, row-next, row-stop, guarded-stop, begun-settled, guarded-go, loop-start, loop-over, loop-next, loop-stop}
 use borrow.Fn.Kinds.{In}
@@ -25,11 +25,11 @@ use Rattle.commands.proofs.run_row.Reads as run-row
 use Rattle.commands.proofs.run_row.Kinds as run-row-kinds
 use Rattle.commands.proofs.+run_command+run_guarded+run_loop+run_row.Lts-run_row as run-row-lts
 use Rattle.calling.proofs.call.Reads as call-reads
-use Rattle.commands.proofs.close.Reads as close-reads
-use Rattle.commands.proofs.goes_on.Reads as goes-on-reads
-use Rattle.commands.proofs.kind_of.Reads as kind-of-reads
-use Rattle.commands.proofs.part_after.Reads as part-after-reads
-use Rattle.commands.proofs.settle.Reads as settle-reads
+use Rattle.ends.proofs.close.Reads as close-reads
+use Rattle.ends.proofs.goes_on.Reads as goes-on-reads
+use Rattle.ends.proofs.kind_of.Reads as kind-of-reads
+use Rattle.ends.proofs.part_after.Reads as part-after-reads
+use Rattle.ends.proofs.settle.Reads as settle-reads
 use Rattle.fields.proofs.part.Reads as part-reads
 use Rattle.fields.proofs.read_field.Reads as read-field-reads
 use Rattle.parts.proofs.nth_part.Reads as nth-part-reads

@@ -1,8 +1,8 @@
 -- `settle` meets its contract.
 use borrow.Author.Needs.{needs}
-use Rattle.commands.specs.Ends.{settled-kept, settled-undone, settled-failed, settled-broke, settled-stopped}
-use Rattle.commands.proofs.settle.Statement.{statement}
-use Rattle.commands.proofs.settle.Tie as tie
+use Rattle.ends.proofs.Ending.{settled-kept, settled-undone, settled-failed, settled-broke, settled-stopped}
+use Rattle.ends.proofs.settle.Statement.{statement}
+use Rattle.ends.proofs.settle.Tie as tie
 
 enum-told : tie.Need-enum-told
 enum-told c = search needs

@@ -1,9 +1,9 @@
 -- `part_after` meets its contract.
 use mathlib.Core.Path.{sym, ap}
 use borrow.Author.Needs.{needs}
-use Rattle.commands.specs.Cycle.{partAfter}
-use Rattle.commands.proofs.part_after.Statement.{statement}
-use Rattle.commands.proofs.part_after.Tie as tie
+use Rattle.ends.specs.Ends.{partAfter}
+use Rattle.ends.proofs.part_after.Statement.{statement}
+use Rattle.ends.proofs.part_after.Tie as tie
 
 enum-told : tie.Need-enum-told
 enum-told c = search needs

@@ -5,8 +5,8 @@ use native.Mathlib.Omega.{arith}
 use borrow.Author.Needs.{needs}
 use Rattle.meaning.specs.Basics.{choose}
 use Rattle.fields.specs.Laws.{past}
-use Rattle.commands.proofs.kind_of.Statement.{statement}
-use Rattle.commands.proofs.kind_of.Tie as tie
+use Rattle.ends.proofs.kind_of.Statement.{statement}
+use Rattle.ends.proofs.kind_of.Tie as tie
 
 -- the tag that is none of the others
 last : (tag : ℕ) → (tag ≡ 84 → ⊥) → (tag ≡ 85 → ⊥) → (tag ≡ 86 → ⊥) → 84 ≤ tag → tag ≤ 87 → tag ≡ 87

@@ -1,4 +1,4 @@
--- Undoing after a guard and after a loop's last round, by how each ended. Rests on Cycle and on undoing's Undone.
+-- Undoing after a guard and after a loop's last round, by how each ended. Rests on Ends and on undoing's Undone.
 use mathlib.Core.Path.{_≡_, sym, _∙_, ap, subst}
 use mathlib.Core.Bool.{Bool, true, false}
 use mathlib.Core.List.{List}
@@ -14,7 +14,7 @@ use Rattle.meaning.specs.declared.End.the-variants.{Done, Failed, Broke, Stoppe
 use Rattle.ledger.specs.Running.{stateOf, Running}
 use Rattle.undoing.specs.Undone.{Undone}
 use Rattle.meaning.specs.declared.Ran.{Ran}
-use Rattle.commands.specs.Cycle.{settled, closed, Restored, Settled, Closed}
+use Rattle.ends.specs.Ends.{settled, closed, Restored, Settled, Closed}
 
 module _ (L : Layout) {nodes edges journal : List ℕ} {mark : ℕ} {nodes′ edges′ journal′ : List ℕ} where
   pub restored : {t r : Tally} → r ≡ record { fuel = t .fuel; steps = t .steps; records = mark } → Undone L nodes edges journal (t .records) mark nodes′ edges′ journal′

@@ -1,8 +1,8 @@
 -- `close` meets its contract.
 use borrow.Author.Needs.{needs}
-use Rattle.commands.specs.Ends.{closed-done, closed-failed, closed-broke, closed-stopped}
-use Rattle.commands.proofs.close.Statement.{statement}
-use Rattle.commands.proofs.close.Tie as tie
+use Rattle.ends.proofs.Ending.{closed-done, closed-failed, closed-broke, closed-stopped}
+use Rattle.ends.proofs.close.Statement.{statement}
+use Rattle.ends.proofs.close.Tie as tie
 
 enum-told : tie.Need-enum-told
 enum-told c = search needs

@@ -1,9 +1,9 @@
 -- `goes_on` meets its contract.
 use mathlib.Core.Path.{sym, ap}
 use borrow.Author.Needs.{needs}
-use Rattle.commands.specs.Cycle.{isDone}
-use Rattle.commands.proofs.goes_on.Statement.{statement}
-use Rattle.commands.proofs.goes_on.Tie as tie
+use Rattle.ends.specs.Ends.{isDone}
+use Rattle.ends.proofs.goes_on.Statement.{statement}
+use Rattle.ends.proofs.goes_on.Tie as tie
 
 enum-told : tie.Need-enum-told
 enum-told c = search needs

@@ -1,8 +1,8 @@
 -- `back` meets its contract.
 use borrow.Author.Needs.{needs}
-use Rattle.commands.specs.Ends.{restored}
-use Rattle.commands.proofs.back.Statement.{statement}
-use Rattle.commands.proofs.back.Tie as tie
+use Rattle.ends.proofs.Ending.{restored}
+use Rattle.ends.proofs.back.Statement.{statement}
+use Rattle.ends.proofs.back.Tie as tie
 
 back-to-requires : tie.Need-back-to-requires
 back-to-requires c κs = c .before .before .before .before .before .before .pre

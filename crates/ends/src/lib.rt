@@ -1,0 +1,140 @@
+// What follows a command, by its tag and by how it ended: its kind, whether a row goes on, the part after a guard, and undoing
+// after a guard and after the last round of a loop.
+ghost use mathlib.Core.Path.{_≡_};
+ghost use Prim.Native.Nat.{_≤_};
+ghost use Rattle.meaning.specs.Tags.{ruleSetTag, breakTag};
+ghost use Rattle.ledger.specs.Running.{Running};
+ghost use Rattle.ends.specs.Ends.{Tagged, isDone, partAfter, Restored, Settled, Closed};
+use meaning::End;
+use meaning::Layout;
+use meaning::Ran;
+use meaning::Tally;
+
+// How a command is run.
+pub enum Kind {
+    RuleSet,
+    Sequence,
+    // A try where the flag is set, which keeps the changes of a guard that succeeds, and else an if.
+    Guarded(bool),
+    Loop,
+    // Skip, fail and break: how they end.
+    Leaf(End),
+}
+
+// The kind that a command's tag says.
+pub fn kind_of(tag: u8) -> Kind
+    ensures { λ r. ⌜ (ruleSetTag ≤ tag → tag ≤ breakTag → Tagged tag r) ⌝ }
+{
+    match tag {
+        0x50 => Kind::RuleSet,
+        0x51 => Kind::Sequence,
+        0x52 => Kind::Guarded(false),
+        0x53 => Kind::Guarded(true),
+        0x54 => Kind::Loop,
+        0x55 => Kind::Leaf(End::Done),
+        0x56 => Kind::Leaf(End::Failed),
+        _ => Kind::Leaf(End::Broke),
+    }
+}
+
+// Whether a row goes on with its next command, and a loop with its next round.
+pub fn goes_on(end: End) -> bool
+    ensures { λ r. ⌜ r ≡ isDone end ⌝ }
+{
+    match end {
+        End::Done => true,
+        End::Failed => false,
+        End::Broke => false,
+        End::Stopped(_) => false,
+    }
+}
+
+// The part of an if or a try that follows its guard, by the guard's end: the second, the third, or 0 if none does.
+pub fn part_after(end: End) -> usize
+    ensures { λ r. ⌜ r ≡ partAfter end ⌝ }
+{
+    match end {
+        End::Done => 1,
+        End::Failed => 2,
+        End::Broke => 0,
+        End::Stopped(_) => 0,
+    }
+}
+
+// Undoes what was recorded beyond `mark` records.
+fn back(
+    l: Layout,
+    nodes: &mut [u8],
+    edges: &mut [u8],
+    journal: &mut [u8],
+    t: Tally,
+    mark: usize,
+) -> Tally
+    requires { ⌜ Running l (now nodes) (now edges) (now journal) (t .records) ⌝ }
+    requires { ⌜ mark ≤ t .records ⌝ }
+    ensures { λ r. ⌜ Restored l (now (nodes .entry)) (now (edges .entry)) (now (journal .entry)) t mark r (now (nodes .exit)) (now (edges .exit)) (now (journal .exit)) ⌝ }
+{
+    undoing::back_to(l, nodes, edges, journal, t.records, mark);
+    tally::counted(t, mark)
+}
+
+// After a guard that succeeded or failed: its changes are undone, unless it succeeded and they are kept.
+pub fn settle(
+    l: Layout,
+    keep: bool,
+    nodes: &mut [u8],
+    edges: &mut [u8],
+    journal: &mut [u8],
+    ran: Ran,
+    mark: usize,
+) -> Tally
+    requires { ⌜ Running l (now nodes) (now edges) (now journal) (ran .tally .records) ⌝ }
+    requires { ⌜ mark ≤ ran .tally .records ⌝ }
+    ensures { λ r. ⌜ Settled l keep (now (nodes .entry)) (now (edges .entry)) (now (journal .entry)) ran mark r (now (nodes .exit)) (now (edges .exit)) (now (journal .exit)) ⌝ }
+{
+    let end = ran.end;
+    let t = ran.tally;
+    match end {
+        End::Done => {
+            if keep {
+                return t;
+            }
+            back(l, nodes, edges, journal, t, mark)
+        }
+        End::Failed => back(l, nodes, edges, journal, t, mark),
+        End::Broke => t,
+        End::Stopped(_) => t,
+    }
+}
+
+// After the last round of a loop: a body that failed is undone, and it and a break end the loop.
+pub fn close(
+    l: Layout,
+    nodes: &mut [u8],
+    edges: &mut [u8],
+    journal: &mut [u8],
+    ran: Ran,
+    mark: usize,
+) -> Ran
+    requires { ⌜ Running l (now nodes) (now edges) (now journal) (ran .tally .records) ⌝ }
+    requires { ⌜ mark ≤ ran .tally .records ⌝ }
+    ensures { λ r. ⌜ Closed l (now (nodes .entry)) (now (edges .entry)) (now (journal .entry)) ran mark r (now (nodes .exit)) (now (edges .exit)) (now (journal .exit)) ⌝ }
+{
+    let end = ran.end;
+    let t = ran.tally;
+    match end {
+        End::Done => ran,
+        End::Failed => {
+            let undone = back(l, nodes, edges, journal, t, mark);
+            Ran {
+                end: End::Done,
+                tally: undone,
+            }
+        }
+        End::Broke => Ran {
+            end: End::Done,
+            tally: t,
+        },
+        End::Stopped(_) => ran,
+    }
+}
