@@ -1,2 +1,1 @@
-mod Undone
 mod Started

@@ -4,7 +4,6 @@ ghost use Rattle.meaning.specs.Calls.{run, undo, lending, lendingBack, Leaves};
 use meaning::Layout;
 
 pub mod running;
-pub mod undo;
 
 // Runs the image's program on the tables, from an empty journal. A result leaves its records in the journal, and reports steps and
 // records; any other end gives the tables back as they came, with an empty journal, and reports the steps.

@@ -13,10 +13,10 @@ ghost use Rattle.parts.specs.Runs.{For};
 ghost use Rattle.parts.specs.Rows.{graphItem, itemLabel};
 ghost use Rattle.values.specs.Values.{valuesOf, Stored, asOption, lowered, valueIn, Kept, ofAtom, fitting, allHeld};
 use fields::Found;
-use parts::Front;
 use labels::Label;
 use meaning::Element;
 use meaning::Operand;
+use parts::Front;
 
 // A label's value, or that it can't be held.
 pub struct Valued {

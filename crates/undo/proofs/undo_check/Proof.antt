@@ -2,9 +2,9 @@
 use mathlib.Core.Path.{sym, ap, _∙_}
 use borrow.Author.Needs.{needs}
 use Rattle.answers.specs.Answers.{refusalOf}
-use Rattle.interpreter.proofs.Undone.{check-lengths, check-kept, check-bad}
-use Rattle.interpreter.proofs.undo.undo_check.Statement.{statement}
-use Rattle.interpreter.proofs.undo.undo_check.Tie as tie
+use Rattle.undo.proofs.Undone.{check-lengths, check-kept, check-bad}
+use Rattle.undo.proofs.undo_check.Statement.{statement}
+use Rattle.undo.proofs.undo_check.Tie as tie
 
 lengths-requires : tie.Need-lengths-requires
 lengths-requires c κs = search needs

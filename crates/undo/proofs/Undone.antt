@@ -94,4 +94,3 @@ module _ (L : Layout) (nodes edges journal : List ℕ) (count : ℕ) (report : L
         journalLeft = j ∙ rw (zero-mul (recordLength L), sub-zero count);
         reportLeft = r;
       })
-

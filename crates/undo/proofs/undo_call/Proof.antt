@@ -4,9 +4,9 @@ use native.Mathlib.Omega.{arith}
 use borrow.Author.Needs.{needs}
 use Rattle.meaning.specs.Calls.{answerNumber}
 use Rattle.answers.specs.Answers.{refusalOf}
-use Rattle.interpreter.proofs.Undone.{sound, leaves-refused, leaves-undone}
-use Rattle.interpreter.proofs.undo.undo_call.Statement.{statement}
-use Rattle.interpreter.proofs.undo.undo_call.Tie as tie
+use Rattle.undo.proofs.Undone.{sound, leaves-refused, leaves-undone}
+use Rattle.undo.proofs.undo_call.Statement.{statement}
+use Rattle.undo.proofs.undo_call.Tie as tie
 
 undo-check-requires : tie.Need-undo-check-requires
 undo-check-requires c κs = search needs

@@ -1,4 +1,4 @@
-// Undo: what is refused, and putting the counted records back.
+// The call undo, over a layout: what is refused, and putting the counted records back.
 ghost use mathlib.Core.Path.{_≡_};
 ghost use Rattle.meaning.specs.Layout.{Sized};
 ghost use Rattle.meaning.specs.Calls.{answerNumber, undoRefusal, undo, lendingBack, Leaves};
