@@ -1,5 +1,5 @@
 # `make run` runs the main job, `make test` runs everything that is checked. The others: `make driver`, `make bench`,
-# `make fuzz`, `make memory`, `make install PREFIX=..`.
+# `make fuzz`, `make memory`, `make map`, `make install PREFIX=..`.
 
 CARGO = cargo --quiet
 SECOND = second/target/release/second
@@ -16,7 +16,7 @@ PREFIX ?= /usr/local
 COUNT ?= 1000
 ROUNDS ?= 10
 
-.PHONY: run test tools runner library driver bench fuzz memory install clean
+.PHONY: run test tools runner library driver bench fuzz memory map install clean
 
 # Runs an image by the proved runner.
 run: tools runner
@@ -65,6 +65,10 @@ fuzz:
 memory:
 	sh fuzz/memory $(COUNT)
 
+# The picture of the crates by layer, in README.md.
+map:
+	tools/map
+
 install: library
 	mkdir -p $(DESTDIR)$(PREFIX)/include $(DESTDIR)$(PREFIX)/lib/pkgconfig
 	cp include/nhiemavut.h $(DESTDIR)$(PREFIX)/include/
@@ -75,6 +79,7 @@ install: library
 # files; what `make run` prints; the C examples and a short comparison of the compiled calls. The last line is rt's own, said
 # again.
 test:
+	tools/map --check
 	cd second && $(CARGO) test --release --offline
 	rt fmt --check
 	@mkdir -p .gate

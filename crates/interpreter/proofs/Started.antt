@@ -29,7 +29,8 @@ use Rattle.ledger.specs.Running.{journalOf, ledgerOf, Running, outOf}
 use Rattle.ledger.specs.Whole.{records-count, running-legal, running-start}
 use Rattle.meaning.specs.declared.Ran.{Ran}
 use Rattle.commands.specs.Program.{Runnable, RunsProgram}
-use Rattle.interpreter.specs.Run.{RunLayout, Stays, Returns, Finishes}
+use Rattle.interpreter.specs.Run.{RunLayout}
+use Rattle.finishing.specs.Finished.{Stays, Returns, Finishes}
 
 -- no record is read where none is used
 no-records : (L : Layout) (journal : List ℕ) → journalOf L journal 0 ≡ []

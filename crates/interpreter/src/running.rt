@@ -1,69 +1,12 @@
-// A run: what is refused before it starts, and what a started one leaves, by its end.
+// The call run, over a layout: what is refused, and running the program of what is not.
 ghost use mathlib.Core.Path.{_≡_};
 ghost use mathlib.Core.Option.{none};
-ghost use lib.ListN.{length};
-ghost use Rattle.meaning.specs.Calls.{answerNumber, reportOf, runRefusal, run, lending, Leaves};
-ghost use Rattle.ledger.specs.Running.{Running};
-ghost use Rattle.undoing.specs.Undone.{Undone};
-ghost use Rattle.interpreter.specs.Run.{RunLayout, Finishes};
+ghost use Rattle.meaning.specs.Calls.{answerNumber, runRefusal, run, lending, Leaves};
+ghost use Rattle.interpreter.specs.Run.{RunLayout};
 use answers::Checked;
 use meaning::Answer;
-use meaning::End;
 use meaning::Layout;
 use meaning::Tally;
-
-// Gives the graph back as it came, with the steps in the report: every record is put back and cleared.
-fn give_back(
-    l: Layout,
-    nodes: &mut [u8],
-    edges: &mut [u8],
-    journal: &mut [u8],
-    steps: usize,
-    records: usize,
-    report: &mut [u8],
-)
-    requires { ⌜ Running l (now nodes) (now edges) (now journal) records ⌝ }
-    requires { ⌜ length (now report) ≡ 8 ⌝ }
-    ensures { λ _. ⌜ Undone l (now (nodes .entry)) (now (edges .entry)) (now (journal .entry)) records 0 (now (nodes .exit)) (now (edges .exit)) (now (journal .exit)) × (now (report .exit) ≡ reportOf steps 0) ⌝ }
-{
-    undoing::back_to(l, nodes, edges, journal, records, 0);
-    answers::put_report(report, steps, 0);
-}
-
-// What a run leaves, by its end.
-fn finish(
-    l: Layout,
-    nodes: &mut [u8],
-    edges: &mut [u8],
-    journal: &mut [u8],
-    end: End,
-    steps: usize,
-    records: usize,
-    report: &mut [u8],
-) -> Answer
-    requires { ⌜ Running l (now nodes) (now edges) (now journal) records ⌝ }
-    requires { ⌜ length (now report) ≡ 8 ⌝ }
-    ensures { λ r. ⌜ Finishes l (now (nodes .entry)) (now (edges .entry)) (now (journal .entry)) steps records r (now (nodes .exit)) (now (edges .exit)) (now (journal .exit)) (now (report .exit)) end ⌝ }
-{
-    match end {
-        End::Done => {
-            answers::put_report(report, steps, records);
-            return Answer::Result;
-        }
-        End::Failed => {
-            give_back(l, nodes, edges, journal, steps, records, report);
-            return Answer::Fail;
-        }
-        End::Broke => {
-            give_back(l, nodes, edges, journal, steps, records, report);
-            return Answer::Fail;
-        }
-        End::Stopped(why) => {
-            give_back(l, nodes, edges, journal, steps, records, report);
-            return Answer::Stopped(why);
-        }
-    }
-}
 
 // Runs the program of input that is not refused, from an empty journal.
 fn start(
@@ -84,7 +27,7 @@ fn start(
     let end = ran.end;
     let steps = ran.tally.steps;
     let records = ran.tally.records;
-    finish(l, nodes, edges, journal, end, steps, records, report)
+    finishing::finish(l, nodes, edges, journal, end, steps, records, report)
 }
 
 // Run: refuses with the lowest applicable number, or runs the image's program on the tables.

@@ -1,9 +1,9 @@
 -- `running::finish` meets its contract, end by end.
 use mathlib.Core.Path.{refl}
 use borrow.Author.Needs.{needs}
-use Rattle.interpreter.specs.Run.{Finishes}
-use Rattle.interpreter.proofs.running.finish.Statement.{statement}
-use Rattle.interpreter.proofs.running.finish.Tie as tie
+use Rattle.finishing.specs.Finished.{Finishes}
+use Rattle.finishing.proofs.finish.Statement.{statement}
+use Rattle.finishing.proofs.finish.Tie as tie
 
 enum-told : tie.Need-enum-told
 enum-told c = search needs

@@ -1,7 +1,7 @@
 -- `running::give_back` meets its contract: all records undone, and the steps reported.
 use borrow.Author.Needs.{needs}
-use Rattle.interpreter.proofs.running.give_back.Statement.{statement}
-use Rattle.interpreter.proofs.running.give_back.Tie as tie
+use Rattle.finishing.proofs.give_back.Statement.{statement}
+use Rattle.finishing.proofs.give_back.Tie as tie
 
 back-to-requires : tie.Need-back-to-requires
 back-to-requires c κs = search needs
