@@ -1,53 +1,36 @@
--- What the clauses of a candidate's test are in the words of a trial; the test in its steps, by the slot alone, beside the items
--- placed, and by label and tests; and labels that agree where their length fits. Rests on Trials and on the meaning's FirstMatch.
+-- Which slots are candidates for an item; what the clauses of a candidate's test are in the words of a trial; and the test in its
+-- steps, by the slot alone and beside the items placed. Rests on agreeing's Candidates and on the meaning's FirstMatch.
 use mathlib.Core.Path.{_≡_, refl, sym, _∙_, ap}
-use mathlib.Core.Logic.{inl, inr}
 use mathlib.Core.Bool.{Bool, true, false}
-use mathlib.Core.List.{List, [], _∷_, _++_, append-nil}
+use mathlib.Core.List.{List, [], _∷_, _++_}
 use Prim.Native.Nat.{ℕ, _+_, _-_, _<_, _≤_}
 use native.Mathlib.Omega.{arith}
 use native.Mathlib.Decide.{ℕ-discrete}
-use borrow.Author.Tests.{eq-eqb, eqb-true}
-use lib.Dec.{eqb}
-use lib.ListN.{length, getD, drop, length-append}
-use lib.Seq.{getD-at, take-all}
-use Rattle.meaning.specs.Basics.{choose, both, clauses, all, absent, same, concat}
+use lib.ListN.{length, getD, drop}
+use Rattle.meaning.specs.Basics.{both, clauses, all, absent}
 use Rattle.meaning.specs.Layout.{Host, liveAt}
 use Rattle.meaning.specs.Image.{Rule}
-use Rattle.meaning.specs.References.{labels, lists, ruleHolds}
-use Rattle.meaning.specs.Matching.{nodeAt, edgeAt, leftNode, leftEdge, leftNodes, leftEdges, nodeSlot, atomsOf, instance}
-use Rattle.meaning.specs.FirstMatch.{marksAgree, lengthFits, labelAgrees, firstWith, testsSoFar, joins, linked, canGo, nodeFits, edgeFits, fits}
-use Rattle.meaning.specs.Assigned.{isVariable, share, spare, taken, orElse, assigned}
-use Rattle.meaning.specs.Laws.Tests.{choose-lt, choose-le, both-yes, both-no, both-of, same-of}
-use Rattle.meaning.specs.Laws.References.{label-simple}
-use Rattle.meaning.specs.Laws.Labels.{need, fits-need}
-use Rattle.meaning.specs.Laws.Assignment.{label-node, label-edge}
-use Rattle.meaning.specs.declared.Element.the-variants.{Variable}
-use Rattle.plan.specs.Plan.{labelOf, Alone}
-use Rattle.fitting.specs.Fitting.{Known, Inside, slots, labelAt, Tried, Full, Numbers, joinsAt, Candidate, Guessed, NodeLike, Likely}
-use Rattle.fitting.specs.Trials.{few-items, tried, full}
+use Rattle.meaning.specs.Matching.{nodeAt, edgeAt, leftNode, leftEdge, leftNodes, leftEdges, total, nodeSlot, rootsAgree}
+use Rattle.meaning.specs.FirstMatch.{marksAgree, labelAgrees, testsSoFar, joins, linked, canGo, nodeFits, edgeFits, fits}
+use Rattle.meaning.specs.Assigned.{assigned}
+use Rattle.meaning.specs.Laws.Tests.{choose-lt, choose-le}
 use Rattle.meaning.specs.Laws.Loops.{clauses-fail, first-of, of-first, of-second}
-use Rattle.fitting.proofs.Values.{assigned-first}
+use Rattle.meaning.specs.Laws.Assignment.{label-node, label-edge}
+use Rattle.plan.specs.Plan.{labelOf}
+use Rattle.agreeing.specs.Placed.{Known, labelAt}
+use Rattle.agreeing.specs.Candidates.{Candidate, Guessed, Likely}
+use Rattle.fitting.specs.Fitting.{joinsAt, NodeLike}
 
--- Trials.
+-- Items and slots for them.
 
--- an item and a slot for it, by whichever rule the plan is of
-module _ {h : Host} {bs plan : List ℕ} {i c : ℕ} (w : Known bs plan) (k : Candidate h bs plan i c) where
-  pub item-there : i < leftNodes (w .rule) + leftEdges (w .rule)
-  item-there =
-      let a = w .planned .laid .items in
-      let b = k .planned .laid .items in
-      omega (arith, a .nodes, a .edges, b .nodes, b .edges, k .there)
-
-  pub item-inside : c < slots h (leftNodes (w .rule)) i
-  item-inside =
-      let n : leftNodes (k .rule) ≡ leftNodes (w .rule) = sym (k .planned .laid .items .nodes) ∙ w .planned .laid .items .nodes in
-      rw n at (k .inside)
+-- a node by the plan is a left node
+pub left-node : {bs plan : List ℕ} {i : ℕ} (w : Known bs plan) → i < getD plan 0 0 → i < leftNodes (w .rule)
+left-node w k = omega (arith, w .planned .laid .items .nodes)
 
 module _ {h : Host} {bs plan : List ℕ} (w : Known bs plan) (i c : ℕ) where
   abbrev pub nodeCandidate : i < getD plan 0 0 → c < length (h .nodes) → Candidate h bs plan i c
   nodeCandidate k s =
-      let n : i < leftNodes (w .rule) = omega (arith, w .planned .laid .items .nodes) in
+      let n = left-node w k in
       record {
         rule = w .rule;
         planned = w .planned;
@@ -65,32 +48,12 @@ module _ {h : Host} {bs plan : List ℕ} (w : Known bs plan) (i c : ℕ) where
         inside = of-second (λ m. c < m) i (leftNodes (w .rule)) (length (h .nodes)) (length (h .edges)) n s;
       }
 
-module _ (h : Host) (bs plan at : List ℕ) (w : Known bs plan) (room : length at ≡ 12) where
-  abbrev pub triedItem : (i c : ℕ) → Inside h (getD plan 0 0) at i → Candidate h bs plan i c → Tried h bs plan at i c
-  triedItem i c f k =
-      let n : getD plan 0 0 ≡ leftNodes (w .rule) = w .planned .laid .items .nodes in
-      tried h bs plan at w room i c (item-there w k) (rw n at f) (item-inside w k)
-
-  abbrev pub allPlaced : Inside h (getD plan 0 0) at (getD plan 0 0 + getD plan 1 0) → Full h bs plan at 12 0
-  allPlaced f =
-      let n : getD plan 0 0 ≡ leftNodes (w .rule) = w .planned .laid .items .nodes in
-      let m : getD plan 1 0 ≡ leftEdges (w .rule) = w .planned .laid .items .edges in
-      full h bs plan at w room 12 0 (few-items h bs plan at w room) (rw (n, m) at f)
-
 -- Clauses, from what is in hand.
 
 pub marks-are : (a b m n : ℕ) (g : Bool) → m ≡ a → n ≡ b → g ≡ marksAgree m n → marksAgree a b ≡ g
 marks-are a b m n g p q e = sym (rw (p, q) at e)
 
 module _ {bs plan : List ℕ} (w : Known bs plan) where
-  abbrev pub numbers : Numbers plan (w .rule)
-  numbers =
-      record {
-        nodes = w .planned .laid .items .nodes;
-        edges = w .planned .laid .items .edges;
-        interface = w .planned .laid .interface;
-      }
-
   pub joins-are : (h : Host) (p : List ℕ) (i s t c : ℕ) (g : Bool) → s ≡ nodeSlot p (leftEdge (w .rule) (i - leftNodes (w .rule)) .source)
       → t ≡ nodeSlot p (leftEdge (w .rule) (i - leftNodes (w .rule)) .target) → g ≡ joinsAt h (w .rule) (i - getD plan 0 0) s t c
       → joins h (w .rule) p (i - leftNodes (w .rule)) c ≡ g
@@ -134,12 +97,12 @@ module _ (h : Host) (r : Rule) (sort i c : ℕ) where
   unfolding nodeFits
   other-mark e = unlike (λ p. sym (clauses-fail _ 2 (omega arith) e))
 
-  pub other-root : eqb (leftNode r i .root) (nodeAt h c .root) ≡ false → NodeLike h r sort i c false
+  pub other-root : rootsAgree r (leftNode r i .root) (nodeAt h c .root) ≡ false → NodeLike h r sort i c false
   unfolding nodeFits
   other-root e = unlike (λ p. sym (clauses-fail _ 3 (omega arith) e))
 
   pub like-label : i < leftNodes r → liveAt (h .nodes) c ≡ true → marksAgree (leftNode r i .mark) (nodeAt h c .mark) ≡ true
-      → eqb (leftNode r i .root) (nodeAt h c .root) ≡ true → (b : Bool) → Guessed r sort (labelOf r i) (labelAt h (leftNodes r) i c) b
+      → rootsAgree r (leftNode r i .root) (nodeAt h c .root) ≡ true → (b : Bool) → Guessed r sort (labelOf r i) (labelAt h (leftNodes r) i c) b
       → NodeLike h r sort i c b
   unfolding nodeFits
   like-label k l m t b q =
@@ -193,7 +156,7 @@ module _ (h : Host) (r : Rule) (sort : ℕ) (p : List ℕ) (i c : ℕ) (n : leng
           label = λ e. of-first (λ m. Guessed r sort (labelOf r i) m true) i (leftNodes r) (nodeAt h c .label) (edgeAt h c .label) k (l .label refl);
         }
 
-  module _ (k : leftNodes r ≤ i) (l : i < leftNodes r + leftEdges r) where
+  module _ (k : leftNodes r ≤ i) (l : i < total r) where
     fits-edge : fits h r p c ≡ edgeFits h r p (i - leftNodes r) c
     unfolding fits
     fits-edge = choose-le (length p) (leftNodes r) _ _ (omega arith) ∙ rw n
@@ -223,50 +186,3 @@ module _ (h : Host) (r : Rule) (sort : ℕ) (p : List ℕ) (i c : ℕ) (n : leng
           rest = λ e. fits-edge ∙ edge-clauses _ _ _ _ j a ∙ ap (λ (t : Bool). both t (testsSoFar h r (p ++ c ∷ []))) edge-agrees;
           label = λ e. rw e at g;
         }
-
--- A label that is empty, or one variable that its item is the first to have, agrees where its length fits.
-
--- such a variable takes all of the atoms
-lone-takes : (r : Rule) (v : ℕ) (m : List ℕ) → lists r (Variable v ∷ []) ≤ 1 → lengthFits r (Variable v ∷ []) m ≡ true
-    → orElse (taken r v (spare r (Variable v ∷ []) (length m)) (Variable v ∷ []) m) [] ≡ m
-unfolding taken isVariable orElse choose need
-lone-takes r v m s f =
-    let e = fits-need r (Variable v ∷ []) m s f in
-    rw (eq-eqb v v refl) (take-all (share r (spare r (Variable v ∷ []) (length m)) (Variable v)) m (omega arith))
-
-empty-fits : (r : Rule) (m : List ℕ) → lengthFits r [] m ≡ true → m ≡ []
-unfolding lengthFits lists choose
-empty-fits r m f = let e = eqb-true (length m) 0 f in sym (take-all 0 m (omega arith))
-
-module _ (h : Host) (r : Rule) (p : List ℕ) (i c : ℕ) (n : length p ≡ i) (k : i < leftNodes r + leftEdges r) (holds : ruleHolds r ≡ true)
-    (f : lengthFits r (labelOf r i) (labelAt h (leftNodes r) i c) ≡ true) where
-  first-takes : (v : ℕ) → labelOf r i ≡ Variable v ∷ [] → firstWith v (labels (r .left)) ≡ i
-      → assigned h r (p ++ c ∷ []) v ≡ labelAt h (leftNodes r) i c
-  first-takes v l e =
-      let s = length-append p (c ∷ []) in
-      let a = rw (e, getD-at p c [] 0 i n, l) at (assigned-first h r (p ++ c ∷ []) v (omega arith) (omega arith)) in
-      a ∙ lone-takes r v (labelAt h (leftNodes r) i c) (rw l at (label-simple r holds i)) (rw l at f)
-
-  pub alone-agrees : Alone r i (labelOf r i) → labelAgrees r (assigned h r (p ++ c ∷ [])) (labelOf r i) (labelAt h (leftNodes r) i c) ≡ true
-  unfolding labelAgrees concat atomsOf
-  alone-agrees (inl e) = both-of _ _ f (same-of _ _ (rw e (empty-fits r _ (rw e at f))))
-  alone-agrees (inr x) =
-      both-of _ _ f (same-of _ _ (rw (x .is) (sym (append-nil _ ∙ first-takes (x .variable) (x .is) (x .first)))))
-
--- Label and tests of a slot that is likely.
-
-module _ {h : Host} {r : Rule} {sort : ℕ} {p : List ℕ} {i c : ℕ} (l : Likely h r sort p i c true) where
-  -- the label agrees where the atoms are those that it stands for
-  pub compared-is : (g : Bool) → g ≡ same (labelAt h (leftNodes r) i c) (instance (assigned h r (p ++ c ∷ [])) (labelOf r i))
-      → labelAgrees r (assigned h r (p ++ c ∷ [])) (labelOf r i) (labelAt h (leftNodes r) i c) ≡ g
-  unfolding labelAgrees
-  compared-is g q = both-yes _ _ (l .label refl .length refl) ∙ sym q
-
-  pub compared-no : (g : Bool) → g ≡ same (labelAt h (leftNodes r) i c) (instance (assigned h r (p ++ c ∷ [])) (labelOf r i)) → g ≡ false
-      → false ≡ fits h r p c
-  compared-no g q e = sym (l .rest refl ∙ both-no _ _ (compared-is g q ∙ e))
-
-  -- the tests are left where the label agrees
-  pub left-tests : labelAgrees r (assigned h r (p ++ c ∷ [])) (labelOf r i) (labelAt h (leftNodes r) i c) ≡ true
-      → (b : Bool) → b ≡ testsSoFar h r (p ++ c ∷ []) → b ≡ fits h r p c
-  left-tests e b q = q ∙ sym (l .rest refl ∙ both-yes _ _ e)

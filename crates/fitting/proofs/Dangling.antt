@@ -12,7 +12,7 @@ use lib.Seq.{getD-take}
 use Rattle.meaning.specs.Basics.{both, either, any, absent}
 use Rattle.meaning.specs.Layout.{Host, liveAt}
 use Rattle.meaning.specs.Image.{Rule}
-use Rattle.meaning.specs.Matching.{edgeAt, leftNodes, leftEdges, nodeSlot, touches}
+use Rattle.meaning.specs.Matching.{edgeAt, leftNodes, total, nodeSlot, touches}
 use Rattle.meaning.specs.FirstMatch.{touchesGone, dangles}
 use Rattle.meaning.specs.Laws.Tests.{both-yes, both-no, both-of, either-left, either-right, any-of, any-no}
 use Rattle.fitting.specs.Fitting.{goneAt, Numbers}
@@ -57,7 +57,7 @@ any-same f g (suc n) h = rw (h n (omega arith), any-same f g n (λ j k. h j (ome
 
 module _ (h : Host) (r : Rule) (plan at : List ℕ) (x : ℕ) (e : Numbers plan r) where
   abbrev whole : List ℕ
-  whole = take (leftNodes r + leftEdges r) at
+  whole = take (total r) at
 
   -- where the edge is live, it touches a node that goes where one of its ends does
   touched : liveAt (h .edges) x ≡ true → (s t : ℕ) → s ≡ edgeAt h x .source → t ≡ edgeAt h x .target
@@ -65,7 +65,7 @@ module _ (h : Host) (r : Rule) (plan at : List ℕ) (x : ℕ) (e : Numbers plan 
   unfolding touchesGone touches
   touched l s t p q =
       any-same (touchesGone h r whole x) (goneAt (getD plan 2 0) at s t) (leftNodes r) (λ j k.
-      rw (both-yes (liveAt (h .edges) x) (either (eqb (edgeAt h x .source) (nodeSlot whole j)) (eqb (edgeAt h x .target) (nodeSlot whole j))) l, getD-take (leftNodes r + leftEdges r) at j 0 (omega arith), p, q, e .interface))
+      rw (both-yes (liveAt (h .edges) x) (either (eqb (edgeAt h x .source) (nodeSlot whole j)) (eqb (edgeAt h x .target) (nodeSlot whole j))) l, getD-take (total r) at j 0 (omega arith), p, q, e .interface))
       ∙ ap (any (goneAt (getD plan 2 0) at s t)) (sym (e .nodes))
 
   module _ (l : Bool) (i : l ≡ liveAt (h .edges) x) where
@@ -85,9 +85,3 @@ module _ (h : Host) (r : Rule) (plan at : List ℕ) (x : ℕ) (e : Numbers plan 
       pub dangles-near : g ≡ true → (b : Bool) → b ≡ absent x (drop (getD plan 0 0) (take (getD plan 0 0 + getD plan 1 0) at)) → b ≡ dangles h r whole x
       unfolding dangles
       dangles-near z b y = y ∙ rw (e .nodes, e .edges) (sym (both-yes _ _ (touched (sym i ∙ d) s t p q ∙ sym f ∙ z)))
-
--- where no node goes, no edge dangles
-pub none-dangles : (h : Host) (r : Rule) (p : List ℕ) (n : ℕ) → leftNodes r ≤ r .interface → any (dangles h r p) n ≡ false
-unfolding dangles touchesGone
-none-dangles h r p n k =
-    any-no (dangles h r p) n (λ x l. both-no _ _ (any-no (touchesGone h r p x) (leftNodes r) (λ j m. both-no _ _ (lt-leb (r .interface) j (omega arith)))))

@@ -12,7 +12,8 @@ use Rattle.meaning.specs.Matching.{edgeAt, leftEdge, nodeSlot, runs}
 use Rattle.meaning.specs.FirstMatch.{marksAgree, joins, linked}
 use Rattle.meaning.specs.Laws.Tests.{both-yes, both-no, choose-eq, choose-ne}
 use Rattle.plan.specs.Plan.{Laid, HasItem, HasEdge, Marked}
-use Rattle.fitting.specs.Fitting.{joinsAt, slotOf, Tried}
+use Rattle.fitting.specs.Fitting.{joinsAt}
+use Rattle.agreeing.specs.Placed.{slotOf, Tried}
 
 module _ (h : Host) (r : Rule) (k s t x : ℕ) (a : Bool) (e : a ≡ runs h s t x) where
   pub joined : a ≡ true → (m n : ℕ) (b : Bool) → m ≡ leftEdge r k .mark → n ≡ edgeAt h x .mark → b ≡ marksAgree m n → b ≡ joinsAt h r k s t x

@@ -1,9 +1,4 @@
-mod Walks
-mod Parts
-mod Values
-mod Agreeing
-mod Elements
+-- What the proofs share: edges that join, candidates by all but label and tests, and edges that dangle.
 mod Joining
-mod Decisions
-mod Dangling
 mod Candidates
+mod Dangling

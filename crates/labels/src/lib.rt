@@ -1,10 +1,11 @@
-// Labels copied out of tables: a part of one, and whether one has an atom or a part of another at a place.
+// Labels copied out of tables: a part of one, and whether one has an atom or a part of another at a place; the height of an atom.
 ghost use mathlib.Core.Path.{_≡_};
 ghost use mathlib.Core.Bool.{true};
 ghost use mathlib.Core.List.{[], _∷_};
 ghost use Prim.Native.Nat.{_+_, _*_, _<_, _≤_};
 ghost use lib.ListN.{length, getD, take, drop};
 ghost use Rattle.meaning.specs.Basics.{same};
+ghost use Rattle.meaning.specs.Numbers.{height};
 ghost use Rattle.meaning.specs.Layout.{atoms};
 ghost use Rattle.labels.specs.Labels.{atomsIn, Held, Holds};
 
@@ -134,4 +135,11 @@ pub fn has_part(a: Label, from: usize, b: Label, start: usize, n: usize) -> bool
         j += 1;
     }
     true
+}
+
+// An atom's signed value plus 2^31; and back, by the same step.
+pub fn height(x: u32) -> u64
+    ensures { λ r. ⌜ (r ≡ height x) × (r < 0x100000000) ⌝ }
+{
+    (x as u64 + 0x80000000) % 0x100000000
 }

@@ -7,8 +7,8 @@ use native.Mathlib.Omega.{arith}
 use native.Mathlib.Nat.{div-le-self}
 use native.Mathlib.Decide.{ℕ-discrete, decLt}
 use borrow.Author.Tests.{eqb-true, not-true}
-use lib.ListN.{length, take, getD, length-map, List·getD-append}
-use lib.Seq.{getD-at, length-take-le, getD-take}
+use lib.ListN.{length, take, getD, length-map}
+use lib.Seq.{length-take-le}
 use Rattle.meaning.specs.Layout.{Host, readNodes, readEdges, hostOf}
 use Rattle.meaning.specs.Image.{Rule}
 use Rattle.meaning.specs.Matching.{leftNodes, leftEdges, leftEdge, nodeSlot, runs}
@@ -17,7 +17,8 @@ use Rattle.meaning.specs.Laws.Tests.{not-so, both-true, any-no, all-no, choose-
 use Rattle.meaning.specs.Laws.Pieces.{length-pieces}
 use Rattle.meaning.specs.Laws.References.{clauses-true}
 use Rattle.meaning.specs.declared.Layout.{Layout}
-use Rattle.fitting.specs.Fitting.{slots}
+use Rattle.agreeing.specs.Placed.{slots}
+use Rattle.agreeing.specs.Trials.{next-new, next-old}
 use Rattle.matching.specs.Next.{Meets}
 
 pub clash : (a b : Bool) → not a ≡ true → a ≡ b → b ≡ true → ⊥
@@ -25,14 +26,11 @@ clash a b f e t = let z : _≡_ {A = Bool} true false = sym t ∙ sym e ∙ not-
 
 -- the slots so far, with one more
 module _ (at : List ℕ) (i y j : ℕ) (room : i < length at) where
-  size : length (take i at) ≡ i
-  size = length-take-le i at (omega arith)
-
   slot-new : j ≡ i → nodeSlot (take i at ++ y ∷ []) j ≡ y
-  slot-new e = rw e (getD-at (take i at) y [] 0 i size)
+  slot-new e = rw e (next-new at i y (omega arith))
 
   slot-old : j < i → nodeSlot (take i at ++ y ∷ []) j ≡ getD at j 0
-  slot-old h = List·getD-append (take i at) (y ∷ []) 0 j (omega (arith, size)) ∙ getD-take i at j 0 h
+  slot-old h = next-old at i y (omega arith) j h
 
 module _ (h : Host) (r : Rule) (at : List ℕ) (i k y : ℕ) (room : i < length at) (inside : k < leftEdges r) where
   -- left edge k has node i for its later end, and no host edge can stand for it

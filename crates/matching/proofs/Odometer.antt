@@ -14,7 +14,7 @@ use Rattle.meaning.specs.Image.{Rule}
 use Rattle.meaning.specs.Matching.{leftNodes, total}
 use Rattle.meaning.specs.FirstMatch.{fits, candidates, complete, firstMatch}
 use Rattle.meaning.specs.declared.Layout.{Layout}
-use Rattle.fitting.specs.Fitting.{Known, Inside, slots}
+use Rattle.agreeing.specs.Placed.{Known, Inside, slots}
 use Rattle.matching.specs.Next.{Handed, Ready, NextSlot, IsStep}
 use Rattle.matching.specs.declared.Step.the-variants.{Back}
 use Rattle.matching.specs.declared.Next.the-variants.{At}

@@ -5,11 +5,11 @@ use mathlib.Core.List.{List}
 use native.Mathlib.Omega.{arith}
 use lib.ListN.{length, take, getD}
 use lib.Seq.{getD-take}
-use Rattle.meaning.specs.Matching.{leftNodes, leftEdges, leftEdge, nodeSlot}
+use Rattle.meaning.specs.Matching.{leftNodes, leftEdges, total, leftEdge, nodeSlot}
 use Rattle.meaning.specs.Laws.References.{ends}
 use Rattle.meaning.specs.declared.Layout.{Layout}
 use Rattle.plan.specs.Plan.{HasItem, HasEdge}
-use Rattle.fitting.specs.Fitting.{Known}
+use Rattle.agreeing.specs.Placed.{Known}
 use Rattle.matching.specs.Next.{Ready}
 
 module _ (bs plan : List ℕ) (w : Known bs plan) where
@@ -19,17 +19,14 @@ module _ (bs plan : List ℕ) (w : Known bs plan) where
   pub edges-of : getD plan 1 0 ≡ leftEdges (w .rule)
   edges-of = w .planned .laid .items .edges
 
-  pub few-items : (getD plan 0 0 ≤ 6) × (getD plan 1 0 ≤ 6)
-  few-items = (
+  pub few-each : (getD plan 0 0 ≤ 6) × (getD plan 1 0 ≤ 6)
+  few-each = (
     omega (arith, nodes-of, w .planned .laid .items .fewNodes),
     omega (arith, edges-of, w .planned .laid .items .fewEdges),
   )
 
-  pub levels-of : getD plan 0 0 + getD plan 1 0 ≡ leftNodes (w .rule) + leftEdges (w .rule)
+  pub levels-of : getD plan 0 0 + getD plan 1 0 ≡ total (w .rule)
   levels-of = omega (arith, nodes-of, edges-of)
-
-  pub few-levels : leftNodes (w .rule) + leftEdges (w .rule) ≤ 12
-  few-levels = omega (arith, w .planned .laid .items .fewNodes, w .planned .laid .items .fewEdges)
 
   pub has-edge : (k : ℕ) → k < getD plan 1 0 → HasEdge bs plan k
   has-edge k h = record { tree = w .rule; laid = w .planned .laid; there = omega (arith, edges-of) }
@@ -59,4 +56,4 @@ module _ (bs plan : List ℕ) (w : Known bs plan) where
 -- a level is inside the array
 pub level-room : {L : Layout} {nodes edges bs plan at : List ℕ} {i : ℕ} → Ready L nodes edges bs plan at i
     → i < getD plan 0 0 + getD plan 1 0 → i < length at
-level-room r h = omega (arith, r .room, few-items _ _ (r .known))
+level-room r h = omega (arith, r .room, few-each _ _ (r .known))

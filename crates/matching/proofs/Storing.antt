@@ -23,12 +23,13 @@ use Rattle.meaning.specs.Laws.Assignment.{labels-length}
 use Rattle.meaning.specs.Laws.Decided.{first-with}
 use Rattle.labels.specs.Labels.{atomsIn, Held}
 use Rattle.labels.specs.declared.Label.{Label}
-use Rattle.fitting.specs.Fitting.{Known, Inside, Full, HasValue}
-use Rattle.fitting.specs.Trials.{full}
+use Rattle.agreeing.specs.Placed.{Known, Inside, Full}
+use Rattle.agreeing.specs.Agreeing.{HasValue}
 use Rattle.meaning.specs.Matching.{total}
 use Rattle.values.specs.Values.{valuesOf, Stored}
 use Rattle.matching.specs.Values.{Copied, HasValues}
-use Rattle.matching.proofs.Plans.{nodes-of, edges-of, levels-of, few-levels}
+use Rattle.matching.proofs.Plans.{levels-of}
+use Rattle.matching.proofs.Completing.{allPlaced}
 
 -- two parts of one size are the same where their elements are
 same-part : (n k d : ℕ) (xs ys : List ℕ) → k + n ≤ length xs → d + n ≤ length ys
@@ -148,12 +149,12 @@ on-left r holds v e =
       omega (arith, first-with v (labels (r .left)) (left-plain r holds) e .0, labels-length r),
     )
 
--- A full placement.
+-- A full placement gives them.
 
 module _ (h : Host) (bs plan at : List ℕ) (w : Known bs plan) (room : length at ≡ 12)
     (inside : Inside h (getD plan 0 0) at (getD plan 0 0 + getD plan 1 0)) where
   abbrev placed : Full h bs plan at 12 0
-  placed = full h bs plan at w room 12 0 (few-levels _ _ w) (rw (nodes-of _ _ w, edges-of _ _ w) at inside)
+  placed = allPlaced h bs plan at w room inside
 
   abbrev pub has-value : (v : ℕ) → v < length (w .rule .variables) → getD plan (28 + v) 0 < getD plan 0 0 + getD plan 1 0
       → HasValue h bs plan at 12 0 v

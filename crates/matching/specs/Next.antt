@@ -1,5 +1,5 @@
 -- What the functions of the search are handed, and what they answer. Rests on the meaning's FirstMatch.
-use Prim.Native.Nat.{ℕ, _+_, _<_, _≤_}
+use Prim.Native.Nat.{ℕ, _<_, _≤_}
 use mathlib.Core.Path.{_≡_}
 use mathlib.Core.Logic.{_⊎_}
 use mathlib.Core.Bool.{Bool, true, false, not}
@@ -8,11 +8,12 @@ use mathlib.Core.List.{List}
 use lib.ListN.{length, getD}
 use Rattle.meaning.specs.Layout.{Host, liveAt, hostOf}
 use Rattle.meaning.specs.Image.{Rule}
-use Rattle.meaning.specs.Matching.{edgeAt, leftNodes, leftEdges, total}
+use Rattle.meaning.specs.Matching.{edgeAt, total}
 use Rattle.meaning.specs.FirstMatch.{marksAgree, fits, candidates, complete}
 use Rattle.meaning.specs.declared.Layout.{Layout}
 use Rattle.graph.specs.Graph.{Legal}
-use Rattle.fitting.specs.Fitting.{Known, Inside, Likely}
+use Rattle.agreeing.specs.Placed.{Known, Inside}
+use Rattle.agreeing.specs.Candidates.{Likely}
 use Rattle.matching.specs.declared.Next.{Next}
 use Rattle.matching.specs.declared.Next.the-variants.{At, Nothing}
 use Rattle.matching.specs.declared.Step.{Step}

@@ -3,7 +3,7 @@ ghost use mathlib.Core.Path.{_≡_};
 ghost use mathlib.Core.Bool.{false};
 ghost use Prim.Native.Nat.{ℕ, _+_, _<_, _≤_};
 ghost use lib.ListN.{length, getD, take, replicate};
-ghost use Rattle.meaning.specs.FirstMatch.{nodeFits};
+ghost use Rattle.meaning.specs.FirstMatch.{nodeFits, complete as isComplete};
 ghost use Rattle.graph.specs.Graph.{Legal};
 ghost use Rattle.meaning.specs.Layout.{hostOf};
 ghost use Rattle.plan.specs.Plan.{IsRule};
@@ -287,7 +287,7 @@ fn next_slot(
         let next = next_likely(l, nodes, edges, rule, plan, at, i, x);
         match next {
             Next::At(y) => {
-                if fitting::rest_fits(l, nodes, edges, rule, plan, at, i, y) {
+                if testing::rest_fits(l, nodes, edges, rule, plan, at, i, y) {
                     return Next::At(y);
                 }
                 x = y + 1;
@@ -300,6 +300,26 @@ fn next_slot(
 }
 
 // The levels of the search.
+
+// Whether a full placement is a match: nothing is left dangling, and the tests hold.
+fn complete(
+    l: Layout,
+    nodes: &[u8],
+    edges: &[u8],
+    rule: &[u8],
+    plan: &[usize; 102],
+    at: &[usize; 12],
+) -> bool
+    requires { ⌜ Ready l (now nodes) (now edges) (now rule) (now plan) (now at) (getD (now plan) 0 0 + getD (now plan) 1 0) ⌝ }
+    ensures { λ b. ⌜ Of (now (rule .entry)) (now (plan .entry)) (λ r. b ≡ isComplete (hostOf l (now (nodes .entry)) (now (edges .entry))) r (take (total r) (now (at .entry)))) ⌝ }
+{
+    if plan[2] < plan[0] {
+        if fitting::any_dangles(l, nodes, edges, plan, at) {
+            return false;
+        }
+    }
+    testing::all_tests(l, nodes, edges, rule, plan, at)
+}
 
 // What to do at level i, where the slots from c on are left to try.
 fn advance(
@@ -317,7 +337,7 @@ fn advance(
     ensures { λ x. ⌜ Of (now (rule .entry)) (now (plan .entry)) (λ r. IsStep (hostOf l (now (nodes .entry)) (now (edges .entry))) r (take i (now (at .entry))) i c x) ⌝ }
 {
     if i == plan[0] + plan[1] {
-        if fitting::complete(l, nodes, edges, rule, plan, at) {
+        if complete(l, nodes, edges, rule, plan, at) {
             return Step::Full;
         }
         return Step::Back;
@@ -365,7 +385,7 @@ fn assign(
     let mut v: usize = 0;
     while v < n {
         if plan[28 + v] < m {
-            let a = fitting::value(l, nodes, edges, rule, plan, at, 12, 0, v);
+            let a = agreeing::value(l, nodes, edges, rule, plan, at, 12, 0, v);
             lens[v] = a.len;
             put_atoms(atoms, 8 * v, a);
             v += 1;

@@ -1,20 +1,19 @@
 -- When conditions and tests are decided. Rests on Plan and on the meaning's References and FirstMatch.
 use mathlib.Core.Path.{_≡_, refl, sym, _∙_, ap}
 use mathlib.Core.Option.{some, none}
-use mathlib.Core.Bool.{true, false}
+use mathlib.Core.Bool.{false}
 use mathlib.Core.List.{List, [], _∷_, _++_, map}
 use Prim.Native.Nat.{ℕ, suc, _+_, _-_, _<_, _≤_, max}
 use native.Mathlib.Omega.{arith}
 use native.Mathlib.Decide.{ℕ-discrete}
-use borrow.Author.Tests.{ltb-true}
 use lib.ListN.{length, getD, set, take, drop, length-drop}
 use Rattle.meaning.specs.Basics.{concat}
 use Rattle.meaning.specs.Image.{Rule, field, test}
-use Rattle.meaning.specs.References.{operandNames, conditionOperands, conditionNodes, names, labels, testNames, testOperands, variablesExist, testNodesExist, ruleHolds}
+use Rattle.meaning.specs.References.{operandNames, conditionOperands, conditionNodes, labels}
 use Rattle.meaning.specs.Matching.{leftNodes}
 use Rattle.meaning.specs.FirstMatch.{firstWith, highest, decidedAt}
-use Rattle.meaning.specs.Laws.Every.{Every, Every-true, Every-in, Every-parts, Every-concat, Every-map, Every-then}
-use Rattle.meaning.specs.Laws.References.{clauses-true, OfVariables}
+use Rattle.meaning.specs.Laws.Every.{Every, Every-in, Every-then}
+use Rattle.meaning.specs.Laws.References.{OfVariables}
 use Rattle.meaning.specs.Laws.Assignment.{labels-length}
 use Rattle.meaning.specs.declared.Operand.{Operand}
 use Rattle.meaning.specs.declared.Operand.the-variants.{Constant as constantOperand, Variable as variableOperand}
@@ -24,6 +23,7 @@ use Rattle.meaning.specs.declared.Test.{Test}
 use Rattle.fields.specs.Laws.{Lies}
 use Rattle.parts.specs.Runs.{Run, run-none, run-some, run-there}
 use Rattle.plan.specs.Plan.{testOf, Named, AllLabelled, Planned, Valued, Decides, operandDecided, decidedBy}
+use Rattle.plan.specs.Tests.{nodes-exist, variables-exist}
 use Rattle.plan.proofs.Places.{drop-head, tests-run}
 use Rattle.plan.proofs.Variables.{first-low}
 use Rattle.plan.proofs.Stores.{other, stored, all-kept}
@@ -94,26 +94,6 @@ module _ (plan : List ℕ) (c : Condition) {a b : Operand} {m x y : ℕ} (h : m 
   pub of-less : c ≡ Less a b → m ≡ decidedBy plan c
   unfolding decidedBy conditionNodes conditionOperands concat
   of-less e = rw (e, h, i, j) (of-both plan a b)
-
--- The tests of a rule whose references hold.
-
-module _ (r : Rule) (holds : ruleHolds r ≡ true) where
-  -- their nodes and variables exist
-  nodes-exist : Every (λ t. Every (λ a. a < leftNodes r) (conditionNodes (t .condition))) (r .tests)
-  unfolding ruleHolds testNodesExist
-  nodes-exist =
-      Every-true _ _ (λ t e. Every-true _ _ (λ a q. ltb-true a (leftNodes r) q) (conditionNodes (t .condition)) e) (r .tests)
-      (clauses-true _ holds 3)
-
-  variables-exist : Every (λ t. OfVariables (λ v. v < length (r .variables)) t) (r .tests)
-  unfolding ruleHolds variablesExist
-  variables-exist =
-      let Exists : ℕ → Type 0 = λ v. v < length (r .variables) in
-      let sides = names (r .left) ++ names (r .right) in
-      let exist = Every-true _ Exists (λ v e. ltb-true v _ e) (sides ++ testNames r) (clauses-true _ holds 0) in
-      let tests = Every-parts Exists sides (testNames r) exist .1 in
-      let operands = Every-map _ operandNames (testOperands r) (Every-concat Exists _ tests) in
-      Every-map _ (λ t. conditionOperands (t .condition)) (r .tests) (Every-concat _ _ operands)
 
 -- Lists.
 

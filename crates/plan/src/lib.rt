@@ -207,7 +207,7 @@ fn first_with(rule: &[u8], plan: &[usize; 102], v: usize) -> First
     }
 }
 
-fn later(a: usize, b: usize) -> usize
+pub fn later(a: usize, b: usize) -> usize
     ensures { λ c. ⌜ c ≡ max a b ⌝ }
 {
     if a < b {

@@ -3,7 +3,7 @@ ghost use mathlib.Core.Path.{_≡_};
 ghost use mathlib.Core.List.{List, _++_};
 ghost use Prim.Native.Nat.{ℕ, _+_, _*_, _<_, _≤_};
 ghost use lib.ListN.{length, getD, take, drop};
-ghost use Rattle.meaning.specs.Numbers.{height, sum, difference};
+ghost use Rattle.meaning.specs.Numbers.{sum, difference};
 ghost use Rattle.meaning.specs.Image.{label, ruleGraph};
 ghost use Rattle.meaning.specs.Matching.{atomOf};
 ghost use Rattle.meaning.specs.Applying.{elementValue, labelValue};
@@ -30,13 +30,6 @@ pub enum Atom {
     Outside,
 }
 
-// An atom's signed value plus 2^31; and back, by the same step.
-pub fn height(x: u32) -> u64
-    ensures { λ r. ⌜ (r ≡ height x) × (r < 0x100000000) ⌝ }
-{
-    (x as u64 + 0x80000000) % 0x100000000
-}
-
 // The atom whose height is h less 2^31, if there is one.
 pub fn lowered(h: u64) -> Atom
     ensures { λ r. ⌜ asOption r ≡ lowered h ⌝ }
@@ -47,20 +40,20 @@ pub fn lowered(h: u64) -> Atom
     if h >= 0x180000000 {
         return Atom::Outside;
     }
-    let x = height((h - 0x80000000) as u32);
+    let x = labels::height((h - 0x80000000) as u32);
     Atom::Word(x as u32)
 }
 
 pub fn sum(a: u32, b: u32) -> Atom
     ensures { λ r. ⌜ asOption r ≡ sum a b ⌝ }
 {
-    lowered(height(a) + height(b))
+    lowered(labels::height(a) + labels::height(b))
 }
 
 pub fn difference(a: u32, b: u32) -> Atom
     ensures { λ r. ⌜ asOption r ≡ difference a b ⌝ }
 {
-    lowered(height(a) + 0x100000000 - height(b))
+    lowered(labels::height(a) + 0x100000000 - labels::height(b))
 }
 
 // The values of the variables: variable v has lens[v] atoms, from atoms[8 * v] on.

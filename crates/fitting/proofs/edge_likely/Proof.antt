@@ -1,11 +1,11 @@
 -- `edge_likely` meets its contract: each clause of the definition but label and tests by one test, and what the label's length says.
-use Prim.Native.Nat.{_+_, _<_, _≤_}
+use Prim.Native.Nat.{_<_, _≤_}
 use mathlib.Core.Path.{_≡_, _∙_}
 use borrow.Author.Tests.{not-true, not-false}
 use lib.ListN.{length, take}
-use lib.Seq.{length-take-le}
-use Rattle.meaning.specs.Matching.{leftNodes, leftEdges}
-use Rattle.fitting.specs.Fitting.{Known}
+use Rattle.meaning.specs.Matching.{leftNodes, total}
+use Rattle.agreeing.specs.Placed.{Known}
+use Rattle.agreeing.specs.Trials.{few-items, before-length}
 use Rattle.fitting.proofs.Candidates.{edgeCandidate, joins-are, absent-is, unjoined, used-edge, likely-edge}
 use native.Mathlib.Omega.{arith}
 use Rattle.fitting.proofs.edge_likely.Statement.{statement}
@@ -18,14 +18,11 @@ Rule s = Known (s .args .rule .now) (s .args .plan .now)
 high : (s : tie.Start) (w : Rule s) → leftNodes (w .rule) ≤ s .args .i
 high s w = omega (arith, w .planned .laid .items .nodes, s .pre .1 .1 .1 .0 .0)
 
-there : (s : tie.Start) (w : Rule s) → s .args .i < leftNodes (w .rule) + leftEdges (w .rule)
+there : (s : tie.Start) (w : Rule s) → s .args .i < total (w .rule)
 there s w = let q = w .planned .laid .items in omega (arith, q .nodes, q .edges, s .pre .1 .1 .1 .0 .1)
 
 placed : (s : tie.Start) → length (take (s .args .i) (s .args .at .now)) ≡ s .args .i
-placed s =
-    let w = s .pre .1 .0 in
-    let q = w .planned .laid .items in
-    length-take-le (s .args .i) (s .args .at .now) (omega (arith, s .pre .1 .1 .0 .0, there s w, q .fewNodes, q .fewEdges))
+placed s = let w = s .pre .1 .0 in before-length w (s .args .at .now) (s .args .i) (s .pre .1 .1 .0 .0) (there s w)
 
 element-copy-out-n : tie.Need-element-copy-out-n
 element-copy-out-n c = omega (arith, c .before .before .before .pre .1 .0 .planned .laid .items .size)
@@ -52,8 +49,7 @@ absent-requires : tie.Need-absent-requires
 absent-requires c κs =
     let start = c .before .before .before .before .before .before in
     let w = start .pre .1 .0 in
-    let q = w .planned .laid .items in
-    (start .pre .1 .1 .1 .0 .0, omega (arith, there start w, q .fewNodes, q .fewEdges), start .pre .1 .1 .0 .0)
+    (start .pre .1 .1 .1 .0 .0, omega (arith, there start w, few-items w), start .pre .1 .1 .0 .0)
 
 returns-2 : tie.Need-returns-2
 returns-2 c =

@@ -6,7 +6,7 @@ use borrow.Author.Tests.{not-true, not-false}
 use Rattle.meaning.specs.Basics.{all}
 use Rattle.meaning.specs.FirstMatch.{linked}
 use Rattle.meaning.specs.Layout.{hostOf}
-use Rattle.fitting.specs.Fitting.{Tried}
+use Rattle.agreeing.specs.Placed.{Tried}
 use Rattle.meaning.specs.Laws.Loops.{all-fails, all-next, all-end}
 use native.Mathlib.Omega.{arith}
 use Rattle.fitting.proofs.linked.Statement.{statement}

@@ -4,10 +4,9 @@ use mathlib.Core.Bool.{false}
 use mathlib.Core.List.{List}
 use Prim.Native.Nat.{ℕ, _-_, _<_, _≤_}
 use Rattle.meaning.specs.FirstMatch.{nodeFits}
-use Rattle.meaning.specs.Matching.{leftNodes}
 use Rattle.meaning.specs.Layout.{hostOf}
-use Rattle.fitting.specs.Fitting.{Known}
-use Rattle.fitting.proofs.Candidates.{passed-more}
+use Rattle.agreeing.specs.Placed.{Known}
+use Rattle.fitting.proofs.Candidates.{left-node, passed-more}
 use borrow.Author.Needs.{needs}
 use native.Mathlib.Omega.{arith}
 use Rattle.fitting.proofs.next_like.Statement.{statement}
@@ -22,19 +21,15 @@ Inv-loop l nodes edges rule plan i c n mark root x₀ x =
 abbrev μ-loop : tie.MeasureT-loop
 μ-loop l nodes edges rule plan i c n mark root x₀ x = n - x
 
--- the node is a left node
-low : (s : tie.Start Inv-loop μ-loop) (w : Known (s .args .rule .now) (s .args .plan .now)) → s .args .i < leftNodes (w .rule)
-low s w = omega (arith, w .planned .laid .items .nodes, s .pre .1 .1 .0)
-
 mark-requires : tie.Need-mark-requires Inv-loop μ-loop
 mark-requires c κs =
     let w = c .before .before .before .pre .1 .0 in
-    record { tree = w .rule; laid = w .planned .laid; there = omega (arith, low (c .before .before .before) w) }
+    record { tree = w .rule; laid = w .planned .laid; there = omega (arith, left-node w (c .before .before .before .pre .1 .1 .0)) }
 
 root-requires : tie.Need-root-requires Inv-loop μ-loop
 root-requires c κs =
     let w = c .before .before .before .before .pre .1 .0 in
-    record { tree = w .rule; laid = w .planned .laid; there = low (c .before .before .before .before) w }
+    record { tree = w .rule; laid = w .planned .laid; there = left-node w (c .before .before .before .before .pre .1 .1 .0) }
 
 loop-holds : tie.Need-loop-holds Inv-loop μ-loop
 loop-holds c = (omega arith, λ k. omega arith, λ w y j k. absurd (omega arith))
@@ -46,7 +41,7 @@ node-like-requires c κs = (
     c .before .before .before .before .before .before .before .pre .1 .0,
     (
       (c .before .before .before .before .before .before .before .pre .1 .1 .0, omega (arith, c .before .before .before .before .before .before .before .pre .1 .1 .1, c .loop-test .taken)),
-      λ w. (c .before .before .before .mark .ensures (w .rule) (w .planned .laid) .node (low (c .before .before .before .before .before .before .before) w), c .before .before .root .ensures (w .rule) (w .planned .laid)),
+      λ w. (c .before .before .before .mark .ensures (w .rule) (w .planned .laid) .node (left-node w (c .before .before .before .before .before .before .before .pre .1 .1 .0)), c .before .before .root .ensures (w .rule) (w .planned .laid)),
     ),
   ),
 )

@@ -1,18 +1,10 @@
 -- `node_like` meets its contract: each clause that the slot alone decides by one test.
-use Prim.Native.Nat.{_<_}
 use mathlib.Core.Path.{sym, _∙_}
 use borrow.Author.Tests.{not-true, not-false, eq-eqb, ne-eqb}
-use Rattle.meaning.specs.Matching.{leftNodes}
-use Rattle.fitting.specs.Fitting.{Known}
-use Rattle.fitting.proofs.Candidates.{nodeCandidate, marks-are, free-slot, other-mark, other-root, like-label}
+use Rattle.fitting.proofs.Candidates.{left-node, nodeCandidate, marks-are, free-slot, other-mark, other-root, like-label}
 use borrow.Author.Needs.{needs}
-use native.Mathlib.Omega.{arith}
 use Rattle.fitting.proofs.node_like.Statement.{statement}
 use Rattle.fitting.proofs.node_like.Tie as tie
-
--- the node is a left node
-low : (s : tie.Start) (w : Known (s .args .rule .now) (s .args .plan .now)) → s .args .i < leftNodes (w .rule)
-low s w = omega (arith, w .planned .laid .items .nodes, s .pre .1 .1 .0 .0)
 
 node-live-requires : tie.Need-node-live-requires
 node-live-requires c κs = search needs
@@ -44,7 +36,7 @@ label-likely-requires c κs =
 returns-4 : tie.Need-returns-4
 returns-4 c =
     λ w.
-    like-label _ _ _ _ _ (low (c .before .before .before .before .before .before .before .before .before .before .before) w)
+    like-label _ _ _ _ _ (left-node w (c .before .before .before .before .before .before .before .before .before .before .before .pre .1 .1 .0 .0))
     (sym (c .before .before .before .before .before .before .before .node-live .ensures) ∙ not-false _ (c .before .before .before .before .before .before .if1 .left))
     (marks-are _ _ _ _ _ (c .before .before .before .before .before .before .before .before .before .before .before .pre .1 .1 .1 w .0) (c .before .before .before .before .before .node-mark .ensures) (c .before .before .before .before .marks-agree .ensures) ∙ not-false _ (c .before .before .before .if2 .left))
     (eq-eqb _ _ (sym (c .before .before .before .before .before .before .before .before .before .before .before .pre .1 .1 .1 w .1) ∙ c .before .if3 .left ∙ c .before .before .node-root .ensures))

@@ -3,11 +3,11 @@ use Prim.Native.Nat.{_<_}
 use mathlib.Core.Path.{_≡_, sym, _∙_}
 use borrow.Author.Tests.{not-true, not-false}
 use lib.ListN.{length, take}
-use lib.Seq.{length-take-le}
 use Rattle.meaning.specs.Layout.{Host, hostOf}
 use Rattle.meaning.specs.Matching.{leftNodes}
-use Rattle.fitting.specs.Fitting.{Known, Tried}
-use Rattle.fitting.proofs.Candidates.{nodeCandidate, triedItem, used-node, unlinked, likely-node}
+use Rattle.agreeing.specs.Placed.{Known, Tried}
+use Rattle.fitting.proofs.Candidates.{left-node, nodeCandidate, used-node, unlinked, likely-node}
+use Rattle.agreeing.specs.Trials.{before-length, triedItem}
 use borrow.Author.Needs.{needs}
 use native.Mathlib.Omega.{arith}
 use Rattle.fitting.proofs.node_likely.Statement.{statement}
@@ -21,12 +21,10 @@ Rule s = Known (s .args .rule .now) (s .args .plan .now)
 
 -- the node is a left node, those before it are placed, and it is tried
 low : (s : tie.Start) (w : Rule s) → s .args .i < leftNodes (w .rule)
-low s w = omega (arith, w .planned .laid .items .nodes, s .pre .1 .1 .1 .0 .0)
+low s w = left-node w (s .pre .1 .1 .1 .0 .0)
 
 placed : (s : tie.Start) → length (take (s .args .i) (s .args .at .now)) ≡ s .args .i
-placed s =
-    let w = s .pre .1 .0 in
-    length-take-le (s .args .i) (s .args .at .now) (omega (arith, s .pre .1 .1 .0 .0, low s w, w .planned .laid .items .fewNodes))
+placed s = let w = s .pre .1 .0 in before-length w (s .args .at .now) (s .args .i) (s .pre .1 .1 .0 .0) (omega (arith, low s w))
 
 abbrev tried : (s : tie.Start) → Rule s → Tried (host s) (s .args .rule .now) (s .args .plan .now) (s .args .at .now) (s .args .i) (s .args .c)
 tried s w =

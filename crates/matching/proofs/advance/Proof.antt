@@ -19,7 +19,7 @@ add-if1 c = search needs
 complete-requires : tie.Need-complete-requires
 complete-requires c κs =
     let p = c .before .before .before .before .before .before .pre .0 in
-    (p .legal, (p .known, (p .room, rw (sym (c .if1 .taken)) (p .inside))))
+    rw (sym (c .if1 .taken)) p
 
 returns : tie.Need-returns
 returns c =

@@ -7,7 +7,7 @@ use lib.ListN.{length, take}
 use Rattle.meaning.specs.Assigned.{assigned}
 use Rattle.labels.specs.Labels.{Holds}
 use Rattle.meaning.specs.Layout.{hostOf}
-use Rattle.fitting.specs.Fitting.{Known}
+use Rattle.agreeing.specs.Placed.{Known}
 use Rattle.matching.specs.Next.{Of}
 use Rattle.meaning.specs.Matching.{total}
 use Rattle.values.specs.Values.{Stored}

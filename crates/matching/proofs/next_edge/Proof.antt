@@ -7,9 +7,9 @@ use borrow.Author.Needs.{needs}
 use lib.ListN.{length, take, getD}
 use Rattle.meaning.specs.FirstMatch.{fits, candidates}
 use Rattle.meaning.specs.Layout.{hostOf}
-use Rattle.fitting.specs.Fitting.{Known}
+use Rattle.agreeing.specs.Placed.{Known}
 use Rattle.matching.specs.Next.{Of}
-use Rattle.matching.proofs.Plans.{nodes-of, few-items, few-ends, has-edge, source-slot, target-slot, level-room}
+use Rattle.matching.proofs.Plans.{nodes-of, few-each, few-ends, has-edge, source-slot, target-slot, level-room}
 use Rattle.matching.proofs.Links.{none-more, edge-slots}
 use Rattle.matching.proofs.next_edge.Statement.{statement}
 use Rattle.matching.proofs.next_edge.Tie as tie
@@ -54,7 +54,7 @@ mul-s c =
       c .before .source .ensures (s .pre .0 .known .rule) (s .pre .0 .known .planned .laid),
       few-ends _ _
           (s .pre .0 .known) (s .args .i - getD (s .args .plan .now) 0 0) (omega arith) .0,
-      few-items _ _ (s .pre .0 .known) .0,
+      few-each _ _ (s .pre .0 .known) .0,
     )
 
 element-copy-out-s : tie.Need-element-copy-out-s Inv-loop μ-loop
@@ -65,7 +65,7 @@ element-copy-out-s c =
       c .before .source .ensures (s .pre .0 .known .rule) (s .pre .0 .known .planned .laid),
       few-ends _ _
           (s .pre .0 .known) (s .args .i - getD (s .args .plan .now) 0 0) (omega arith) .0,
-      few-items _ _ (s .pre .0 .known) .0,
+      few-each _ _ (s .pre .0 .known) .0,
     )
 
 mul-t : tie.Need-mul-t Inv-loop μ-loop
@@ -76,7 +76,7 @@ mul-t c =
       c .before .target .ensures (s .pre .0 .known .rule) (s .pre .0 .known .planned .laid),
       few-ends _ _
           (s .pre .0 .known) (s .args .i - getD (s .args .plan .now) 0 0) (omega arith) .1,
-      few-items _ _ (s .pre .0 .known) .0,
+      few-each _ _ (s .pre .0 .known) .0,
     )
 
 element-copy-out-t : tie.Need-element-copy-out-t Inv-loop μ-loop
@@ -87,7 +87,7 @@ element-copy-out-t c =
       c .before .target .ensures (s .pre .0 .known .rule) (s .pre .0 .known .planned .laid),
       few-ends _ _
           (s .pre .0 .known) (s .args .i - getD (s .args .plan .now) 0 0) (omega arith) .1,
-      few-items _ _ (s .pre .0 .known) .0,
+      few-each _ _ (s .pre .0 .known) .0,
     )
 
 edge-slots-requires : tie.Need-edge-slots-requires Inv-loop μ-loop

@@ -7,7 +7,7 @@ use borrow.Author.Needs.{needs}
 use lib.ListN.{length, take}
 use Rattle.meaning.specs.FirstMatch.{fits, candidates}
 use Rattle.meaning.specs.Layout.{hostOf}
-use Rattle.fitting.specs.Fitting.{Known}
+use Rattle.agreeing.specs.Placed.{Known}
 use Rattle.matching.specs.Next.{Of}
 use Rattle.matching.proofs.Plans.{nodes-of, level-room}
 use Rattle.matching.proofs.Links.{none-more, node-slots, nodes-join}

@@ -8,7 +8,7 @@ use lib.ListN.{length, getD, take}
 use Rattle.meaning.specs.Matching.{leftNodes}
 use Rattle.meaning.specs.FirstMatch.{fits, candidates}
 use Rattle.meaning.specs.Layout.{hostOf}
-use Rattle.fitting.specs.Fitting.{Known, slots}
+use Rattle.agreeing.specs.Placed.{Known, slots}
 use Rattle.matching.specs.Next.{Of, NextLikely}
 use Rattle.matching.specs.declared.Next.the-variants.{At}
 use Rattle.matching.proofs.Plans.{levels-of, level-room}

@@ -7,10 +7,11 @@ use native.Mathlib.Nat.{le-refl}
 use borrow.Author.Needs.{needs}
 use lib.ListN.{getD, take}
 use Rattle.meaning.specs.Layout.{hostOf}
-use Rattle.fitting.specs.Fitting.{Known}
+use Rattle.agreeing.specs.Placed.{Known}
+use Rattle.agreeing.specs.Trials.{few-items}
 use Rattle.matching.specs.Next.{Of, IsStep}
 use Rattle.matching.specs.declared.Step.the-variants.{Full, Take}
-use Rattle.matching.proofs.Plans.{nodes-of, levels-of, few-levels}
+use Rattle.matching.proofs.Plans.{nodes-of, levels-of}
 use Rattle.matching.proofs.Odometer.{Going, work, begin, pushed, pushed-less, ended, popped, popped-less, found-first, ready, small}
 use Rattle.matching.proofs.search.Statement.{statement}
 use Rattle.matching.proofs.search.Tie as tie
@@ -63,17 +64,17 @@ took c w = rw (c .before .s .given .1) at (c .before .before .before .advance .e
 mul-at : tie.Need-mul-at Inv-loop μ-loop Inv-found μ-found
 mul-at c =
     let s = c .before .before .before .before .before .before .before .before .before .before in
-    omega (arith, took c (s .pre .0 .known) .0, few-levels _ _ (s .pre .0 .known))
+    omega (arith, took c (s .pre .0 .known) .0, few-items (s .pre .0 .known))
 
 array-write-at : tie.Need-array-write-at Inv-loop μ-loop Inv-found μ-found
 array-write-at c =
     let s = c .before .before .before .before .before .before .before .before .before .before in
-    omega (arith, took c (s .pre .0 .known) .0, few-levels _ _ (s .pre .0 .known))
+    omega (arith, took c (s .pre .0 .known) .0, few-items (s .pre .0 .known))
 
 add-i : tie.Need-add-i Inv-loop μ-loop Inv-found μ-found
 add-i c =
     let s = c .before .before .before .before .before .before .before .before .before .before in
-    omega (arith, took c (s .pre .0 .known) .0, few-levels _ _ (s .pre .0 .known))
+    omega (arith, took c (s .pre .0 .known) .0, few-items (s .pre .0 .known))
 
 loop-less : tie.Need-loop-less Inv-loop μ-loop Inv-found μ-found
 loop-less c =
@@ -81,7 +82,7 @@ loop-less c =
     let s = l .before .before .before .before .before in
     let a = s .args in
     let n = took c (s .pre .0 .known) in
-    pushed-less (hostOf (a .l) (a .nodes .now) (a .edges .now)) ((s .pre .0 .known) .rule) (few-levels _ _ (s .pre .0 .known))
+    pushed-less (hostOf (a .l) (a .nodes .now) (a .edges .now)) ((s .pre .0 .known) .rule) (few-items (s .pre .0 .known))
     (l .loop .at) (l .loop .i) (l .loop .c) (l .loop .inv .0 (s .pre .0 .known)) (n .0) (c .before .s .given .0 .0) (n .1)
     (getD (a .plan .now) 0 0 + getD (a .plan .now) 1 0) (levels-of _ _ (s .pre .0 .known))
 
@@ -89,7 +90,7 @@ loop-again : tie.Need-loop-again Inv-loop μ-loop Inv-found μ-found
 loop-again c =
     let l = c .before .before .before .before .before in
     let a = c .before .before .before .before .before .before .before .before .before .before .args in (
-      λ w. let n = took c w in pushed (hostOf (a .l) (a .nodes .now) (a .edges .now)) (w .rule) (few-levels _ _ w) (l .loop .at)
+      λ w. let n = took c w in pushed (hostOf (a .l) (a .nodes .now) (a .edges .now)) (w .rule) (few-items w) (l .loop .at)
           (l .loop .i) (l .loop .c) (l .loop .inv .0 w) (n .0) (c .before .s .given .0 .0) (n .1),
       omega (arith, loop-less c, l .loop .inv .1),
     )
@@ -109,7 +110,7 @@ returns c =
     (record {
       room = refl;
       arrays = s .pre .1;
-      right = λ w. ended (hostOf (a .l) (a .nodes .now) (a .edges .now)) (w .rule) (few-levels _ _ w) (l .loop .at) (l .loop .i)
+      right = λ w. ended (hostOf (a .l) (a .nodes .now) (a .edges .now)) (w .rule) (few-items w) (l .loop .at) (l .loop .i)
           (l .loop .c) (l .loop .inv .0 w)
           (rw (c .before .before .enum-told2 .given .1) at (c .before .before .before .before .advance .ensures w))
           (c .before .if1 .taken);
@@ -123,13 +124,13 @@ mul-c : tie.Need-mul-c Inv-loop μ-loop Inv-found μ-found
 mul-c c =
     let s = c .before .before .before .before .before .before .before .before .before .before in
     let loop = c .before .before .before .before .before .loop in
-    omega (arith, loop .inv .0 (s .pre .0 .known) .level, few-levels _ _ (s .pre .0 .known))
+    omega (arith, loop .inv .0 (s .pre .0 .known) .level, few-items (s .pre .0 .known))
 
 array-read-c : tie.Need-array-read-c Inv-loop μ-loop Inv-found μ-found
 array-read-c c =
     let s = c .before .before .before .before .before .before .before .before .before .before in
     let loop = c .before .before .before .before .before .loop in
-    omega (arith, loop .inv .0 (s .pre .0 .known) .level, few-levels _ _ (s .pre .0 .known))
+    omega (arith, loop .inv .0 (s .pre .0 .known) .level, few-items (s .pre .0 .known))
 
 add-c : tie.Need-add-c Inv-loop μ-loop Inv-found μ-found
 add-c c =
@@ -153,7 +154,7 @@ found-less c =
       arith,
       l .loop .inv .1,
       popped-less (hostOf (a .l) (a .nodes .now) (a .edges .now)) ((s .pre .0 .known) .rule)
-          (few-levels _ _ (s .pre .0 .known)) (l .loop .at) (l .loop .i) (l .loop .c) (l .loop .inv .0 (s .pre .0 .known))
+          (few-items (s .pre .0 .known)) (l .loop .at) (l .loop .i) (l .loop .c) (l .loop .inv .0 (s .pre .0 .known))
           (getD (a .plan .now) 0 0 + getD (a .plan .now) 1 0) (levels-of _ _ (s .pre .0 .known)) (omega arith),
     )
 
@@ -161,7 +162,7 @@ found-again : tie.Need-found-again Inv-loop μ-loop Inv-found μ-found
 found-again c =
     let l = c .before .before .before .before .before in
     let a = c .before .before .before .before .before .before .before .before .before .before .args in
-    λ w. popped (hostOf (a .l) (a .nodes .now) (a .edges .now)) (w .rule) (few-levels _ _ w) (l .loop .at) (l .loop .i)
+    λ w. popped (hostOf (a .l) (a .nodes .now) (a .edges .now)) (w .rule) (few-items w) (l .loop .at) (l .loop .i)
     (l .loop .c) (l .loop .inv .0 w) (rw (c .before .enum-told2 .given .1) at (c .before .before .before .advance .ensures w))
     (omega arith)
 
@@ -202,7 +203,7 @@ returns-2 c =
     (record {
       room = l .loop .inv .0 (s .pre .0 .known) .room;
       arrays = c .before .assign .ensures .0;
-      right = λ w. found-first (hostOf (a .l) (a .nodes .now) (a .edges .now)) (w .rule) (few-levels _ _ w) (l .loop .at)
+      right = λ w. found-first (hostOf (a .l) (a .nodes .now) (a .edges .now)) (w .rule) (few-items w) (l .loop .at)
           (l .loop .i) (l .loop .c) (l .loop .inv .0 w) (stopped t w .0) (stopped t w .1);
       values = λ w e. c .before .assign .ensures .1 w;
     })

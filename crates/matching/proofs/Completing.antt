@@ -1,0 +1,32 @@
+-- A full placement: what its items and the plan's numbers are, and that nothing dangles where no node goes. Rests on agreeing's
+-- Trials and on the meaning's FirstMatch.
+use mathlib.Core.Path.{_≡_}
+use mathlib.Core.Bool.{false}
+use mathlib.Core.List.{List}
+use Prim.Native.Nat.{ℕ, _+_, _≤_}
+use native.Mathlib.Omega.{arith}
+use borrow.Author.Tests.{lt-leb}
+use lib.ListN.{length, getD}
+use Rattle.meaning.specs.Basics.{any}
+use Rattle.meaning.specs.Layout.{Host}
+use Rattle.meaning.specs.Image.{Rule}
+use Rattle.meaning.specs.Matching.{leftNodes}
+use Rattle.meaning.specs.FirstMatch.{touchesGone, dangles}
+use Rattle.meaning.specs.Laws.Tests.{both-no, any-no}
+use Rattle.agreeing.specs.Placed.{Known, Inside, Full}
+use Rattle.agreeing.specs.Trials.{few-items, full}
+use Rattle.fitting.specs.Fitting.{Numbers}
+use Rattle.matching.proofs.Plans.{nodes-of, edges-of}
+
+abbrev pub allPlaced : (h : Host) (bs plan at : List ℕ) (w : Known bs plan) → length at ≡ 12
+    → Inside h (getD plan 0 0) at (getD plan 0 0 + getD plan 1 0) → Full h bs plan at 12 0
+allPlaced h bs plan at w room inside = full h bs plan at w room 12 0 (few-items w) (rw (nodes-of _ _ w, edges-of _ _ w) at inside)
+
+abbrev pub numbers : {bs plan : List ℕ} (w : Known bs plan) → Numbers plan (w .rule)
+numbers w = record { nodes = nodes-of _ _ w; edges = edges-of _ _ w; interface = w .planned .laid .interface }
+
+-- where no node goes, no edge dangles
+pub none-dangles : (h : Host) (r : Rule) (p : List ℕ) (n : ℕ) → leftNodes r ≤ r .interface → any (dangles h r p) n ≡ false
+unfolding dangles touchesGone
+none-dangles h r p n k =
+    any-no (dangles h r p) n (λ x l. both-no _ _ (any-no (touchesGone h r p x) (leftNodes r) (λ j m. both-no _ _ (lt-leb (r .interface) j (omega arith)))))
