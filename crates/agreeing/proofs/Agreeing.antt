@@ -26,7 +26,7 @@ use Rattle.labels.specs.Laws.{held-length, held-part, same-step, same-end}
 use Rattle.parts.specs.Walks.{spells-label}
 use Rattle.labels.specs.declared.Label.{Label}
 use Rattle.parts.specs.declared.Counts.{Counts}
-use Rattle.plan.specs.Plan.{labelOf}
+use Rattle.plan.specs.Plan.{labelOf, constantAt, elementsAt, listsAt, nodesAt, sortAt}
 use Rattle.agreeing.specs.declared.Agrees.{Agrees}
 use Rattle.agreeing.specs.declared.Agrees.the-variants.{Upto, Differs}
 use Rattle.agreeing.specs.Placed.{Known, slots, labelAt, Tried}
@@ -126,10 +126,10 @@ module _ {h : Host} {bs plan at : List ℕ} {i c : ℕ} (w : Tried h bs plan at 
   last-slot : c ≡ getD (w .trial .placed) i 0
   last-slot = let n = w .last in sym (choose-eq i i c (getD at i 0) refl) ∙ w .trial .slot i (omega arith)
 
-  pub last-inside : c < slots h (getD plan 0 0) i
+  pub last-inside : c < slots h (getD plan nodesAt 0) i
   last-inside =
       let n = w .last in
-      let m : getD plan 0 0 ≡ leftNodes (w .trial .rule) = w .trial .planned .laid .items .nodes in
+      let m : getD plan nodesAt 0 ≡ leftNodes (w .trial .rule) = w .trial .planned .laid .items .nodes in
       rw (m, last-slot) (w .trial .inside i (omega arith))
 
   pub last-valued : Every (ElementValued (w .trial .rule) (w .trial .placed)) (getD (labels (w .trial .rule .left)) i [])
@@ -144,9 +144,9 @@ module _ {h : Host} {bs plan at : List ℕ} {i c : ℕ} (w : Tried h bs plan at 
         valued = last-valued;
       }
 
-  module _ {a : Label} (v : Holds (labelAt h (getD plan 0 0) i c) a) where
+  module _ {a : Label} (v : Holds (labelAt h (getD plan nodesAt 0) i c) a) where
     pub last-label : atomsIn a ≡ labelAt h (leftNodes (w .trial .rule)) i c
-    last-label = let m : getD plan 0 0 ≡ leftNodes (w .trial .rule) = w .trial .planned .laid .items .nodes in rw m at (v .atoms)
+    last-label = let m : getD plan nodesAt 0 ≡ leftNodes (w .trial .rule) = w .trial .planned .laid .items .nodes in rw m at (v .atoms)
 
 -- What the length of a label says, and its atom where it is to be one constant.
 
@@ -198,26 +198,26 @@ module _ (r : Rule) (l : List Element) (m : List ℕ) where
 -- A candidate, in a rule that the plan is of.
 
 module _ {h : Host} {bs plan : List ℕ} {i c : ℕ} (k : Candidate h bs plan i c) where
-  pub candidate-inside : c < slots h (getD plan 0 0) i
-  candidate-inside = let n : getD plan 0 0 ≡ leftNodes (k .rule) = k .planned .laid .items .nodes in rw n (k .inside)
+  pub candidate-inside : c < slots h (getD plan nodesAt 0) i
+  candidate-inside = let n : getD plan nodesAt 0 ≡ leftNodes (k .rule) = k .planned .laid .items .nodes in rw n (k .inside)
 
   module _ (w : Known bs plan) where
-    known-counted : (s : Counts) → s .elements ≡ getD plan (42 + i) 0 → s .lists ≡ getD plan (54 + i) 0 → Counted (w .rule) (labelOf (w .rule) i) s
+    known-counted : (s : Counts) → s .elements ≡ getD plan (elementsAt + i) 0 → s .lists ≡ getD plan (listsAt + i) 0 → Counted (w .rule) (labelOf (w .rule) i) s
     known-counted s e f = let t = w .planned .labelled i (item-there w k) in record { long = e ∙ t .elements; listed = f ∙ t .lists }
 
-    pub known-constant : getD plan (66 + i) 0 ≡ 2 → labelOf (w .rule) i ≡ Constant (getD plan (78 + i) 0) ∷ []
+    pub known-constant : getD plan (sortAt + i) 0 ≡ 2 → labelOf (w .rule) i ≡ Constant (getD plan (constantAt + i) 0) ∷ []
     known-constant = w .planned .labelled i (item-there w k) .constant
 
-    pub known-label : labelAt h (getD plan 0 0) i c ≡ labelAt h (leftNodes (w .rule)) i c
-    known-label = let n : getD plan 0 0 ≡ leftNodes (w .rule) = w .planned .laid .items .nodes in rw n
+    pub known-label : labelAt h (getD plan nodesAt 0) i c ≡ labelAt h (leftNodes (w .rule)) i c
+    known-label = let n : getD plan nodesAt 0 ≡ leftNodes (w .rule) = w .planned .laid .items .nodes in rw n
 
-    pub known-fits : (s : Counts) (n : ℕ) (g : Bool) → s .elements ≡ getD plan (42 + i) 0 → s .lists ≡ getD plan (54 + i) 0
-        → n ≡ length (labelAt h (getD plan 0 0) i c) → ((x : Rule) (l : List Element) (m : List ℕ) → Counted x l s → n ≡ length m → g ≡ lengthFits x l m)
+    pub known-fits : (s : Counts) (n : ℕ) (g : Bool) → s .elements ≡ getD plan (elementsAt + i) 0 → s .lists ≡ getD plan (listsAt + i) 0
+        → n ≡ length (labelAt h (getD plan nodesAt 0) i c) → ((x : Rule) (l : List Element) (m : List ℕ) → Counted x l s → n ≡ length m → g ≡ lengthFits x l m)
         → g ≡ lengthFits (w .rule) (labelOf (w .rule) i) (labelAt h (leftNodes (w .rule)) i c)
     known-fits s n g e f z t = t (w .rule) _ _ (known-counted s e f) (z ∙ ap length known-label)
 
   abbrev pub candidate-known : Known bs plan
   candidate-known = record { rule = k .rule; planned = k .planned }
 
-  pub candidate-simple : (s : Counts) → s .elements ≡ getD plan (42 + i) 0 → s .lists ≡ getD plan (54 + i) 0 → s .lists ≤ s .elements
+  pub candidate-simple : (s : Counts) → s .elements ≡ getD plan (elementsAt + i) 0 → s .lists ≡ getD plan (listsAt + i) 0 → s .lists ≤ s .elements
   candidate-simple s e f = counted-simple (k .planned .laid .holds) i s (known-counted candidate-known s e f)

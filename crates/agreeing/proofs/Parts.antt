@@ -24,7 +24,7 @@ use Rattle.meaning.specs.declared.Element.{Element}
 use Rattle.meaning.specs.declared.Element.the-variants.{Constant, Variable, Sum, Difference}
 use Rattle.parts.specs.Elements.{Counted}
 use Rattle.parts.specs.declared.Counts.{Counts}
-use Rattle.plan.specs.Plan.{Laid, singlesBefore, listsBefore, labelOf}
+use Rattle.plan.specs.Plan.{Laid, singlesBefore, listsBefore, labelOf, beforeAt, elementsAt, firstAt, listsAt, singlesAt}
 use Rattle.agreeing.specs.Agreeing.{OnLeft, Takes}
 
 -- The label of an item.
@@ -113,42 +113,42 @@ module _ {bs plan : List ℕ} {v : ℕ} (w : OnLeft bs plan v) where
   abbrev pattern : List Element
   pattern = labelOf (w .rule) item
 
-  pub item-is : getD plan (28 + v) 0 ≡ item
+  pub item-is : getD plan (firstAt + v) 0 ≡ item
   item-is = w .planned .first v (w .there) .item
 
   item-has : has v pattern ≡ true
   item-has = has-first v (labels (w .rule .left)) (omega (arith, w .placed, labels-length (w .rule)))
 
-  pub item-low : getD plan (28 + v) 0 < 12
+  pub item-low : getD plan (firstAt + v) 0 < 12
   item-low = let i = w .planned .laid .items in omega (arith, item-is, w .placed, i .fewNodes, i .fewEdges)
 
-  pub item-counted : (s : Counts) → s .elements ≡ getD plan (42 + getD plan (28 + v) 0) 0 → s .lists ≡ getD plan (54 + getD plan (28 + v) 0) 0 → Counted (w .rule) pattern s
+  pub item-counted : (s : Counts) → s .elements ≡ getD plan (elementsAt + getD plan (firstAt + v) 0) 0 → s .lists ≡ getD plan (listsAt + getD plan (firstAt + v) 0) 0 → Counted (w .rule) pattern s
   item-counted s e f =
       let c = w .planned .labelled item (w .placed) in
       record { long = e ∙ rw item-is (c .elements); listed = f ∙ rw item-is (c .lists) }
 
-  pub item-simple : (s : Counts) → s .elements ≡ getD plan (42 + getD plan (28 + v) 0) 0 → s .lists ≡ getD plan (54 + getD plan (28 + v) 0) 0 → s .lists ≤ s .elements
+  pub item-simple : (s : Counts) → s .elements ≡ getD plan (elementsAt + getD plan (firstAt + v) 0) 0 → s .lists ≡ getD plan (listsAt + getD plan (firstAt + v) 0) 0 → s .lists ≤ s .elements
   item-simple s e f = counted-simple (w .planned .laid .holds) item s (item-counted s e f)
 
-  singles-is : getD plan (90 + v) 0 ≡ singlesBefore (w .rule) v pattern
+  singles-is : getD plan (singlesAt + v) 0 ≡ singlesBefore (w .rule) v pattern
   singles-is = let f = w .planned .first v (w .there) in rw item-is at (f .singles (rw item-is (w .placed)))
 
-  lists-is : getD plan (96 + v) 0 ≡ listsBefore (w .rule) v pattern
+  lists-is : getD plan (beforeAt + v) 0 ≡ listsBefore (w .rule) v pattern
   lists-is = let f = w .planned .first v (w .there) in rw item-is at (f .lists (rw item-is (w .placed)))
 
   -- few elements are before it, so that the place can be counted
-  before-few : getD plan (90 + v) 0 + getD plan (96 + v) 0 ≤ 4
+  before-few : getD plan (singlesAt + v) 0 + getD plan (beforeAt + v) 0 ≤ 4
   before-few =
       let s = singles-is in
       let q = lists-is in
       omega (arith, before-within (w .rule) v pattern, label-short (w .planned .laid) item (w .placed))
 
-  pub place-low : (n : ℕ) → n ≤ 8 → getD plan (90 + v) 0 + getD plan (96 + v) 0 * n ≤ 36
-  place-low n h = let k : getD plan (96 + v) 0 ≤ 4 = omega (arith, before-few) in omega (arith, before-few, mul-le-mul k h)
+  pub place-low : (n : ℕ) → n ≤ 8 → getD plan (singlesAt + v) 0 + getD plan (beforeAt + v) 0 * n ≤ 36
+  place-low n h = let k : getD plan (beforeAt + v) 0 ≤ 4 = omega (arith, before-few) in omega (arith, before-few, mul-le-mul k h)
 
   -- where a list takes n atoms of a label of so many, it takes k of them from a place on
   module _ (len n k from : ℕ) (n-is : n ≡ spare (w .rule) pattern len) (k-is : k ≡ share (w .rule) n (Variable v))
-      (from-is : from ≡ getD plan (90 + v) 0 + getD plan (96 + v) 0 * n) where
+      (from-is : from ≡ getD plan (singlesAt + v) 0 + getD plan (beforeAt + v) 0 * n) where
     pub takes-all : Takes (w .rule) v len from k
     unfolding orElse
     takes-all m e = rw (taken-at (w .rule) v (spare (w .rule) pattern len) pattern m item-has, from-is, k-is, singles-is, lists-is, n-is)

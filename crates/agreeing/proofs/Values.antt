@@ -24,6 +24,7 @@ use Rattle.agreeing.specs.Placed.{slots, slotOf, labelAt}
 use Rattle.agreeing.specs.Agreeing.{ElementValued, HasValue, OnLeft, Takes}
 use Rattle.agreeing.specs.Assigned.{assigned-first}
 use Rattle.agreeing.proofs.Parts.{item-is}
+use Rattle.plan.specs.Plan.{firstAt, nodesAt}
 
 -- A trial's variable: the slot of its first item, and its value where that item's label has it.
 
@@ -37,25 +38,25 @@ module _ {h : Host} {bs plan at : List ℕ} {i c v : ℕ} (w : HasValue h bs pla
         placed = omega (arith, w .valued .1, w .trial .few);
       }
 
-  first-placed : getD plan (28 + v) 0 < length (w .trial .placed)
+  first-placed : getD plan (firstAt + v) 0 < length (w .trial .placed)
   first-placed = omega (arith, item-is on-left, w .valued .1)
 
-  module _ (x : ℕ) (s : x ≡ slotOf at i c (getD plan (28 + v) 0)) where
-    first-slot : x ≡ getD (w .trial .placed) (getD plan (28 + v) 0) 0
-    first-slot = s ∙ w .trial .slot (getD plan (28 + v) 0) first-placed
+  module _ (x : ℕ) (s : x ≡ slotOf at i c (getD plan (firstAt + v) 0)) where
+    first-slot : x ≡ getD (w .trial .placed) (getD plan (firstAt + v) 0) 0
+    first-slot = s ∙ w .trial .slot (getD plan (firstAt + v) 0) first-placed
 
     -- it is inside its table
-    pub first-inside : x < slots h (getD plan 0 0) (getD plan (28 + v) 0)
+    pub first-inside : x < slots h (getD plan nodesAt 0) (getD plan (firstAt + v) 0)
     first-inside =
-        let n : getD plan 0 0 ≡ leftNodes (w .trial .rule) = w .trial .planned .laid .items .nodes in
-        rw (n, first-slot) (w .trial .inside (getD plan (28 + v) 0) first-placed)
+        let n : getD plan nodesAt 0 ≡ leftNodes (w .trial .rule) = w .trial .planned .laid .items .nodes in
+        rw (n, first-slot) (w .trial .inside (getD plan (firstAt + v) 0) first-placed)
 
     -- and what the variable takes of its label is its value
-    module _ (m : List ℕ) (len from n : ℕ) (g : m ≡ labelAt h (getD plan 0 0) (getD plan (28 + v) 0) x) (e : length m ≡ len) (t : Takes (w .trial .rule) v len from n) where
+    module _ (m : List ℕ) (len from n : ℕ) (g : m ≡ labelAt h (getD plan nodesAt 0) (getD plan (firstAt + v) 0) x) (e : length m ≡ len) (t : Takes (w .trial .rule) v len from n) where
       pub part-value : take n (drop from m) ≡ assigned h (w .trial .rule) (w .trial .placed) v
       part-value =
           let f = item-is on-left in
-          let k : getD plan 0 0 ≡ leftNodes (w .trial .rule) = w .trial .planned .laid .items .nodes in
+          let k : getD plan nodesAt 0 ≡ leftNodes (w .trial .rule) = w .trial .planned .laid .items .nodes in
           let q = assigned-first h (w .trial .rule) (w .trial .placed) v (w .trial .few) (w .valued .1) in
           let d : m ≡ labelAt h (leftNodes (w .trial .rule)) (firstWith v (labels (w .trial .rule .left))) (getD (w .trial .placed) (firstWith v (labels (w .trial .rule .left))) 0) =
           g ∙ rw (first-slot, k, f)

@@ -12,6 +12,7 @@ use Rattle.meaning.specs.Matching.{leftNodes, total}
 use Rattle.meaning.specs.Laws.Tests.{choose-eq, choose-ne}
 use Rattle.agreeing.specs.Placed.{Known, Inside, slots, slotOf, Tried, Full}
 use Rattle.agreeing.specs.Candidates.{Candidate}
+use Rattle.plan.specs.Plan.{nodesAt}
 
 -- The slots so far, with one more.
 
@@ -115,7 +116,7 @@ module _ (h : Host) (bs plan at : List ℕ) (w : Known bs plan) (room : length a
       }
 
   -- a candidate is tried
-  abbrev pub triedItem : (i c : ℕ) → Inside h (getD plan 0 0) at i → Candidate h bs plan i c → Tried h bs plan at i c
+  abbrev pub triedItem : (i c : ℕ) → Inside h (getD plan nodesAt 0) at i → Candidate h bs plan i c → Tried h bs plan at i c
   triedItem i c f k =
-      let n : getD plan 0 0 ≡ leftNodes (w .rule) = w .planned .laid .items .nodes in
+      let n : getD plan nodesAt 0 ≡ leftNodes (w .rule) = w .planned .laid .items .nodes in
       tried i c (item-there w k) (rw n at f) (item-inside w k)

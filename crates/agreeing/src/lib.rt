@@ -9,7 +9,7 @@ ghost use Rattle.meaning.specs.Matching.{leftNodes, atomsOf, instance};
 ghost use Rattle.meaning.specs.Assigned.{assigned};
 ghost use Rattle.labels.specs.Labels.{atomsIn, Held, Holds};
 ghost use Rattle.graph.specs.Graph.{Legal};
-ghost use Rattle.plan.specs.Plan.{labelOf};
+ghost use Rattle.plan.specs.Plan.{labelOf, nodesAt, sortAt};
 ghost use Rattle.agreeing.specs.Placed.{Known, slots, labelAt, slotOf, Tried};
 ghost use Rattle.agreeing.specs.Agreeing.{HasValue, HasElement, HasElements, OnLeft, Takes, AgreesFrom};
 ghost use Rattle.agreeing.specs.Candidates.{Candidate, Guessed};
@@ -17,6 +17,7 @@ use labels::Label;
 use meaning::Element;
 use meaning::Layout;
 use parts::Front;
+use plan::At;
 
 // The label of an item.
 
@@ -36,15 +37,15 @@ fn item_label(
     l: Layout,
     nodes: &[u8],
     edges: &[u8],
-    plan: &[usize; 102],
+    plan: &[usize; At::LENGTH],
     j: usize,
     x: usize,
 ) -> Label
     requires { ⌜ Legal l (now nodes) (now edges) ⌝ }
-    requires { ⌜ (0 < length (now plan)) × (x < slots (hostOf l (now nodes) (now edges)) (getD (now plan) 0 0) j) ⌝ }
-    ensures { λ r. ⌜ Holds (labelAt (hostOf l (now (nodes .entry)) (now (edges .entry))) (getD (now (plan .entry)) 0 0) j x) r ⌝ }
+    requires { ⌜ (0 < length (now plan)) × (x < slots (hostOf l (now nodes) (now edges)) (getD (now plan) nodesAt 0) j) ⌝ }
+    ensures { λ r. ⌜ Holds (labelAt (hostOf l (now (nodes .entry)) (now (edges .entry))) (getD (now (plan .entry)) nodesAt 0) j x) r ⌝ }
 {
-    if j < plan[0] {
+    if j < plan[At::NODES] {
         return graph::node_label(l, nodes, edges, x);
     }
     graph::edge_label(l, nodes, edges, x)
@@ -55,15 +56,15 @@ fn item_length(
     l: Layout,
     nodes: &[u8],
     edges: &[u8],
-    plan: &[usize; 102],
+    plan: &[usize; At::LENGTH],
     j: usize,
     x: usize,
 ) -> usize
     requires { ⌜ Legal l (now nodes) (now edges) ⌝ }
-    requires { ⌜ (0 < length (now plan)) × (x < slots (hostOf l (now nodes) (now edges)) (getD (now plan) 0 0) j) ⌝ }
-    ensures { λ r. ⌜ (r ≡ length (labelAt (hostOf l (now (nodes .entry)) (now (edges .entry))) (getD (now (plan .entry)) 0 0) j x)) × (r ≤ 8) ⌝ }
+    requires { ⌜ (0 < length (now plan)) × (x < slots (hostOf l (now nodes) (now edges)) (getD (now plan) nodesAt 0) j) ⌝ }
+    ensures { λ r. ⌜ (r ≡ length (labelAt (hostOf l (now (nodes .entry)) (now (edges .entry))) (getD (now (plan .entry)) nodesAt 0) j x)) × (r ≤ 8) ⌝ }
 {
-    if j < plan[0] {
+    if j < plan[At::NODES] {
         return graph::node_length(l, nodes, edges, x);
     }
     graph::edge_length(l, nodes, edges, x)
@@ -74,17 +75,17 @@ fn item_atom(
     l: Layout,
     nodes: &[u8],
     edges: &[u8],
-    plan: &[usize; 102],
+    plan: &[usize; At::LENGTH],
     j: usize,
     x: usize,
     k: usize,
 ) -> u32
     requires { ⌜ Legal l (now nodes) (now edges) ⌝ }
-    requires { ⌜ (0 < length (now plan)) × (x < slots (hostOf l (now nodes) (now edges)) (getD (now plan) 0 0) j) ⌝ }
-    requires { ⌜ k < length (labelAt (hostOf l (now nodes) (now edges)) (getD (now plan) 0 0) j x) ⌝ }
-    ensures { λ r. ⌜ r ≡ getD (labelAt (hostOf l (now (nodes .entry)) (now (edges .entry))) (getD (now (plan .entry)) 0 0) j x) k 0 ⌝ }
+    requires { ⌜ (0 < length (now plan)) × (x < slots (hostOf l (now nodes) (now edges)) (getD (now plan) nodesAt 0) j) ⌝ }
+    requires { ⌜ k < length (labelAt (hostOf l (now nodes) (now edges)) (getD (now plan) nodesAt 0) j x) ⌝ }
+    ensures { λ r. ⌜ r ≡ getD (labelAt (hostOf l (now (nodes .entry)) (now (edges .entry))) (getD (now (plan .entry)) nodesAt 0) j x) k 0 ⌝ }
 {
-    if j < plan[0] {
+    if j < plan[At::NODES] {
         return graph::node_atom(l, nodes, edges, x, k);
     }
     graph::edge_atom(l, nodes, edges, x, k)
@@ -99,14 +100,14 @@ pub struct Part {
 }
 
 // The atoms that variable v takes of a label of len atoms, at the first item that has it.
-fn part_of(rule: &[u8], plan: &[usize; 102], v: usize, len: usize) -> Part
+fn part_of(rule: &[u8], plan: &[usize; At::LENGTH], v: usize, len: usize) -> Part
     requires { ⌜ OnLeft (now rule) (now plan) v ⌝ }
     requires { ⌜ len ≤ 8 ⌝ }
     ensures { λ t. ⌜ (t .from + t .n ≤ len) × ((w : OnLeft (now (rule .entry)) (now (plan .entry)) v) → Takes (w .rule) v len (t .from) (t .n)) ⌝ }
 {
-    let n = parts::elements::spare(plan::counts(plan, plan[28 + v]), len);
+    let n = parts::elements::spare(plan::counts(plan, plan[At::FIRST + v]), len);
     let k = parts::elements::share(plan::types(rule, plan), Element::Variable(v), n);
-    let from = plan[90 + v] + plan[96 + v] * n;
+    let from = plan[At::SINGLES + v] + plan[At::BEFORE + v] * n;
     if len <= from {
         return Part { from: 0, n: 0 };
     }
@@ -117,13 +118,13 @@ fn part_of(rule: &[u8], plan: &[usize; 102], v: usize, len: usize) -> Part
     Part { from, n: k }
 }
 
-// The value of variable v, which item plan[28 + v] is the first to have.
+// The value of variable v, which item plan[At::FIRST + v] is the first to have.
 pub fn value(
     l: Layout,
     nodes: &[u8],
     edges: &[u8],
     rule: &[u8],
-    plan: &[usize; 102],
+    plan: &[usize; At::LENGTH],
     at: &[usize; 12],
     i: usize,
     c: usize,
@@ -133,7 +134,7 @@ pub fn value(
     requires { ⌜ HasValue (hostOf l (now nodes) (now edges)) (now rule) (now plan) (now at) i c v ⌝ }
     ensures { λ r. ⌜ ((w : HasValue (hostOf l (now (nodes .entry)) (now (edges .entry))) (now (rule .entry)) (now (plan .entry)) (now (at .entry)) i c v) → Holds (assigned (hostOf l (now (nodes .entry)) (now (edges .entry))) (w .trial .rule) (w .trial .placed) v) r) ⌝ }
 {
-    let j = plan[28 + v];
+    let j = plan[At::FIRST + v];
     let a = item_label(l, nodes, edges, plan, j, slot_of(at, i, c, j));
     let t = part_of(rule, plan, v, a.len);
     labels::cut(a, t.from, t.n)
@@ -145,7 +146,7 @@ pub fn variable_atom(
     nodes: &[u8],
     edges: &[u8],
     rule: &[u8],
-    plan: &[usize; 102],
+    plan: &[usize; At::LENGTH],
     at: &[usize; 12],
     i: usize,
     c: usize,
@@ -155,7 +156,7 @@ pub fn variable_atom(
     requires { ⌜ HasValue (hostOf l (now nodes) (now edges)) (now rule) (now plan) (now at) i c v ⌝ }
     ensures { λ r. ⌜ ((w : HasValue (hostOf l (now (nodes .entry)) (now (edges .entry))) (now (rule .entry)) (now (plan .entry)) (now (at .entry)) i c v) → r ≡ getD (assigned (hostOf l (now (nodes .entry)) (now (edges .entry))) (w .trial .rule) (w .trial .placed) v) 0 0) ⌝ }
 {
-    let j = plan[28 + v];
+    let j = plan[At::FIRST + v];
     let x = slot_of(at, i, c, j);
     let t = part_of(rule, plan, v, item_length(l, nodes, edges, plan, j, x));
     if t.n == 0 {
@@ -178,7 +179,7 @@ fn variable_agrees(
     nodes: &[u8],
     edges: &[u8],
     rule: &[u8],
-    plan: &[usize; 102],
+    plan: &[usize; At::LENGTH],
     at: &[usize; 12],
     i: usize,
     c: usize,
@@ -191,7 +192,7 @@ fn variable_agrees(
     requires { ⌜ Held a × (from ≤ a .len) ⌝ }
     ensures { λ r. ⌜ ((w : HasValue (hostOf l (now (nodes .entry)) (now (edges .entry))) (now (rule .entry)) (now (plan .entry)) (now (at .entry)) i c v) → AgreesFrom (atomsIn a) from (assigned (hostOf l (now (nodes .entry)) (now (edges .entry))) (w .trial .rule) (w .trial .placed) v) r) ⌝ }
 {
-    let j = plan[28 + v];
+    let j = plan[At::FIRST + v];
     let b = item_label(l, nodes, edges, plan, j, slot_of(at, i, c, j));
     let t = part_of(rule, plan, v, b.len);
     if labels::has_part(a, from, b, t.from, t.n) {
@@ -206,7 +207,7 @@ fn element_agrees(
     nodes: &[u8],
     edges: &[u8],
     rule: &[u8],
-    plan: &[usize; 102],
+    plan: &[usize; At::LENGTH],
     at: &[usize; 12],
     i: usize,
     c: usize,
@@ -238,7 +239,7 @@ fn elements_agree(
     nodes: &[u8],
     edges: &[u8],
     rule: &[u8],
-    plan: &[usize; 102],
+    plan: &[usize; At::LENGTH],
     at: &[usize; 12],
     i: usize,
     c: usize,
@@ -280,19 +281,19 @@ pub fn label_likely(
     nodes: &[u8],
     edges: &[u8],
     rule: &[u8],
-    plan: &[usize; 102],
+    plan: &[usize; At::LENGTH],
     i: usize,
     c: usize,
 ) -> bool
     requires { ⌜ Legal l (now nodes) (now edges) ⌝ }
     requires { ⌜ Candidate (hostOf l (now nodes) (now edges)) (now rule) (now plan) i c ⌝ }
-    ensures { λ b. ⌜ ((w : Known (now (rule .entry)) (now (plan .entry))) → Guessed (w .rule) (getD (now (plan .entry)) (66 + i) 0) (labelOf (w .rule) i) (labelAt (hostOf l (now (nodes .entry)) (now (edges .entry))) (leftNodes (w .rule)) i c) b) ⌝ }
+    ensures { λ b. ⌜ ((w : Known (now (rule .entry)) (now (plan .entry))) → Guessed (w .rule) (getD (now (plan .entry)) (sortAt + i) 0) (labelOf (w .rule) i) (labelAt (hostOf l (now (nodes .entry)) (now (edges .entry))) (leftNodes (w .rule)) i c) b) ⌝ }
 {
     let n = item_length(l, nodes, edges, plan, i, c);
     if parts::elements::length_fits(plan::counts(plan, i), n) {
-        if plan[66 + i] == 2 {
+        if plan[At::SORT + i] == 2 {
             let x = item_atom(l, nodes, edges, plan, i, c, 0);
-            return x as usize == plan[78 + i];
+            return x as usize == plan[At::CONSTANT + i];
         }
         return true;
     }
@@ -305,7 +306,7 @@ pub fn compared(
     nodes: &[u8],
     edges: &[u8],
     rule: &[u8],
-    plan: &[usize; 102],
+    plan: &[usize; At::LENGTH],
     at: &[usize; 12],
     i: usize,
     c: usize,

@@ -6,6 +6,7 @@ ghost use Rattle.values.specs.Values.{Stored};
 ghost use Rattle.ledger.specs.Running.{Running};
 ghost use Rattle.calling.specs.Called.{Listed, Called};
 ghost use Rattle.calling.specs.Choosing.{IsChoice, ranAfter};
+ghost use Rattle.plan.specs.Plan.{planLength};
 use applying::After;
 use ledger::Applied;
 use matching::Matched;
@@ -14,6 +15,7 @@ use meaning::End;
 use meaning::Layout;
 use meaning::Ran;
 use meaning::Tally;
+use plan::At;
 
 // A rule's number and its first match. The number means something where there is one.
 pub struct Choice {
@@ -29,13 +31,13 @@ pub fn first_rule(
     numbers: &[u8],
     nodes: &[u8],
     edges: &[u8],
-    plan: &mut [usize; 102],
+    plan: &mut [usize; At::LENGTH],
     lens: &mut [usize; 6],
     atoms: &mut [u32; 48],
 ) -> Choice
     requires { ⌜ Legal l (now nodes) (now edges) ⌝ }
     requires { ⌜ Listed (now image) (now numbers) ⌝ }
-    requires { ⌜ (length (now plan) ≡ 102) × Stored (now lens) (now atoms) ⌝ }
+    requires { ⌜ (length (now plan) ≡ planLength) × Stored (now lens) (now atoms) ⌝ }
     ensures { λ c. ⌜ IsChoice l (now (image .entry)) (now (numbers .entry)) (now (nodes .entry)) (now (edges .entry)) c (now (lens .exit)) (now (atoms .exit)) ⌝ }
 {
     let mut i: usize = 0;
@@ -88,7 +90,7 @@ pub fn call(
     requires { ⌜ Listed (now image) (now numbers) ⌝ }
     ensures { λ r. ⌜ Called l (now (image .entry)) (now (numbers .entry)) (now (nodes .entry)) (now (edges .entry)) (now (journal .entry)) t r (now (nodes .exit)) (now (edges .exit)) (now (journal .exit)) ⌝ }
 {
-    let mut plan = [0usize; 102];
+    let mut plan = [0usize; At::LENGTH];
     let mut lens = [0usize; 6];
     let mut atoms = [0u32; 48];
     let c = first_rule(

@@ -16,7 +16,7 @@ use Rattle.meaning.specs.Assigned.{assigned}
 use Rattle.meaning.specs.Laws.Tests.{choose-lt, choose-le}
 use Rattle.meaning.specs.Laws.Loops.{clauses-fail, first-of, of-first, of-second}
 use Rattle.meaning.specs.Laws.Assignment.{label-node, label-edge}
-use Rattle.plan.specs.Plan.{labelOf}
+use Rattle.plan.specs.Plan.{labelOf, edgesAt, nodesAt}
 use Rattle.agreeing.specs.Placed.{Known, labelAt}
 use Rattle.agreeing.specs.Candidates.{Candidate, Guessed, Likely}
 use Rattle.fitting.specs.Fitting.{joinsAt, NodeLike}
@@ -24,11 +24,11 @@ use Rattle.fitting.specs.Fitting.{joinsAt, NodeLike}
 -- Items and slots for them.
 
 -- a node by the plan is a left node
-pub left-node : {bs plan : List ℕ} {i : ℕ} (w : Known bs plan) → i < getD plan 0 0 → i < leftNodes (w .rule)
+pub left-node : {bs plan : List ℕ} {i : ℕ} (w : Known bs plan) → i < getD plan nodesAt 0 → i < leftNodes (w .rule)
 left-node w k = omega (arith, w .planned .laid .items .nodes)
 
 module _ {h : Host} {bs plan : List ℕ} (w : Known bs plan) (i c : ℕ) where
-  abbrev pub nodeCandidate : i < getD plan 0 0 → c < length (h .nodes) → Candidate h bs plan i c
+  abbrev pub nodeCandidate : i < getD plan nodesAt 0 → c < length (h .nodes) → Candidate h bs plan i c
   nodeCandidate k s =
       let n = left-node w k in
       record {
@@ -38,7 +38,7 @@ module _ {h : Host} {bs plan : List ℕ} (w : Known bs plan) (i c : ℕ) where
         inside = of-first (λ m. c < m) i (leftNodes (w .rule)) (length (h .nodes)) (length (h .edges)) n s;
       }
 
-  abbrev pub edgeCandidate : getD plan 0 0 ≤ i → i < getD plan 0 0 + getD plan 1 0 → c < length (h .edges) → Candidate h bs plan i c
+  abbrev pub edgeCandidate : getD plan nodesAt 0 ≤ i → i < getD plan nodesAt 0 + getD plan edgesAt 0 → c < length (h .edges) → Candidate h bs plan i c
   edgeCandidate j k s =
       let n : leftNodes (w .rule) ≤ i = omega (arith, w .planned .laid .items .nodes) in
       record {
@@ -55,15 +55,15 @@ marks-are a b m n g p q e = sym (rw (p, q) at e)
 
 module _ {bs plan : List ℕ} (w : Known bs plan) where
   pub joins-are : (h : Host) (p : List ℕ) (i s t c : ℕ) (g : Bool) → s ≡ nodeSlot p (leftEdge (w .rule) (i - leftNodes (w .rule)) .source)
-      → t ≡ nodeSlot p (leftEdge (w .rule) (i - leftNodes (w .rule)) .target) → g ≡ joinsAt h (w .rule) (i - getD plan 0 0) s t c
+      → t ≡ nodeSlot p (leftEdge (w .rule) (i - leftNodes (w .rule)) .target) → g ≡ joinsAt h (w .rule) (i - getD plan nodesAt 0) s t c
       → joins h (w .rule) p (i - leftNodes (w .rule)) c ≡ g
   unfolding joins
   joins-are h p i s t c g e f q =
-      let n : getD plan 0 0 ≡ leftNodes (w .rule) = w .planned .laid .items .nodes in
+      let n : getD plan nodesAt 0 ≡ leftNodes (w .rule) = w .planned .laid .items .nodes in
       sym (rw (n, e, f) at q)
 
-  pub absent-is : (l : List ℕ) (c : ℕ) (g : Bool) → g ≡ absent c (drop (getD plan 0 0) l) → absent c (drop (leftNodes (w .rule)) l) ≡ g
-  absent-is l c g q = let n : getD plan 0 0 ≡ leftNodes (w .rule) = w .planned .laid .items .nodes in sym (rw n at q)
+  pub absent-is : (l : List ℕ) (c : ℕ) (g : Bool) → g ≡ absent c (drop (getD plan nodesAt 0) l) → absent c (drop (leftNodes (w .rule)) l) ≡ g
+  absent-is l c g q = let n : getD plan nodesAt 0 ≡ leftNodes (w .rule) = w .planned .laid .items .nodes in sym (rw n at q)
 
 never : {A : Type 0} → false ≡ true → A
 never e = let z : _≡_ {A = ℕ} 0 1 = cc in absurd (omega arith)

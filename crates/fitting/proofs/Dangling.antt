@@ -16,6 +16,7 @@ use Rattle.meaning.specs.Matching.{edgeAt, leftNodes, total, nodeSlot, touches}
 use Rattle.meaning.specs.FirstMatch.{touchesGone, dangles}
 use Rattle.meaning.specs.Laws.Tests.{both-yes, both-no, both-of, either-left, either-right, any-of, any-no}
 use Rattle.fitting.specs.Fitting.{goneAt, Numbers}
+use Rattle.plan.specs.Plan.{edgesAt, interfaceAt, nodesAt}
 
 -- The slots of nodes that go, one at a time.
 
@@ -61,12 +62,12 @@ module _ (h : Host) (r : Rule) (plan at : List ℕ) (x : ℕ) (e : Numbers plan 
 
   -- where the edge is live, it touches a node that goes where one of its ends does
   touched : liveAt (h .edges) x ≡ true → (s t : ℕ) → s ≡ edgeAt h x .source → t ≡ edgeAt h x .target
-      → any (touchesGone h r whole x) (leftNodes r) ≡ any (goneAt (getD plan 2 0) at s t) (getD plan 0 0)
+      → any (touchesGone h r whole x) (leftNodes r) ≡ any (goneAt (getD plan interfaceAt 0) at s t) (getD plan nodesAt 0)
   unfolding touchesGone touches
   touched l s t p q =
-      any-same (touchesGone h r whole x) (goneAt (getD plan 2 0) at s t) (leftNodes r) (λ j k.
+      any-same (touchesGone h r whole x) (goneAt (getD plan interfaceAt 0) at s t) (leftNodes r) (λ j k.
       rw (both-yes (liveAt (h .edges) x) (either (eqb (edgeAt h x .source) (nodeSlot whole j)) (eqb (edgeAt h x .target) (nodeSlot whole j))) l, getD-take (total r) at j 0 (omega arith), p, q, e .interface))
-      ∙ ap (any (goneAt (getD plan 2 0) at s t)) (sym (e .nodes))
+      ∙ ap (any (goneAt (getD plan interfaceAt 0) at s t)) (sym (e .nodes))
 
   module _ (l : Bool) (i : l ≡ liveAt (h .edges) x) where
     pub dangles-free : l ≡ false → false ≡ dangles h r whole x
@@ -77,11 +78,11 @@ module _ (h : Host) (r : Rule) (plan at : List ℕ) (x : ℕ) (e : Numbers plan 
         go true j = rw (sym i ∙ d)
         go false j = refl
 
-    module _ (d : l ≡ true) (s t : ℕ) (p : s ≡ edgeAt h x .source) (q : t ≡ edgeAt h x .target) (g : Bool) (f : g ≡ any (goneAt (getD plan 2 0) at s t) (getD plan 0 0)) where
+    module _ (d : l ≡ true) (s t : ℕ) (p : s ≡ edgeAt h x .source) (q : t ≡ edgeAt h x .target) (g : Bool) (f : g ≡ any (goneAt (getD plan interfaceAt 0) at s t) (getD plan nodesAt 0)) where
       pub dangles-far : g ≡ false → false ≡ dangles h r whole x
       unfolding dangles
       dangles-far z = sym (both-no _ _ (touched (sym i ∙ d) s t p q ∙ sym f ∙ z))
 
-      pub dangles-near : g ≡ true → (b : Bool) → b ≡ absent x (drop (getD plan 0 0) (take (getD plan 0 0 + getD plan 1 0) at)) → b ≡ dangles h r whole x
+      pub dangles-near : g ≡ true → (b : Bool) → b ≡ absent x (drop (getD plan nodesAt 0) (take (getD plan nodesAt 0 + getD plan edgesAt 0) at)) → b ≡ dangles h r whole x
       unfolding dangles
       dangles-near z b y = y ∙ rw (e .nodes, e .edges) (sym (both-yes _ _ (touched (sym i ∙ d) s t p q ∙ sym f ∙ z)))

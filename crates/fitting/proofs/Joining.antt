@@ -11,7 +11,7 @@ use Rattle.meaning.specs.Image.{Rule}
 use Rattle.meaning.specs.Matching.{edgeAt, leftEdge, nodeSlot, runs}
 use Rattle.meaning.specs.FirstMatch.{marksAgree, joins, linked}
 use Rattle.meaning.specs.Laws.Tests.{both-yes, both-no, choose-eq, choose-ne}
-use Rattle.plan.specs.Plan.{Laid, HasItem, HasEdge, Marked}
+use Rattle.plan.specs.Plan.{Laid, HasItem, HasEdge, Marked, nodesAt}
 use Rattle.fitting.specs.Fitting.{joinsAt}
 use Rattle.agreeing.specs.Placed.{slotOf, Tried}
 
@@ -23,10 +23,10 @@ module _ (h : Host) (r : Rule) (k s t x : ℕ) (a : Bool) (e : a ≡ runs h s t 
   not-joined y = sym (both-no _ _ (sym e ∙ y))
 
 -- a left edge is an item, and its mark is the item's
-pub edge-item : {bs plan : List ℕ} {k : ℕ} → HasEdge bs plan k → HasItem bs plan (getD plan 0 0 + k)
+pub edge-item : {bs plan : List ℕ} {k : ℕ} → HasEdge bs plan k → HasItem bs plan (getD plan nodesAt 0 + k)
 edge-item w = record { tree = w .tree; laid = w .laid; there = omega (arith, w .laid .items .nodes, w .there) }
 
-pub edge-mark : {bs plan : List ℕ} {k m : ℕ} (w : HasEdge bs plan k) {r : Rule} (q : Laid bs r plan) → Marked r (getD plan 0 0 + k) m → m ≡ leftEdge r k .mark
+pub edge-mark : {bs plan : List ℕ} {k m : ℕ} (w : HasEdge bs plan k) {r : Rule} (q : Laid bs r plan) → Marked r (getD plan nodesAt 0 + k) m → m ≡ leftEdge r k .mark
 edge-mark {k = k} w q e =
     let n = q .items .nodes in
     e .edge k (omega (arith, q .items .edges, w .laid .items .edges, w .there)) (omega arith)

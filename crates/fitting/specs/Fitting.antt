@@ -11,7 +11,7 @@ use Rattle.meaning.specs.Layout.{Host, liveAt}
 use Rattle.meaning.specs.Image.{Rule}
 use Rattle.meaning.specs.Matching.{nodeAt, edgeAt, leftNodes, leftEdges, leftNode, leftEdge, rootsAgree, runs}
 use Rattle.meaning.specs.FirstMatch.{marksAgree, nodeFits}
-use Rattle.plan.specs.Plan.{labelOf}
+use Rattle.plan.specs.Plan.{labelOf, edgesAt, interfaceAt, nodesAt, planLength}
 use Rattle.agreeing.specs.Placed.{Trial}
 use Rattle.agreeing.specs.Candidates.{Guessed}
 
@@ -25,15 +25,15 @@ pub record TriedEdge (h : Host) (bs plan at : List ℕ) (i c k : ℕ) : Type 0 w
 
 -- the plan's numbers are the rule's
 pub record Numbers (plan : List ℕ) (r : Rule) : Type 0 where
-  pub nodes : getD plan 0 0 ≡ leftNodes r
-  pub edges : getD plan 1 0 ≡ leftEdges r
-  pub interface : getD plan 2 0 ≡ r .interface
+  pub nodes : getD plan nodesAt 0 ≡ leftNodes r
+  pub edges : getD plan edgesAt 0 ≡ leftEdges r
+  pub interface : getD plan interfaceAt 0 ≡ r .interface
 
 -- there is room for a plan's numbers and for the slots of all its items
 pub record Room (plan at : List ℕ) : Type 0 where
-  pub numbers : length plan ≡ 102
+  pub numbers : length plan ≡ planLength
   pub slots : length at ≡ 12
-  pub items : getD plan 0 0 + getD plan 1 0 ≤ 12
+  pub items : getD plan nodesAt 0 + getD plan edgesAt 0 ≤ 12
 
 -- Edges.
 

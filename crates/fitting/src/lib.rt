@@ -10,12 +10,13 @@ ghost use Rattle.meaning.specs.Image.{Rule};
 ghost use Rattle.meaning.specs.Matching.{leftNodes, leftEdges, leftNode, leftEdge, nodeSlot, total};
 ghost use Rattle.meaning.specs.FirstMatch.{marksAgree, linked as isLinked, leftTouches, canGo, dangles as isDangling};
 ghost use Rattle.graph.specs.Graph.{Legal};
-ghost use Rattle.plan.specs.Plan.{For, IsLaid, HasEdge};
+ghost use Rattle.plan.specs.Plan.{For, IsLaid, HasEdge, edgesAt, interfaceAt, nodesAt, sortAt};
 ghost use Rattle.agreeing.specs.Placed.{Known, Inside, Tried};
 ghost use Rattle.agreeing.specs.Candidates.{Likely};
 ghost use Rattle.fitting.specs.Fitting.{TriedEdge, Numbers, Room, joinsAt, goneAt, NodeLike, NextLike};
 use agreeing::slot_of;
 use meaning::Layout;
+use plan::At;
 
 // Marks, slots and edges.
 
@@ -49,7 +50,7 @@ fn joins(
     nodes: &[u8],
     edges: &[u8],
     rule: &[u8],
-    plan: &[usize; 102],
+    plan: &[usize; At::LENGTH],
     k: usize,
     s: usize,
     t: usize,
@@ -62,7 +63,7 @@ fn joins(
 {
     if graph::edge_runs(l, nodes, edges, s, t, x) {
         return marks_agree(
-            plan::mark(rule, plan, plan[0] + k),
+            plan::mark(rule, plan, plan[At::NODES] + k),
             graph::edge_mark(l, nodes, edges, x),
         );
     }
@@ -74,7 +75,7 @@ fn any_joins(
     nodes: &[u8],
     edges: &[u8],
     rule: &[u8],
-    plan: &[usize; 102],
+    plan: &[usize; At::LENGTH],
     k: usize,
     s: usize,
     t: usize,
@@ -100,7 +101,7 @@ fn link_holds(
     nodes: &[u8],
     edges: &[u8],
     rule: &[u8],
-    plan: &[usize; 102],
+    plan: &[usize; At::LENGTH],
     at: &[usize; 12],
     i: usize,
     c: usize,
@@ -132,7 +133,7 @@ fn linked(
     nodes: &[u8],
     edges: &[u8],
     rule: &[u8],
-    plan: &[usize; 102],
+    plan: &[usize; At::LENGTH],
     at: &[usize; 12],
     i: usize,
     c: usize,
@@ -141,7 +142,7 @@ fn linked(
     requires { ⌜ Tried (hostOf l (now nodes) (now edges)) (now rule) (now plan) (now at) i c ⌝ }
     ensures { λ r. ⌜ ((w : Tried (hostOf l (now (nodes .entry)) (now (edges .entry))) (now (rule .entry)) (now (plan .entry)) (now (at .entry)) i c) → r ≡ all (isLinked (hostOf l (now (nodes .entry)) (now (edges .entry))) (w .trial .rule) (w .trial .placed) i) (leftEdges (w .trial .rule))) ⌝ }
 {
-    let m = plan[1];
+    let m = plan[At::EDGES];
     let mut k: usize = 0;
     while k < m {
         if !link_holds(l, nodes, edges, rule, plan, at, i, c, k) {
@@ -152,7 +153,7 @@ fn linked(
     true
 }
 
-fn left_touches(rule: &[u8], plan: &[usize; 102], i: usize, k: usize) -> bool
+fn left_touches(rule: &[u8], plan: &[usize; At::LENGTH], i: usize, k: usize) -> bool
     requires { ⌜ HasEdge (now rule) (now plan) k ⌝ }
     ensures { λ b. ⌜ For (now (rule .entry)) (now (plan .entry)) (λ r. (h : Host) → b ≡ leftTouches h r i k) ⌝ }
 {
@@ -162,11 +163,11 @@ fn left_touches(rule: &[u8], plan: &[usize; 102], i: usize, k: usize) -> bool
     plan::target(rule, plan, k) == i
 }
 
-fn left_degree(rule: &[u8], plan: &[usize; 102], i: usize) -> usize
+fn left_degree(rule: &[u8], plan: &[usize; At::LENGTH], i: usize) -> usize
     requires { ⌜ IsLaid (now rule) (now plan) ⌝ }
     ensures { λ d. ⌜ For (now (rule .entry)) (now (plan .entry)) (λ r. (h : Host) → d ≡ count (leftTouches h r i) (leftEdges r)) ⌝ }
 {
-    let m = plan[1];
+    let m = plan[At::EDGES];
     let mut k: usize = 0;
     let mut d: usize = 0;
     while k < m {
@@ -186,7 +187,7 @@ fn can_go(
     nodes: &[u8],
     edges: &[u8],
     rule: &[u8],
-    plan: &[usize; 102],
+    plan: &[usize; At::LENGTH],
     i: usize,
     c: usize,
 ) -> bool
@@ -194,7 +195,7 @@ fn can_go(
     requires { ⌜ IsLaid (now rule) (now plan) ⌝ }
     ensures { λ b. ⌜ For (now (rule .entry)) (now (plan .entry)) (λ r. b ≡ canGo (hostOf l (now (nodes .entry)) (now (edges .entry))) r i c) ⌝ }
 {
-    if i < plan[2] {
+    if i < plan[At::INTERFACE] {
         return true;
     }
     graph::degree(l, nodes, edges, c) <= left_degree(rule, plan, i)
@@ -208,7 +209,7 @@ fn node_like(
     nodes: &[u8],
     edges: &[u8],
     rule: &[u8],
-    plan: &[usize; 102],
+    plan: &[usize; At::LENGTH],
     mark: u8,
     root: u8,
     i: usize,
@@ -216,9 +217,9 @@ fn node_like(
 ) -> bool
     requires { ⌜ Legal l (now nodes) (now edges) ⌝ }
     requires { ⌜ Known (now rule) (now plan) ⌝ }
-    requires { ⌜ (i < getD (now plan) 0 0) × (c < length (hostOf l (now nodes) (now edges) .nodes)) ⌝ }
+    requires { ⌜ (i < getD (now plan) nodesAt 0) × (c < length (hostOf l (now nodes) (now edges) .nodes)) ⌝ }
     requires { ⌜ ((w : Known (now rule) (now plan)) → (mark ≡ leftNode (w .rule) i .mark) × (root ≡ leftNode (w .rule) i .root)) ⌝ }
-    ensures { λ b. ⌜ ((w : Known (now (rule .entry)) (now (plan .entry))) → NodeLike (hostOf l (now (nodes .entry)) (now (edges .entry))) (w .rule) (getD (now (plan .entry)) (66 + i) 0) i c b) ⌝ }
+    ensures { λ b. ⌜ ((w : Known (now (rule .entry)) (now (plan .entry))) → NodeLike (hostOf l (now (nodes .entry)) (now (edges .entry))) (w .rule) (getD (now (plan .entry)) (sortAt + i) 0) i c b) ⌝ }
 {
     if !graph::node_live(l, nodes, edges, c) {
         return false;
@@ -238,15 +239,15 @@ pub fn next_like(
     nodes: &[u8],
     edges: &[u8],
     rule: &[u8],
-    plan: &[usize; 102],
+    plan: &[usize; At::LENGTH],
     i: usize,
     c: usize,
     n: usize,
 ) -> usize
     requires { ⌜ Legal l (now nodes) (now edges) ⌝ }
     requires { ⌜ Known (now rule) (now plan) ⌝ }
-    requires { ⌜ (i < getD (now plan) 0 0) × (n ≤ length (hostOf l (now nodes) (now edges) .nodes)) ⌝ }
-    ensures { λ y. ⌜ ((w : Known (now (rule .entry)) (now (plan .entry))) → NextLike (hostOf l (now (nodes .entry)) (now (edges .entry))) (w .rule) (getD (now (plan .entry)) (66 + i) 0) i c n y) ⌝ }
+    requires { ⌜ (i < getD (now plan) nodesAt 0) × (n ≤ length (hostOf l (now nodes) (now edges) .nodes)) ⌝ }
+    ensures { λ y. ⌜ ((w : Known (now (rule .entry)) (now (plan .entry))) → NextLike (hostOf l (now (nodes .entry)) (now (edges .entry))) (w .rule) (getD (now (plan .entry)) (sortAt + i) 0) i c n y) ⌝ }
 {
     let mark = plan::mark(rule, plan, i);
     let root = plan::root(rule, plan, i);
@@ -266,17 +267,17 @@ pub fn node_likely(
     nodes: &[u8],
     edges: &[u8],
     rule: &[u8],
-    plan: &[usize; 102],
+    plan: &[usize; At::LENGTH],
     at: &[usize; 12],
     i: usize,
     c: usize,
 ) -> bool
     requires { ⌜ Legal l (now nodes) (now edges) ⌝ }
     requires { ⌜ Known (now rule) (now plan) ⌝ }
-    requires { ⌜ (length (now at) ≡ 12) × Inside (hostOf l (now nodes) (now edges)) (getD (now plan) 0 0) (now at) i ⌝ }
-    requires { ⌜ (i < getD (now plan) 0 0) × (c < length (hostOf l (now nodes) (now edges) .nodes)) ⌝ }
-    requires { ⌜ ((w : Known (now rule) (now plan)) → NodeLike (hostOf l (now nodes) (now edges)) (w .rule) (getD (now plan) (66 + i) 0) i c true) ⌝ }
-    ensures { λ b. ⌜ ((w : Known (now (rule .entry)) (now (plan .entry))) → Likely (hostOf l (now (nodes .entry)) (now (edges .entry))) (w .rule) (getD (now (plan .entry)) (66 + i) 0) (take i (now (at .entry))) i c b) ⌝ }
+    requires { ⌜ (length (now at) ≡ 12) × Inside (hostOf l (now nodes) (now edges)) (getD (now plan) nodesAt 0) (now at) i ⌝ }
+    requires { ⌜ (i < getD (now plan) nodesAt 0) × (c < length (hostOf l (now nodes) (now edges) .nodes)) ⌝ }
+    requires { ⌜ ((w : Known (now rule) (now plan)) → NodeLike (hostOf l (now nodes) (now edges)) (w .rule) (getD (now plan) (sortAt + i) 0) i c true) ⌝ }
+    ensures { λ b. ⌜ ((w : Known (now (rule .entry)) (now (plan .entry))) → Likely (hostOf l (now (nodes .entry)) (now (edges .entry))) (w .rule) (getD (now (plan .entry)) (sortAt + i) 0) (take i (now (at .entry))) i c b) ⌝ }
 {
     if !absent(at, 0, i, c) {
         return false;
@@ -293,7 +294,7 @@ pub fn edge_likely(
     nodes: &[u8],
     edges: &[u8],
     rule: &[u8],
-    plan: &[usize; 102],
+    plan: &[usize; At::LENGTH],
     at: &[usize; 12],
     i: usize,
     s: usize,
@@ -302,12 +303,12 @@ pub fn edge_likely(
 ) -> bool
     requires { ⌜ Legal l (now nodes) (now edges) ⌝ }
     requires { ⌜ Known (now rule) (now plan) ⌝ }
-    requires { ⌜ (length (now at) ≡ 12) × Inside (hostOf l (now nodes) (now edges)) (getD (now plan) 0 0) (now at) i ⌝ }
-    requires { ⌜ (getD (now plan) 0 0 ≤ i) × (i < getD (now plan) 0 0 + getD (now plan) 1 0) × (c < length (hostOf l (now nodes) (now edges) .edges)) ⌝ }
+    requires { ⌜ (length (now at) ≡ 12) × Inside (hostOf l (now nodes) (now edges)) (getD (now plan) nodesAt 0) (now at) i ⌝ }
+    requires { ⌜ (getD (now plan) nodesAt 0 ≤ i) × (i < getD (now plan) nodesAt 0 + getD (now plan) edgesAt 0) × (c < length (hostOf l (now nodes) (now edges) .edges)) ⌝ }
     requires { ⌜ ((w : Known (now rule) (now plan)) → (s ≡ nodeSlot (take i (now at)) (leftEdge (w .rule) (i - leftNodes (w .rule)) .source)) × (t ≡ nodeSlot (take i (now at)) (leftEdge (w .rule) (i - leftNodes (w .rule)) .target))) ⌝ }
-    ensures { λ b. ⌜ ((w : Known (now (rule .entry)) (now (plan .entry))) → Likely (hostOf l (now (nodes .entry)) (now (edges .entry))) (w .rule) (getD (now (plan .entry)) (66 + i) 0) (take i (now (at .entry))) i c b) ⌝ }
+    ensures { λ b. ⌜ ((w : Known (now (rule .entry)) (now (plan .entry))) → Likely (hostOf l (now (nodes .entry)) (now (edges .entry))) (w .rule) (getD (now (plan .entry)) (sortAt + i) 0) (take i (now (at .entry))) i c b) ⌝ }
 {
-    let n = plan[0];
+    let n = plan[At::NODES];
     if !joins(l, nodes, edges, rule, plan, i - n, s, t, c) {
         return false;
     }
@@ -320,12 +321,12 @@ pub fn edge_likely(
 // Edges that dangle.
 
 // Whether slot s or slot t is that of a left node that goes.
-fn touches_gone(plan: &[usize; 102], at: &[usize; 12], s: usize, t: usize) -> bool
+fn touches_gone(plan: &[usize; At::LENGTH], at: &[usize; 12], s: usize, t: usize) -> bool
     requires { ⌜ Room (now plan) (now at) ⌝ }
-    ensures { λ r. ⌜ r ≡ any (goneAt (getD (now (plan .entry)) 2 0) (now (at .entry)) s t) (getD (now (plan .entry)) 0 0) ⌝ }
+    ensures { λ r. ⌜ r ≡ any (goneAt (getD (now (plan .entry)) interfaceAt 0) (now (at .entry)) s t) (getD (now (plan .entry)) nodesAt 0) ⌝ }
 {
-    let n = plan[0];
-    let mut j = plan[2];
+    let n = plan[At::NODES];
+    let mut j = plan[At::INTERFACE];
     while j < n {
         let x = at[j];
         if s == x {
@@ -344,7 +345,7 @@ fn dangles(
     l: Layout,
     nodes: &[u8],
     edges: &[u8],
-    plan: &[usize; 102],
+    plan: &[usize; At::LENGTH],
     at: &[usize; 12],
     x: usize,
 ) -> bool
@@ -360,7 +361,7 @@ fn dangles(
             graph::edge_source(l, nodes, edges, x),
             graph::edge_target(l, nodes, edges, x),
         ) {
-            return absent(at, plan[0], plan[0] + plan[1], x);
+            return absent(at, plan[At::NODES], plan[At::NODES] + plan[At::EDGES], x);
         }
     }
     false
@@ -370,7 +371,7 @@ pub fn any_dangles(
     l: Layout,
     nodes: &[u8],
     edges: &[u8],
-    plan: &[usize; 102],
+    plan: &[usize; At::LENGTH],
     at: &[usize; 12],
 ) -> bool
     requires { ⌜ Legal l (now nodes) (now edges) ⌝ }

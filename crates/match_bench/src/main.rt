@@ -8,7 +8,9 @@ ghost use Rattle.meaning.specs.Image.{program};
 ghost use Rattle.parts.specs.Runs.{For};
 ghost use Rattle.values.specs.Values.{Stored};
 ghost use Rattle.pairs.specs.Pairs.{starts as doesStart, Answers};
+ghost use Rattle.plan.specs.Plan.{planLength};
 use matching::Matched;
+use plan::At;
 
 // The first match of the first rule, asked for n times, and at least once.
 fn repeated(
@@ -16,13 +18,13 @@ fn repeated(
     edges: &[u8],
     image: &[u8],
     n: u32,
-    plan: &mut [usize; 102],
+    plan: &mut [usize; At::LENGTH],
     lens: &mut [usize; 6],
     atoms: &mut [u32; 48],
 ) -> Matched
     requires { ⌜ doesStart (now nodes) (now edges) (now image) ≡ true ⌝ }
     requires { ⌜ For (program (now image)) (λ p. 0 < length (p .rules)) ⌝ }
-    requires { ⌜ (length (now plan) ≡ 102) × Stored (now lens) (now atoms) ⌝ }
+    requires { ⌜ (length (now plan) ≡ planLength) × Stored (now lens) (now atoms) ⌝ }
     ensures { λ x. ⌜ Answers (now (nodes .entry)) (now (edges .entry)) (now (image .entry)) 0 x (now (lens .exit)) (now (atoms .exit)) ⌝ }
 {
     let mut left = n;
@@ -37,7 +39,7 @@ fn match_first(nodes: &[u8], edges: &[u8], image: &[u8], n: u32)
     requires { ⌜ doesStart (now nodes) (now edges) (now image) ≡ true ⌝ }
     requires { ⌜ For (program (now image)) (λ p. 0 < length (p .rules)) ⌝ }
 {
-    let mut plan = [0usize; 102];
+    let mut plan = [0usize; At::LENGTH];
     let mut lens = [0usize; 6];
     let mut atoms = [0u32; 48];
     let found = repeated(nodes, edges, image, n, &mut plan, &mut lens, &mut atoms);

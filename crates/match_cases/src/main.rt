@@ -12,7 +12,7 @@ fn match_rule(nodes: &[u8], edges: &[u8], image: &[u8], i: usize)
     requires { ⌜ doesStart (now nodes) (now edges) (now image) ≡ true ⌝ }
     requires { ⌜ For (program (now image)) (λ p. i < length (p .rules)) ⌝ }
 {
-    let mut plan = [0usize; 102];
+    let mut plan = [0usize; At::LENGTH];
     let mut lens = [0usize; 6];
     let mut atoms = [0u32; 48];
     let found = pairs::rule_match(nodes, edges, image, i, &mut plan, &mut lens, &mut atoms);

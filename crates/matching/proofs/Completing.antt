@@ -17,9 +17,10 @@ use Rattle.agreeing.specs.Placed.{Known, Inside, Full}
 use Rattle.agreeing.specs.Trials.{few-items, full}
 use Rattle.fitting.specs.Fitting.{Numbers}
 use Rattle.matching.proofs.Plans.{nodes-of, edges-of}
+use Rattle.plan.specs.Plan.{edgesAt, nodesAt}
 
 abbrev pub allPlaced : (h : Host) (bs plan at : List ℕ) (w : Known bs plan) → length at ≡ 12
-    → Inside h (getD plan 0 0) at (getD plan 0 0 + getD plan 1 0) → Full h bs plan at 12 0
+    → Inside h (getD plan nodesAt 0) at (getD plan nodesAt 0 + getD plan edgesAt 0) → Full h bs plan at 12 0
 allPlaced h bs plan at w room inside = full h bs plan at w room 12 0 (few-items w) (rw (nodes-of _ _ w, edges-of _ _ w) at inside)
 
 abbrev pub numbers : {bs plan : List ℕ} (w : Known bs plan) → Numbers plan (w .rule)

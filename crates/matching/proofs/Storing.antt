@@ -30,6 +30,7 @@ use Rattle.values.specs.Values.{valuesOf, Stored}
 use Rattle.matching.specs.Values.{Copied, HasValues}
 use Rattle.matching.proofs.Plans.{levels-of}
 use Rattle.matching.proofs.Completing.{allPlaced}
+use Rattle.plan.specs.Plan.{edgesAt, firstAt, nodesAt}
 
 -- two parts of one size are the same where their elements are
 same-part : (n k d : ℕ) (xs ys : List ℕ) → k + n ≤ length xs → d + n ≤ length ys
@@ -152,11 +153,11 @@ on-left r holds v e =
 -- A full placement gives them.
 
 module _ (h : Host) (bs plan at : List ℕ) (w : Known bs plan) (room : length at ≡ 12)
-    (inside : Inside h (getD plan 0 0) at (getD plan 0 0 + getD plan 1 0)) where
+    (inside : Inside h (getD plan nodesAt 0) at (getD plan nodesAt 0 + getD plan edgesAt 0)) where
   abbrev placed : Full h bs plan at 12 0
   placed = allPlaced h bs plan at w room inside
 
-  abbrev pub has-value : (v : ℕ) → v < length (w .rule .variables) → getD plan (28 + v) 0 < getD plan 0 0 + getD plan 1 0
+  abbrev pub has-value : (v : ℕ) → v < length (w .rule .variables) → getD plan (firstAt + v) 0 < getD plan nodesAt 0 + getD plan edgesAt 0
       → HasValue h bs plan at 12 0 v
   has-value v k l = record {
     trial = placed .trial;

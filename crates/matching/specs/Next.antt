@@ -20,6 +20,7 @@ use Rattle.matching.specs.declared.Step.{Step}
 use Rattle.matching.specs.declared.Step.the-variants.{Full, Take, Back}
 use Rattle.matching.specs.declared.Outcome.{Outcome}
 use Rattle.matching.specs.declared.Outcome.the-variants.{Match, NoMatch}
+use Rattle.plan.specs.Plan.{nodesAt}
 
 -- What is handed.
 
@@ -33,7 +34,7 @@ pub record Ready (L : Layout) (nodes edges bs plan at : List ℕ) (i : ℕ) : Ty
   pub legal : Legal L nodes edges
   pub known : Known bs plan
   pub room : length at ≡ 12
-  pub inside : Inside (hostOf L nodes edges) (getD plan 0 0) at i
+  pub inside : Inside (hostOf L nodes edges) (getD plan nodesAt 0) at i
 
 -- What is answered, of whichever rule the plan is.
 

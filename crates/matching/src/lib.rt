@@ -6,7 +6,7 @@ ghost use lib.ListN.{length, getD, take, replicate};
 ghost use Rattle.meaning.specs.FirstMatch.{nodeFits, complete as isComplete};
 ghost use Rattle.graph.specs.Graph.{Legal};
 ghost use Rattle.meaning.specs.Layout.{hostOf};
-ghost use Rattle.plan.specs.Plan.{IsRule};
+ghost use Rattle.plan.specs.Plan.{IsRule, edgesAt, nodesAt, planLength, sortAt};
 ghost use Rattle.matching.specs.Next.{Handed, Ready, Of, endOf, Meets, NextSlot, NextLikely, IsStep};
 ghost use Rattle.meaning.specs.Matching.{total};
 ghost use Rattle.values.specs.Values.{Stored};
@@ -14,6 +14,7 @@ ghost use Rattle.matching.specs.Values.{Copied, HasValues, Sought, IsFir
 ghost use Rattle.matching.specs.declared.Outcome.the-variants.{Match, NoMatch};
 use labels::Label;
 use meaning::Layout;
+use plan::At;
 
 // The next slot that fits, or none.
 pub enum Next {
@@ -143,30 +144,30 @@ fn next_candidate(
     nodes: &[u8],
     edges: &[u8],
     rule: &[u8],
-    plan: &[usize; 102],
+    plan: &[usize; At::LENGTH],
     at: &[usize; 12],
     i: usize,
     c: usize,
     n: usize,
 ) -> usize
     requires { ⌜ Ready l (now nodes) (now edges) (now rule) (now plan) (now at) i ⌝ }
-    requires { ⌜ (i < getD (now plan) 0 0) × (c ≤ n) ⌝ }
+    requires { ⌜ (i < getD (now plan) nodesAt 0) × (c ≤ n) ⌝ }
     ensures { λ y. ⌜ (c ≤ y) × Of (now (rule .entry)) (now (plan .entry)) (λ r. (x : ℕ) → c ≤ x → x < y → nodeFits (hostOf l (now (nodes .entry)) (now (edges .entry))) r (take i (now (at .entry))) i x ≡ false) ⌝ }
 {
-    let m = plan[1];
+    let m = plan[At::EDGES];
     let mut k: usize = 0;
     while k < m {
         let s = plan::source(rule, plan, k);
         let t = plan::target(rule, plan, k);
         if t == i {
             if s < i {
-                let mark = plan::mark(rule, plan, plan[0] + k);
+                let mark = plan::mark(rule, plan, plan[At::NODES] + k);
                 return next_end(l, nodes, edges, mark, at[s], true, c, n);
             }
         }
         if s == i {
             if t < i {
-                let mark = plan::mark(rule, plan, plan[0] + k);
+                let mark = plan::mark(rule, plan, plan[At::NODES] + k);
                 return next_end(l, nodes, edges, mark, at[t], false, c, n);
             }
         }
@@ -183,14 +184,14 @@ fn next_node(
     nodes: &[u8],
     edges: &[u8],
     rule: &[u8],
-    plan: &[usize; 102],
+    plan: &[usize; At::LENGTH],
     at: &[usize; 12],
     i: usize,
     c: usize,
 ) -> Next
     requires { ⌜ Ready l (now nodes) (now edges) (now rule) (now plan) (now at) i ⌝ }
-    requires { ⌜ i < getD (now plan) 0 0 ⌝ }
-    ensures { λ x. ⌜ Of (now (rule .entry)) (now (plan .entry)) (λ r. NextLikely (hostOf l (now (nodes .entry)) (now (edges .entry))) r (getD (now (plan .entry)) (66 + i) 0) (take i (now (at .entry))) i c x) ⌝ }
+    requires { ⌜ i < getD (now plan) nodesAt 0 ⌝ }
+    ensures { λ x. ⌜ Of (now (rule .entry)) (now (plan .entry)) (λ r. NextLikely (hostOf l (now (nodes .entry)) (now (edges .entry))) r (getD (now (plan .entry)) (sortAt + i) 0) (take i (now (at .entry))) i c x) ⌝ }
 {
     let n = graph::node_slots(l, nodes);
     let mut x = c;
@@ -221,16 +222,16 @@ fn next_edge(
     nodes: &[u8],
     edges: &[u8],
     rule: &[u8],
-    plan: &[usize; 102],
+    plan: &[usize; At::LENGTH],
     at: &[usize; 12],
     i: usize,
     c: usize,
 ) -> Next
     requires { ⌜ Ready l (now nodes) (now edges) (now rule) (now plan) (now at) i ⌝ }
-    requires { ⌜ (getD (now plan) 0 0 ≤ i) × (i < getD (now plan) 0 0 + getD (now plan) 1 0) ⌝ }
-    ensures { λ x. ⌜ Of (now (rule .entry)) (now (plan .entry)) (λ r. NextLikely (hostOf l (now (nodes .entry)) (now (edges .entry))) r (getD (now (plan .entry)) (66 + i) 0) (take i (now (at .entry))) i c x) ⌝ }
+    requires { ⌜ (getD (now plan) nodesAt 0 ≤ i) × (i < getD (now plan) nodesAt 0 + getD (now plan) edgesAt 0) ⌝ }
+    ensures { λ x. ⌜ Of (now (rule .entry)) (now (plan .entry)) (λ r. NextLikely (hostOf l (now (nodes .entry)) (now (edges .entry))) r (getD (now (plan .entry)) (sortAt + i) 0) (take i (now (at .entry))) i c x) ⌝ }
 {
-    let k = i - plan[0];
+    let k = i - plan[At::NODES];
     let a = plan::source(rule, plan, k);
     let b = plan::target(rule, plan, k);
     let s = at[a];
@@ -252,16 +253,16 @@ fn next_likely(
     nodes: &[u8],
     edges: &[u8],
     rule: &[u8],
-    plan: &[usize; 102],
+    plan: &[usize; At::LENGTH],
     at: &[usize; 12],
     i: usize,
     c: usize,
 ) -> Next
     requires { ⌜ Ready l (now nodes) (now edges) (now rule) (now plan) (now at) i ⌝ }
-    requires { ⌜ i < getD (now plan) 0 0 + getD (now plan) 1 0 ⌝ }
-    ensures { λ x. ⌜ Of (now (rule .entry)) (now (plan .entry)) (λ r. NextLikely (hostOf l (now (nodes .entry)) (now (edges .entry))) r (getD (now (plan .entry)) (66 + i) 0) (take i (now (at .entry))) i c x) ⌝ }
+    requires { ⌜ i < getD (now plan) nodesAt 0 + getD (now plan) edgesAt 0 ⌝ }
+    ensures { λ x. ⌜ Of (now (rule .entry)) (now (plan .entry)) (λ r. NextLikely (hostOf l (now (nodes .entry)) (now (edges .entry))) r (getD (now (plan .entry)) (sortAt + i) 0) (take i (now (at .entry))) i c x) ⌝ }
 {
-    if i < plan[0] {
+    if i < plan[At::NODES] {
         return next_node(l, nodes, edges, rule, plan, at, i, c);
     }
     next_edge(l, nodes, edges, rule, plan, at, i, c)
@@ -273,13 +274,13 @@ fn next_slot(
     nodes: &[u8],
     edges: &[u8],
     rule: &[u8],
-    plan: &[usize; 102],
+    plan: &[usize; At::LENGTH],
     at: &[usize; 12],
     i: usize,
     c: usize,
 ) -> Next
     requires { ⌜ Ready l (now nodes) (now edges) (now rule) (now plan) (now at) i ⌝ }
-    requires { ⌜ i < getD (now plan) 0 0 + getD (now plan) 1 0 ⌝ }
+    requires { ⌜ i < getD (now plan) nodesAt 0 + getD (now plan) edgesAt 0 ⌝ }
     ensures { λ x. ⌜ Of (now (rule .entry)) (now (plan .entry)) (λ r. NextSlot (hostOf l (now (nodes .entry)) (now (edges .entry))) r (take i (now (at .entry))) c x) ⌝ }
 {
     let mut x = c;
@@ -307,13 +308,13 @@ fn complete(
     nodes: &[u8],
     edges: &[u8],
     rule: &[u8],
-    plan: &[usize; 102],
+    plan: &[usize; At::LENGTH],
     at: &[usize; 12],
 ) -> bool
-    requires { ⌜ Ready l (now nodes) (now edges) (now rule) (now plan) (now at) (getD (now plan) 0 0 + getD (now plan) 1 0) ⌝ }
+    requires { ⌜ Ready l (now nodes) (now edges) (now rule) (now plan) (now at) (getD (now plan) nodesAt 0 + getD (now plan) edgesAt 0) ⌝ }
     ensures { λ b. ⌜ Of (now (rule .entry)) (now (plan .entry)) (λ r. b ≡ isComplete (hostOf l (now (nodes .entry)) (now (edges .entry))) r (take (total r) (now (at .entry)))) ⌝ }
 {
-    if plan[2] < plan[0] {
+    if plan[At::INTERFACE] < plan[At::NODES] {
         if fitting::any_dangles(l, nodes, edges, plan, at) {
             return false;
         }
@@ -327,16 +328,16 @@ fn advance(
     nodes: &[u8],
     edges: &[u8],
     rule: &[u8],
-    plan: &[usize; 102],
+    plan: &[usize; At::LENGTH],
     at: &[usize; 12],
     i: usize,
     c: usize,
 ) -> Step
     requires { ⌜ Ready l (now nodes) (now edges) (now rule) (now plan) (now at) i ⌝ }
-    requires { ⌜ i ≤ getD (now plan) 0 0 + getD (now plan) 1 0 ⌝ }
+    requires { ⌜ i ≤ getD (now plan) nodesAt 0 + getD (now plan) edgesAt 0 ⌝ }
     ensures { λ x. ⌜ Of (now (rule .entry)) (now (plan .entry)) (λ r. IsStep (hostOf l (now (nodes .entry)) (now (edges .entry))) r (take i (now (at .entry))) i c x) ⌝ }
 {
-    if i == plan[0] + plan[1] {
+    if i == plan[At::NODES] + plan[At::EDGES] {
         if complete(l, nodes, edges, rule, plan, at) {
             return Step::Full;
         }
@@ -370,21 +371,21 @@ fn assign(
     nodes: &[u8],
     edges: &[u8],
     rule: &[u8],
-    plan: &[usize; 102],
+    plan: &[usize; At::LENGTH],
     at: &[usize; 12],
     lens: &mut [usize; 6],
     atoms: &mut [u32; 48],
 )
-    requires { ⌜ Ready l (now nodes) (now edges) (now rule) (now plan) (now at) (getD (now plan) 0 0 + getD (now plan) 1 0) ⌝ }
+    requires { ⌜ Ready l (now nodes) (now edges) (now rule) (now plan) (now at) (getD (now plan) nodesAt 0 + getD (now plan) edgesAt 0) ⌝ }
     requires { ⌜ Stored (now lens) (now atoms) ⌝ }
     ensures { λ _. ⌜ Stored (now (lens .exit)) (now (atoms .exit)) × Of (now (rule .entry)) (now (plan .entry)) (λ r. HasValues (hostOf l (now (nodes .entry)) (now (edges .entry))) r (take (total r) (now (at .entry))) (length (r .variables)) (now (lens .exit)) (now (atoms .exit))) ⌝ }
 {
     let types = plan::types(rule, plan);
     let n = types.len();
-    let m = plan[0] + plan[1];
+    let m = plan[At::NODES] + plan[At::EDGES];
     let mut v: usize = 0;
     while v < n {
-        if plan[28 + v] < m {
+        if plan[At::FIRST + v] < m {
             let a = agreeing::value(l, nodes, edges, rule, plan, at, 12, 0, v);
             lens[v] = a.len;
             put_atoms(atoms, 8 * v, a);
@@ -403,7 +404,7 @@ fn search(
     nodes: &[u8],
     edges: &[u8],
     rule: &[u8],
-    plan: &[usize; 102],
+    plan: &[usize; At::LENGTH],
     lens: &mut [usize; 6],
     atoms: &mut [u32; 48],
 ) -> Matched
@@ -444,14 +445,14 @@ pub fn first_match(
     nodes: &[u8],
     edges: &[u8],
     rule: &[u8],
-    plan: &mut [usize; 102],
+    plan: &mut [usize; At::LENGTH],
     lens: &mut [usize; 6],
     atoms: &mut [u32; 48],
 ) -> Matched
     requires { ⌜ Legal l (now nodes) (now edges) ⌝ }
     requires { ⌜ IsRule (now rule) ⌝ }
-    requires { ⌜ (length (now plan) ≡ 102) × Stored (now lens) (now atoms) ⌝ }
-    ensures { λ x. ⌜ (length (now (plan .exit)) ≡ 102) × IsFirst l (now (nodes .entry)) (now (edges .entry)) (now (rule .entry)) x (now (lens .exit)) (now (atoms .exit)) ⌝ }
+    requires { ⌜ (length (now plan) ≡ planLength) × Stored (now lens) (now atoms) ⌝ }
+    ensures { λ x. ⌜ (length (now (plan .exit)) ≡ planLength) × IsFirst l (now (nodes .entry)) (now (edges .entry)) (now (rule .entry)) x (now (lens .exit)) (now (atoms .exit)) ⌝ }
 {
     plan::make(rule, plan);
     search(l, nodes, edges, rule, &*plan, lens, atoms)

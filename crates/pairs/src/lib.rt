@@ -7,10 +7,12 @@ ghost use Rattle.meaning.specs.Image.{program};
 ghost use Rattle.parts.specs.Runs.{For};
 ghost use Rattle.values.specs.Values.{Stored};
 ghost use Rattle.pairs.specs.Pairs.{isMatch, starts as doesStart, Answers};
+ghost use Rattle.plan.specs.Plan.{planLength};
 use answers::Checked;
 use matching::Matched;
 use matching::Outcome;
 use meaning::Layout;
+use plan::At;
 
 // Whether a run of the image on the host would start, with no fuel and no journal.
 pub fn starts(nodes: &[u8], edges: &[u8], image: &[u8]) -> bool
@@ -30,14 +32,14 @@ pub fn rule_match(
     edges: &[u8],
     image: &[u8],
     i: usize,
-    plan: &mut [usize; 102],
+    plan: &mut [usize; At::LENGTH],
     lens: &mut [usize; 6],
     atoms: &mut [u32; 48],
 ) -> Matched
     requires { ⌜ doesStart (now nodes) (now edges) (now image) ≡ true ⌝ }
     requires { ⌜ For (program (now image)) (λ p. i < length (p .rules)) ⌝ }
-    requires { ⌜ (length (now plan) ≡ 102) × Stored (now lens) (now atoms) ⌝ }
-    ensures { λ x. ⌜ (length (now (plan .exit)) ≡ 102) × Answers (now (nodes .entry)) (now (edges .entry)) (now (image .entry)) i x (now (lens .exit)) (now (atoms .exit)) ⌝ }
+    requires { ⌜ (length (now plan) ≡ planLength) × Stored (now lens) (now atoms) ⌝ }
+    ensures { λ x. ⌜ (length (now (plan .exit)) ≡ planLength) × Answers (now (nodes .entry)) (now (edges .entry)) (now (image .entry)) i x (now (lens .exit)) (now (atoms .exit)) ⌝ }
 {
     let rule = parts::rule_part(image, i);
     matching::first_match(Layout::base(), nodes, edges, rule, plan, lens, atoms)

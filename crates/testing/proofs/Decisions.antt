@@ -21,7 +21,7 @@ use Rattle.meaning.specs.Laws.Assignment.{labels-length}
 use Rattle.meaning.specs.Laws.Decided.{first-with, highest-each}
 use Rattle.meaning.specs.declared.Condition.the-variants.{Edge}
 use Rattle.meaning.specs.declared.Test.{Test}
-use Rattle.plan.specs.Plan.{testOf}
+use Rattle.plan.specs.Plan.{testOf, decidesAt}
 use Rattle.plan.specs.Tests.{nodes-exist, variables-exist}
 use Rattle.agreeing.specs.Agreeing.{Valued}
 use Rattle.testing.specs.Testing.{Decided, HasTest}
@@ -79,13 +79,13 @@ module _ {h : Host} {bs plan at : List ℕ} {i c : ℕ} (w : Tried h bs plan at 
       (testHolds h (w .trial .placed) (assigned h (w .trial .rule) (w .trial .placed)) t) true
 
   module _ (t : ℕ) (there : t < length (w .trial .rule .tests)) where
-    pub decides : getD plan (34 + t) 0 ≡ i + 1 → decidedAt (w .trial .rule) (testOf (w .trial .rule) t) ≡ length (w .trial .placed)
+    pub decides : getD plan (decidesAt + t) 0 ≡ i + 1 → decidedAt (w .trial .rule) (testOf (w .trial .rule) t) ≡ length (w .trial .placed)
     decides e = sym (w .trial .planned .decided t there) ∙ e ∙ sym (w .last)
 
-    pub decides-so-far : getD plan (34 + t) 0 ≡ i + 1 → decidedAt (w .trial .rule) (testOf (w .trial .rule) t) ≤ length (w .trial .placed)
+    pub decides-so-far : getD plan (decidesAt + t) 0 ≡ i + 1 → decidedAt (w .trial .rule) (testOf (w .trial .rule) t) ≤ length (w .trial .placed)
     decides-so-far e = let d = decides e in omega arith
 
-    abbrev pub tried-test : getD plan (34 + t) 0 ≡ i + 1 → HasTest h bs plan at i c t
+    abbrev pub tried-test : getD plan (decidesAt + t) 0 ≡ i + 1 → HasTest h bs plan at i c t
     tried-test e =
         record {
           trial = w .trial;
@@ -93,12 +93,12 @@ module _ {h : Host} {bs plan at : List ℕ} {i c : ℕ} (w : Tried h bs plan at 
           decided = decided-so-far (w .trial .rule) (w .trial .planned .laid .holds) (w .trial .placed) t there (decides-so-far e);
         }
 
-    pub so-far-yes : getD plan (34 + t) 0 ≡ i + 1 → (b : Bool)
+    pub so-far-yes : getD plan (decidesAt + t) 0 ≡ i + 1 → (b : Bool)
         → b ≡ testHolds h (w .trial .placed) (assigned h (w .trial .rule) (w .trial .placed)) (testOf (w .trial .rule) t)
         → soFar (testOf (w .trial .rule) t) ≡ b
     so-far-yes e b q = choose-eq (decidedAt (w .trial .rule) (testOf (w .trial .rule) t)) (length (w .trial .placed)) _ _ (decides e) ∙ sym q
 
-    pub so-far-no : (getD plan (34 + t) 0 ≡ i + 1 → ⊥) → soFar (testOf (w .trial .rule) t) ≡ true
+    pub so-far-no : (getD plan (decidesAt + t) 0 ≡ i + 1 → ⊥) → soFar (testOf (w .trial .rule) t) ≡ true
     so-far-no d =
         choose-ne (decidedAt (w .trial .rule) (testOf (w .trial .rule) t)) (length (w .trial .placed)) _ _
         (λ e. d (w .trial .planned .decided t there ∙ e ∙ w .last))

@@ -10,7 +10,7 @@ ghost use Rattle.meaning.specs.Matching.{atomOf, conditionHolds, testHolds};
 ghost use Rattle.meaning.specs.FirstMatch.{testsSoFar, fits};
 ghost use Rattle.meaning.specs.Assigned.{assigned};
 ghost use Rattle.graph.specs.Graph.{Legal};
-ghost use Rattle.plan.specs.Plan.{testOf};
+ghost use Rattle.plan.specs.Plan.{testOf, nodesAt, sortAt};
 ghost use Rattle.agreeing.specs.Placed.{Known, Inside, Tried, Full};
 ghost use Rattle.agreeing.specs.Candidates.{Candidate, Likely};
 ghost use Rattle.testing.specs.Testing.{HasOperand, HasCondition, HasTest};
@@ -18,6 +18,7 @@ use agreeing::slot_of;
 use meaning::Condition;
 use meaning::Layout;
 use meaning::Operand;
+use plan::At;
 
 // One test.
 
@@ -27,7 +28,7 @@ fn atom(
     nodes: &[u8],
     edges: &[u8],
     rule: &[u8],
-    plan: &[usize; 102],
+    plan: &[usize; At::LENGTH],
     at: &[usize; 12],
     i: usize,
     c: usize,
@@ -48,7 +49,7 @@ fn condition_holds(
     nodes: &[u8],
     edges: &[u8],
     rule: &[u8],
-    plan: &[usize; 102],
+    plan: &[usize; At::LENGTH],
     at: &[usize; 12],
     i: usize,
     c: usize,
@@ -85,7 +86,7 @@ fn test_holds(
     nodes: &[u8],
     edges: &[u8],
     rule: &[u8],
-    plan: &[usize; 102],
+    plan: &[usize; At::LENGTH],
     at: &[usize; 12],
     i: usize,
     c: usize,
@@ -112,7 +113,7 @@ fn tests_so_far(
     nodes: &[u8],
     edges: &[u8],
     rule: &[u8],
-    plan: &[usize; 102],
+    plan: &[usize; At::LENGTH],
     at: &[usize; 12],
     i: usize,
     c: usize,
@@ -121,10 +122,10 @@ fn tests_so_far(
     requires { ⌜ Tried (hostOf l (now nodes) (now edges)) (now rule) (now plan) (now at) i c ⌝ }
     ensures { λ r. ⌜ ((w : Tried (hostOf l (now (nodes .entry)) (now (edges .entry))) (now (rule .entry)) (now (plan .entry)) (now (at .entry)) i c) → r ≡ testsSoFar (hostOf l (now (nodes .entry)) (now (edges .entry))) (w .trial .rule) (w .trial .placed)) ⌝ }
 {
-    let n = plan[3];
+    let n = plan[At::TESTS];
     let mut t: usize = 0;
     while t < n {
-        if plan[34 + t] == i + 1 {
+        if plan[At::DECIDED + t] == i + 1 {
             if !test_holds(l, nodes, edges, rule, plan, at, i, c, t) {
                 return false;
             }
@@ -141,14 +142,14 @@ pub fn all_tests(
     nodes: &[u8],
     edges: &[u8],
     rule: &[u8],
-    plan: &[usize; 102],
+    plan: &[usize; At::LENGTH],
     at: &[usize; 12],
 ) -> bool
     requires { ⌜ Legal l (now nodes) (now edges) ⌝ }
     requires { ⌜ Full (hostOf l (now nodes) (now edges)) (now rule) (now plan) (now at) 12 0 ⌝ }
     ensures { λ r. ⌜ ((w : Full (hostOf l (now (nodes .entry)) (now (edges .entry))) (now (rule .entry)) (now (plan .entry)) (now (at .entry)) 12 0) → r ≡ every (testHolds (hostOf l (now (nodes .entry)) (now (edges .entry))) (w .trial .placed) (assigned (hostOf l (now (nodes .entry)) (now (edges .entry))) (w .trial .rule) (w .trial .placed))) (w .trial .rule .tests)) ⌝ }
 {
-    let n = plan[3];
+    let n = plan[At::TESTS];
     let mut t: usize = 0;
     while t < n {
         if !test_holds(l, nodes, edges, rule, plan, at, 12, 0, t) {
@@ -165,19 +166,19 @@ pub fn rest_fits(
     nodes: &[u8],
     edges: &[u8],
     rule: &[u8],
-    plan: &[usize; 102],
+    plan: &[usize; At::LENGTH],
     at: &[usize; 12],
     i: usize,
     c: usize,
 ) -> bool
     requires { ⌜ Legal l (now nodes) (now edges) ⌝ }
     requires { ⌜ Known (now rule) (now plan) ⌝ }
-    requires { ⌜ (length (now at) ≡ 12) × Inside (hostOf l (now nodes) (now edges)) (getD (now plan) 0 0) (now at) i ⌝ }
+    requires { ⌜ (length (now at) ≡ 12) × Inside (hostOf l (now nodes) (now edges)) (getD (now plan) nodesAt 0) (now at) i ⌝ }
     requires { ⌜ Candidate (hostOf l (now nodes) (now edges)) (now rule) (now plan) i c ⌝ }
-    requires { ⌜ ((w : Known (now rule) (now plan)) → Likely (hostOf l (now nodes) (now edges)) (w .rule) (getD (now plan) (66 + i) 0) (take i (now at)) i c true) ⌝ }
+    requires { ⌜ ((w : Known (now rule) (now plan)) → Likely (hostOf l (now nodes) (now edges)) (w .rule) (getD (now plan) (sortAt + i) 0) (take i (now at)) i c true) ⌝ }
     ensures { λ r. ⌜ ((w : Known (now (rule .entry)) (now (plan .entry))) → r ≡ fits (hostOf l (now (nodes .entry)) (now (edges .entry))) (w .rule) (take i (now (at .entry))) c) ⌝ }
 {
-    let sort = plan[66 + i];
+    let sort = plan[At::SORT + i];
     if sort != 1 {
         if sort != 2 {
             if !agreeing::compared(l, nodes, edges, rule, plan, at, i, c) {

@@ -8,6 +8,7 @@ use borrow.Author.Needs.{needs}
 use native.Mathlib.Omega.{arith}
 use Rattle.agreeing.proofs.item_atom.Statement.{statement}
 use Rattle.agreeing.proofs.item_atom.Tie as tie
+use Rattle.plan.specs.Plan.{nodesAt}
 
 element-copy-out-if1 : tie.Need-element-copy-out-if1
 element-copy-out-if1 c = search needs
@@ -27,7 +28,7 @@ returns c =
 edge-atom-requires : tie.Need-edge-atom-requires
 edge-atom-requires c κs =
     let start = c .before .before .before .before in
-    let n = getD (start .args .plan .now) 0 0 in (
+    let n = getD (start .args .plan .now) nodesAt 0 in (
       start .pre .0,
       (
         second-of (λ (m : ℕ). start .args .x < m) (start .args .j) n _ _ (omega (arith, c .if1 .left)) (start .pre .1 .0 .1),
@@ -38,7 +39,7 @@ edge-atom-requires c κs =
 returns-2 : tie.Need-returns-2
 returns-2 c =
     let start = c .before .before .before .before .before in
-    of-second (λ (m : List ℕ). c .edge-atom .result ≡ getD m (start .args .k) 0) (start .args .j) (getD (start .args .plan .now) 0 0) _ _ (omega (arith, c .before .if1 .left)) (c .edge-atom .ensures)
+    of-second (λ (m : List ℕ). c .edge-atom .result ≡ getD m (start .args .k) 0) (start .args .j) (getD (start .args .plan .now) nodesAt 0) _ _ (omega (arith, c .before .if1 .left)) (c .edge-atom .ensures)
 
 pub item-atom-spec : {M : Type 1} → statement M
 item-atom-spec =

@@ -8,6 +8,7 @@ use borrow.Author.Needs.{needs}
 use native.Mathlib.Omega.{arith}
 use Rattle.agreeing.proofs.item_label.Statement.{statement}
 use Rattle.agreeing.proofs.item_label.Tie as tie
+use Rattle.plan.specs.Plan.{nodesAt}
 
 element-copy-out-if1 : tie.Need-element-copy-out-if1
 element-copy-out-if1 c = search needs
@@ -23,12 +24,12 @@ returns c = of-first (λ (m : List ℕ). Holds m (c .node-label .result)) _ _ _ 
 edge-label-requires : tie.Need-edge-label-requires
 edge-label-requires c κs =
     let start = c .before .before .before .before in
-    (start .pre .0, second-of (λ (m : ℕ). start .args .x < m) (start .args .j) (getD (start .args .plan .now) 0 0) _ _ (omega (arith, c .if1 .left)) (start .pre .1 .1))
+    (start .pre .0, second-of (λ (m : ℕ). start .args .x < m) (start .args .j) (getD (start .args .plan .now) nodesAt 0) _ _ (omega (arith, c .if1 .left)) (start .pre .1 .1))
 
 returns-2 : tie.Need-returns-2
 returns-2 c =
     let start = c .before .before .before .before .before in
-    of-second (λ (m : List ℕ). Holds m (c .edge-label .result)) (start .args .j) (getD (start .args .plan .now) 0 0) _ _ (omega (arith, c .before .if1 .left)) (c .edge-label .ensures)
+    of-second (λ (m : List ℕ). Holds m (c .edge-label .result)) (start .args .j) (getD (start .args .plan .now) nodesAt 0) _ _ (omega (arith, c .before .if1 .left)) (c .edge-label .ensures)
 
 pub item-label-spec : {M : Type 1} → statement M
 item-label-spec =

@@ -8,6 +8,7 @@ use borrow.Author.Needs.{needs}
 use native.Mathlib.Omega.{arith}
 use Rattle.agreeing.proofs.item_length.Statement.{statement}
 use Rattle.agreeing.proofs.item_length.Tie as tie
+use Rattle.plan.specs.Plan.{nodesAt}
 
 element-copy-out-if1 : tie.Need-element-copy-out-if1
 element-copy-out-if1 c = search needs
@@ -23,12 +24,12 @@ returns c = of-first (λ (m : List ℕ). (c .node-length .result ≡ length m) �
 edge-length-requires : tie.Need-edge-length-requires
 edge-length-requires c κs =
     let start = c .before .before .before .before in
-    (start .pre .0, second-of (λ (m : ℕ). start .args .x < m) (start .args .j) (getD (start .args .plan .now) 0 0) _ _ (omega (arith, c .if1 .left)) (start .pre .1 .1))
+    (start .pre .0, second-of (λ (m : ℕ). start .args .x < m) (start .args .j) (getD (start .args .plan .now) nodesAt 0) _ _ (omega (arith, c .if1 .left)) (start .pre .1 .1))
 
 returns-2 : tie.Need-returns-2
 returns-2 c =
     let start = c .before .before .before .before .before in
-    of-second (λ (m : List ℕ). (c .edge-length .result ≡ length m) × (c .edge-length .result ≤ 8)) (start .args .j) (getD (start .args .plan .now) 0 0) _ _ (omega (arith, c .before .if1 .left)) (c .edge-length .ensures)
+    of-second (λ (m : List ℕ). (c .edge-length .result ≡ length m) × (c .edge-length .result ≤ 8)) (start .args .j) (getD (start .args .plan .now) nodesAt 0) _ _ (omega (arith, c .before .if1 .left)) (c .edge-length .ensures)
 
 pub item-length-spec : {M : Type 1} → statement M
 item-length-spec =

@@ -9,10 +9,11 @@ use Rattle.values.specs.Values.{Stored}
 use Rattle.calling.proofs.Choosing.{Passed, none-chosen, Tried, is-rule, chosen, passes}
 use Rattle.calling.proofs.first_rule.Statement.{statement}
 use Rattle.calling.proofs.first_rule.Tie as tie
+use Rattle.plan.specs.Plan.{planLength}
 
 abbrev Inv-loop : tie.InvT-loop
 Inv-loop l image numbers nodes edges plan₀ lens₀ atoms₀ i₀ plan lens atoms i =
-    (i ≤ length numbers) × Passed l image numbers nodes edges i × (length plan ≡ 102) × Stored lens atoms
+    (i ≤ length numbers) × Passed l image numbers nodes edges i × (length plan ≡ planLength) × Stored lens atoms
 
 abbrev μ-loop : tie.MeasureT-loop
 μ-loop l image numbers nodes edges plan₀ lens₀ atoms₀ i₀ plan lens atoms i = length numbers - i

@@ -6,9 +6,10 @@ use lib.ListN.{length}
 use Rattle.values.specs.Values.{Stored}
 use Rattle.match_bench.proofs.repeated.Statement.{statement}
 use Rattle.match_bench.proofs.repeated.Tie as tie
+use Rattle.plan.specs.Plan.{planLength}
 
 abbrev Inv-loop : tie.InvT-loop
-Inv-loop nodes edges image n plan₀ lens₀ atoms₀ left₀ plan lens atoms left = (length plan ≡ 102) × Stored lens atoms
+Inv-loop nodes edges image n plan₀ lens₀ atoms₀ left₀ plan lens atoms left = (length plan ≡ planLength) × Stored lens atoms
 
 abbrev μ-loop : tie.MeasureT-loop
 μ-loop nodes edges image n plan₀ lens₀ atoms₀ left₀ plan lens atoms left = left

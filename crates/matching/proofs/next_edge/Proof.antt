@@ -13,6 +13,7 @@ use Rattle.matching.proofs.Plans.{nodes-of, few-each, few-ends, has-edg
 use Rattle.matching.proofs.Links.{none-more, edge-slots}
 use Rattle.matching.proofs.next_edge.Statement.{statement}
 use Rattle.matching.proofs.next_edge.Tie as tie
+use Rattle.plan.specs.Plan.{nodesAt}
 
 abbrev Inv-loop : tie.InvT-loop
 Inv-loop l nodes edges rule plan at i c k a b s t n x₀ x =
@@ -53,7 +54,7 @@ mul-s c =
       arith,
       c .before .source .ensures (s .pre .0 .known .rule) (s .pre .0 .known .planned .laid),
       few-ends _ _
-          (s .pre .0 .known) (s .args .i - getD (s .args .plan .now) 0 0) (omega arith) .0,
+          (s .pre .0 .known) (s .args .i - getD (s .args .plan .now) nodesAt 0) (omega arith) .0,
       few-each _ _ (s .pre .0 .known) .0,
     )
 
@@ -64,7 +65,7 @@ element-copy-out-s c =
       arith,
       c .before .source .ensures (s .pre .0 .known .rule) (s .pre .0 .known .planned .laid),
       few-ends _ _
-          (s .pre .0 .known) (s .args .i - getD (s .args .plan .now) 0 0) (omega arith) .0,
+          (s .pre .0 .known) (s .args .i - getD (s .args .plan .now) nodesAt 0) (omega arith) .0,
       few-each _ _ (s .pre .0 .known) .0,
     )
 
@@ -75,7 +76,7 @@ mul-t c =
       arith,
       c .before .target .ensures (s .pre .0 .known .rule) (s .pre .0 .known .planned .laid),
       few-ends _ _
-          (s .pre .0 .known) (s .args .i - getD (s .args .plan .now) 0 0) (omega arith) .1,
+          (s .pre .0 .known) (s .args .i - getD (s .args .plan .now) nodesAt 0) (omega arith) .1,
       few-each _ _ (s .pre .0 .known) .0,
     )
 
@@ -86,7 +87,7 @@ element-copy-out-t c =
       arith,
       c .before .target .ensures (s .pre .0 .known .rule) (s .pre .0 .known .planned .laid),
       few-ends _ _
-          (s .pre .0 .known) (s .args .i - getD (s .args .plan .now) 0 0) (omega arith) .1,
+          (s .pre .0 .known) (s .args .i - getD (s .args .plan .now) nodesAt 0) (omega arith) .1,
       few-each _ _ (s .pre .0 .known) .0,
     )
 

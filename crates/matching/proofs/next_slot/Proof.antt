@@ -15,6 +15,7 @@ use Rattle.matching.proofs.Plans.{levels-of, level-room}
 use Rattle.matching.proofs.Links.{none-more, none-join, slots-of, slots-below, slots-few}
 use Rattle.matching.proofs.next_slot.Statement.{statement}
 use Rattle.matching.proofs.next_slot.Tie as tie
+use Rattle.plan.specs.Plan.{sortAt}
 
 abbrev Inv-loop : tie.InvT-loop
 Inv-loop l nodes edges rule plan at i c x₀ x =
@@ -28,7 +29,7 @@ told : (c : tie.After-known-told Inv-loop μ-loop)
     → let l = c .before .before .before .before in
     let a = l .before .before .before .before .args in
     (w : Known (a .rule .now) (a .plan .now))
-    → NextLikely (hostOf (a .l) (a .nodes .now) (a .edges .now)) (w .rule) (getD (a .plan .now) (66 + a .i) 0)
+    → NextLikely (hostOf (a .l) (a .nodes .now) (a .edges .now)) (w .rule) (getD (a .plan .now) (sortAt + a .i) 0)
     (take (a .i) (a .at .now)) (a .i) (l .loop .x) (At (c .before .next .given .0 .0))
 told c w = rw (c .before .next .given .1) at (c .before .before .before .next-likely .ensures w)
 

@@ -15,21 +15,22 @@ use Rattle.matching.proofs.Plans.{nodes-of, levels-of}
 use Rattle.matching.proofs.Odometer.{Going, work, begin, pushed, pushed-less, ended, popped, popped-less, found-first, ready, small}
 use Rattle.matching.proofs.search.Statement.{statement}
 use Rattle.matching.proofs.search.Tie as tie
+use Rattle.plan.specs.Plan.{edgesAt, nodesAt}
 
 abbrev Inv-loop : tie.InvT-loop
 Inv-loop l nodes edges rule plan lens atoms at₀ i₀ c₀ at i c =
     Of rule plan (λ r. Going (hostOf l nodes edges) r at i c)
-    × (work (hostOf l nodes edges) (getD plan 0 0 + getD plan 1 0) at i c
-    ≤ work (hostOf l nodes edges) (getD plan 0 0 + getD plan 1 0) at₀ i₀ c₀)
+    × (work (hostOf l nodes edges) (getD plan nodesAt 0 + getD plan edgesAt 0) at i c
+    ≤ work (hostOf l nodes edges) (getD plan nodesAt 0 + getD plan edgesAt 0) at₀ i₀ c₀)
 
 abbrev μ-loop : tie.MeasureT-loop
-μ-loop l nodes edges rule plan lens atoms at₀ i₀ c₀ at i c = work (hostOf l nodes edges) (getD plan 0 0 + getD plan 1 0) at i c
+μ-loop l nodes edges rule plan lens atoms at₀ i₀ c₀ at i c = work (hostOf l nodes edges) (getD plan nodesAt 0 + getD plan edgesAt 0) at i c
 
 abbrev Inv-found : tie.InvT-found
 Inv-found l nodes edges rule plan lens atoms at₀ i₀ c₀ at i c = Of rule plan (λ r. Going (hostOf l nodes edges) r at i c)
 
 abbrev μ-found : tie.MeasureT-found
-μ-found l nodes edges rule plan lens atoms at₀ i₀ c₀ at i c = work (hostOf l nodes edges) (getD plan 0 0 + getD plan 1 0) at i c
+μ-found l nodes edges rule plan lens atoms at₀ i₀ c₀ at i c = work (hostOf l nodes edges) (getD plan nodesAt 0 + getD plan edgesAt 0) at i c
 
 found-holds : tie.Need-found-holds Inv-loop μ-loop Inv-found μ-found
 found-holds c = λ w. begin _ _ _ refl
@@ -84,7 +85,7 @@ loop-less c =
     let n = took c (s .pre .0 .known) in
     pushed-less (hostOf (a .l) (a .nodes .now) (a .edges .now)) ((s .pre .0 .known) .rule) (few-items (s .pre .0 .known))
     (l .loop .at) (l .loop .i) (l .loop .c) (l .loop .inv .0 (s .pre .0 .known)) (n .0) (c .before .s .given .0 .0) (n .1)
-    (getD (a .plan .now) 0 0 + getD (a .plan .now) 1 0) (levels-of _ _ (s .pre .0 .known))
+    (getD (a .plan .now) nodesAt 0 + getD (a .plan .now) edgesAt 0) (levels-of _ _ (s .pre .0 .known))
 
 loop-again : tie.Need-loop-again Inv-loop μ-loop Inv-found μ-found
 loop-again c =
@@ -155,7 +156,7 @@ found-less c =
       l .loop .inv .1,
       popped-less (hostOf (a .l) (a .nodes .now) (a .edges .now)) ((s .pre .0 .known) .rule)
           (few-items (s .pre .0 .known)) (l .loop .at) (l .loop .i) (l .loop .c) (l .loop .inv .0 (s .pre .0 .known))
-          (getD (a .plan .now) 0 0 + getD (a .plan .now) 1 0) (levels-of _ _ (s .pre .0 .known)) (omega arith),
+          (getD (a .plan .now) nodesAt 0 + getD (a .plan .now) edgesAt 0) (levels-of _ _ (s .pre .0 .known)) (omega arith),
     )
 
 found-again : tie.Need-found-again Inv-loop μ-loop Inv-found μ-found

@@ -1,6 +1,6 @@
 -- `mark` meets its contract: an item's first byte is its mark.
 use borrow.Author.Needs.{needs}
-use Rattle.plan.proofs.Places.{item-inside, marked}
+use Rattle.plan.specs.Places.{item-inside, marked}
 use Rattle.plan.proofs.mark.Statement.{statement}
 use Rattle.plan.proofs.mark.Tie as tie
 

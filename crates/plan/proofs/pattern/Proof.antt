@@ -1,7 +1,7 @@
 -- `pattern` meets its contract: the label lies behind a node's two bytes or an edge's three.
 use native.Mathlib.Omega.{arith}
 use borrow.Author.Needs.{needs}
-use Rattle.plan.proofs.Places.{node-inside, edge-inside, item-there, node-pattern, edge-pattern}
+use Rattle.plan.specs.Places.{node-inside, edge-inside, item-there, node-pattern, edge-pattern}
 use Rattle.plan.proofs.pattern.Statement.{statement}
 use Rattle.plan.proofs.pattern.Tie as tie
 

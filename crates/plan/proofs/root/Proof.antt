@@ -2,7 +2,7 @@
 use mathlib.Core.Path.{sym}
 use native.Mathlib.Omega.{arith}
 use borrow.Author.Needs.{needs}
-use Rattle.plan.proofs.Places.{planned-node, node-there}
+use Rattle.plan.specs.Places.{planned-node, node-there}
 use Rattle.plan.proofs.root.Statement.{statement}
 use Rattle.plan.proofs.root.Tie as tie
 

@@ -1,6 +1,6 @@
 -- `test` meets its contract: the field of a test's number is read as the test.
 use borrow.Author.Needs.{needs}
-use Rattle.plan.proofs.Places.{place-there, test-none, test-there}
+use Rattle.plan.specs.Places.{place-there, test-none, test-there}
 use Rattle.plan.proofs.test.Statement.{statement}
 use Rattle.plan.proofs.test.Tie as tie
 

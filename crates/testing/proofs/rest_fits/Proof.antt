@@ -10,7 +10,7 @@ use Rattle.meaning.specs.Layout.{Host, hostOf}
 use Rattle.meaning.specs.Matching.{leftNodes}
 use Rattle.meaning.specs.Assigned.{assigned}
 use Rattle.meaning.specs.FirstMatch.{labelAgrees}
-use Rattle.plan.specs.Plan.{labelOf}
+use Rattle.plan.specs.Plan.{labelOf, sortAt}
 use Rattle.agreeing.specs.Placed.{Known, labelAt, Tried}
 use Rattle.agreeing.specs.Trials.{before-length, item-there, triedItem}
 use Rattle.testing.proofs.Rest.{alone-agrees, compared-is, compared-no, left-tests}
@@ -37,12 +37,12 @@ Agrees s w =
     labelAgrees (w .rule) (assigned (host s) (w .rule) (take (s .args .i) (s .args .at .now) ++ s .args .c ∷ [])) (labelOf (w .rule) (s .args .i)) (labelAt (host s) (leftNodes (w .rule)) (s .args .i) (s .args .c))
     ≡ true
 
-by-length : (s : tie.Start) (w : Rule s) → getD (s .args .plan .now) (66 + s .args .i) 0 ≡ 1 → Agrees s w
+by-length : (s : tie.Start) (w : Rule s) → getD (s .args .plan .now) (sortAt + s .args .i) 0 ≡ 1 → Agrees s w
 by-length s w e =
     let k = item-there w (s .pre .1 .1 .1 .0) in
     alone-agrees (host s) (w .rule) (take (s .args .i) (s .args .at .now)) (s .args .i) (s .args .c) (placed s) k (w .planned .laid .holds) (s .pre .1 .1 .1 .1 w .label refl .length refl) (w .planned .labelled _ k .alone e)
 
-by-atom : (s : tie.Start) (w : Rule s) → getD (s .args .plan .now) (66 + s .args .i) 0 ≡ 2 → Agrees s w
+by-atom : (s : tie.Start) (w : Rule s) → getD (s .args .plan .now) (sortAt + s .args .i) 0 ≡ 2 → Agrees s w
 by-atom s w e = s .pre .1 .1 .1 .1 w .label refl .constant refl e _
 
 add-sort : tie.Need-add-sort

@@ -1,0 +1,5 @@
+mod Variables
+mod Stores
+mod Deciding
+mod Filling
+mod Labelling
