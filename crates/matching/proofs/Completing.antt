@@ -1,5 +1,5 @@
--- A full placement: what its items and the plan's numbers are, and that nothing dangles where no node goes. Rests on agreeing's
--- Trials and on the meaning's FirstMatch.
+-- A full placement: what its items and the plan's numbers are, and that nothing dangles where no node goes. Rests on Plans, on
+-- agreeing's Trials and on the meaning's FirstMatch.
 use mathlib.Core.Path.{_≡_}
 use mathlib.Core.Bool.{false}
 use mathlib.Core.List.{List}

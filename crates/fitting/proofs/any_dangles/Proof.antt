@@ -1,11 +1,11 @@
 -- `any_dangles` meets its contract. The loop's invariant: none of the edges passed dangles. The measure is the number of those left.
-use Prim.Native.Nat.{_+_, _-_, _≤_}
+use Prim.Native.Nat.{_-_, _≤_}
 use mathlib.Core.Path.{_≡_, refl}
 use mathlib.Core.Bool.{false}
 use lib.ListN.{take}
 use Rattle.meaning.specs.Basics.{any}
 use Rattle.meaning.specs.Image.{Rule}
-use Rattle.meaning.specs.Matching.{leftNodes, leftEdges}
+use Rattle.meaning.specs.Matching.{total}
 use Rattle.meaning.specs.FirstMatch.{dangles}
 use Rattle.meaning.specs.Layout.{hostOf}
 use Rattle.fitting.specs.Fitting.{Numbers}
@@ -16,7 +16,7 @@ use Rattle.fitting.proofs.any_dangles.Statement.{statement}
 use Rattle.fitting.proofs.any_dangles.Tie as tie
 
 abbrev Inv-loop : tie.InvT-loop
-Inv-loop l nodes edges plan at n x₀ x = (x ≤ n) × ((r : Rule) → Numbers plan r → any (dangles (hostOf l nodes edges) r (take (leftNodes r + leftEdges r) at)) x ≡ false)
+Inv-loop l nodes edges plan at n x₀ x = (x ≤ n) × ((r : Rule) → Numbers plan r → any (dangles (hostOf l nodes edges) r (take (total r) at)) x ≡ false)
 
 abbrev μ-loop : tie.MeasureT-loop
 μ-loop l nodes edges plan at n x₀ x = n - x
