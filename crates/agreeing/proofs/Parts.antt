@@ -12,7 +12,7 @@ use borrow.Author.Tests.{eqb-true}
 use lib.ListN.{length, getD, take, drop, length-drop, drop-of-length-le}
 use lib.Seq.{take-all, take-nil, drop-drop}
 use Rattle.meaning.specs.Basics.{choose, either}
-use Rattle.meaning.specs.Image.{Rule}
+use Rattle.meaning.specs.Image.{Rule, mostItems}
 use Rattle.meaning.specs.References.{labels, takesList, lists, ruleHolds}
 use Rattle.meaning.specs.Matching.{leftNodes, leftEdges, total}
 use Rattle.meaning.specs.Assigned.{isVariable, share, spare, taken, orElse}
@@ -119,7 +119,7 @@ module _ {bs plan : List ℕ} {v : ℕ} (w : OnLeft bs plan v) where
   item-has : has v pattern ≡ true
   item-has = has-first v (labels (w .rule .left)) (omega (arith, w .placed, labels-length (w .rule)))
 
-  pub item-low : getD plan (firstAt + v) 0 < 12
+  pub item-low : getD plan (firstAt + v) 0 < mostItems
   item-low = let i = w .planned .laid .items in omega (arith, item-is, w .placed, i .fewNodes, i .fewEdges)
 
   pub item-counted : (s : Counts) → s .elements ≡ getD plan (elementsAt + getD plan (firstAt + v) 0) 0 → s .lists ≡ getD plan (listsAt + getD plan (firstAt + v) 0) 0 → Counted (w .rule) pattern s

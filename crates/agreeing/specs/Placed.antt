@@ -7,7 +7,7 @@ use lib.ListN.{length, getD}
 use lib.Dec.{eqb, ltb}
 use Rattle.meaning.specs.Basics.{choose}
 use Rattle.meaning.specs.Layout.{Host}
-use Rattle.meaning.specs.Image.{Rule}
+use Rattle.meaning.specs.Image.{Rule, mostItems}
 use Rattle.meaning.specs.Matching.{nodeAt, edgeAt, leftNodes, total}
 use Rattle.plan.specs.Plan.{Planned}
 
@@ -40,7 +40,7 @@ slotOf at i c j = choose (eqb j i) c (getD at j 0)
 pub record Trial (h : Host) (bs plan at : List ℕ) (i c : ℕ) : Type 0 where
   pub rule : Rule
   pub planned : Planned bs rule plan
-  pub room : length at ≡ 12
+  pub room : length at ≡ mostItems
   pub placed : List ℕ
   pub few : length placed ≤ total rule
   pub slot : (j : ℕ) → j < length placed → slotOf at i c j ≡ getD placed j 0

@@ -7,6 +7,7 @@ use native.Mathlib.Omega.{arith}
 use native.Mathlib.Decide.{ℕ-discrete}
 use lib.ListN.{length, getD, take, length-append, List·getD-append}
 use lib.Seq.{getD-at, getD-take, length-take-le}
+use Rattle.meaning.specs.Image.{mostItems}
 use Rattle.meaning.specs.Layout.{Host}
 use Rattle.meaning.specs.Matching.{leftNodes, total}
 use Rattle.meaning.specs.Laws.Tests.{choose-eq, choose-ne}
@@ -45,7 +46,7 @@ module _ (at : List ℕ) (i c : ℕ) (fits : i ≤ length at) where
 
 -- All slots.
 
-module _ (at : List ℕ) (n : ℕ) (room : length at ≡ 12) (fits : n ≤ 12) where
+module _ (at : List ℕ) (n : ℕ) (room : length at ≡ mostItems) (fits : n ≤ mostItems) where
   pub full-length : length (take n at) ≡ n
   full-length = length-take-le n at (omega arith)
 
@@ -59,11 +60,11 @@ module _ (at : List ℕ) (n : ℕ) (room : length at ≡ 12) (fits : n ≤ 12) w
 
 -- Items of whichever rule the plan is of.
 
-pub few-items : {bs plan : List ℕ} (w : Known bs plan) → total (w .rule) ≤ 12
+pub few-items : {bs plan : List ℕ} (w : Known bs plan) → total (w .rule) ≤ mostItems
 few-items w = let i = w .planned .laid .items in omega (arith, i .fewNodes, i .fewEdges)
 
 -- the items before one of them are placed
-pub before-length : {bs plan : List ℕ} (w : Known bs plan) (at : List ℕ) (i : ℕ) → length at ≡ 12 → i < total (w .rule) → length (take i at) ≡ i
+pub before-length : {bs plan : List ℕ} (w : Known bs plan) (at : List ℕ) (i : ℕ) → length at ≡ mostItems → i < total (w .rule) → length (take i at) ≡ i
 before-length w at i room k = length-take-le i at (omega (arith, few-items w))
 
 -- the item of a candidate is there, and the slot is inside its table
@@ -81,7 +82,7 @@ module _ {h : Host} {bs plan : List ℕ} {i c : ℕ} (w : Known bs plan) (k : Ca
 
 -- Trials.
 
-module _ (h : Host) (bs plan at : List ℕ) (w : Known bs plan) (room : length at ≡ 12) where
+module _ (h : Host) (bs plan at : List ℕ) (w : Known bs plan) (room : length at ≡ mostItems) where
   -- item i is tried at slot c
   abbrev pub tried : (i c : ℕ) → i < total (w .rule) → Inside h (leftNodes (w .rule)) at i
       → c < slots h (leftNodes (w .rule)) i → Tried h bs plan at i c

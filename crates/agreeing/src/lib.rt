@@ -3,6 +3,7 @@
 ghost use mathlib.Core.Path.{_≡_};
 ghost use Prim.Native.Nat.{_+_, _<_, _≤_};
 ghost use lib.ListN.{length, getD};
+ghost use Rattle.meaning.specs.Image.{mostItems};
 ghost use Rattle.meaning.specs.Basics.{same};
 ghost use Rattle.meaning.specs.Layout.{hostOf};
 ghost use Rattle.meaning.specs.Matching.{leftNodes, atomsOf, instance};
@@ -16,14 +17,15 @@ ghost use Rattle.agreeing.specs.Candidates.{Candidate, Guessed};
 use labels::Label;
 use meaning::Element;
 use meaning::Layout;
+use meaning::Room;
 use parts::Front;
 use plan::At;
 
 // The label of an item.
 
 // The slot of item j, where item i is being tried at slot c.
-pub fn slot_of(at: &[usize; 12], i: usize, c: usize, j: usize) -> usize
-    requires { ⌜ (length (now at) ≡ 12) × (j < 12) ⌝ }
+pub fn slot_of(at: &[usize; Room::ITEMS], i: usize, c: usize, j: usize) -> usize
+    requires { ⌜ (length (now at) ≡ mostItems) × (j < mostItems) ⌝ }
     ensures { λ r. ⌜ r ≡ slotOf (now (at .entry)) i c j ⌝ }
 {
     if j == i {
@@ -125,7 +127,7 @@ pub fn value(
     edges: &[u8],
     rule: &[u8],
     plan: &[usize; At::LENGTH],
-    at: &[usize; 12],
+    at: &[usize; Room::ITEMS],
     i: usize,
     c: usize,
     v: usize,
@@ -147,7 +149,7 @@ pub fn variable_atom(
     edges: &[u8],
     rule: &[u8],
     plan: &[usize; At::LENGTH],
-    at: &[usize; 12],
+    at: &[usize; Room::ITEMS],
     i: usize,
     c: usize,
     v: usize,
@@ -180,7 +182,7 @@ fn variable_agrees(
     edges: &[u8],
     rule: &[u8],
     plan: &[usize; At::LENGTH],
-    at: &[usize; 12],
+    at: &[usize; Room::ITEMS],
     i: usize,
     c: usize,
     v: usize,
@@ -208,7 +210,7 @@ fn element_agrees(
     edges: &[u8],
     rule: &[u8],
     plan: &[usize; At::LENGTH],
-    at: &[usize; 12],
+    at: &[usize; Room::ITEMS],
     i: usize,
     c: usize,
     e: Element,
@@ -240,7 +242,7 @@ fn elements_agree(
     edges: &[u8],
     rule: &[u8],
     plan: &[usize; At::LENGTH],
-    at: &[usize; 12],
+    at: &[usize; Room::ITEMS],
     i: usize,
     c: usize,
     p: &[u8],
@@ -307,7 +309,7 @@ pub fn compared(
     edges: &[u8],
     rule: &[u8],
     plan: &[usize; At::LENGTH],
-    at: &[usize; 12],
+    at: &[usize; Room::ITEMS],
     i: usize,
     c: usize,
 ) -> bool

@@ -8,7 +8,7 @@ use Prim.Native.Nat.{ℕ, _/_}
 use lib.ListN.{length, take}
 use Rattle.meaning.specs.Basics.{absent}
 use Rattle.meaning.specs.Layout.{recordLength, hostOf}
-use Rattle.meaning.specs.Image.{Rule, rule}
+use Rattle.meaning.specs.Image.{Rule, rule, mostItems}
 use Rattle.meaning.specs.References.{names}
 use Rattle.meaning.specs.Assigned.{assigned}
 use Rattle.meaning.specs.FirstMatch.{firstMatch}
@@ -31,7 +31,7 @@ appliedOf (Stopped w) g = hindered w
 module _ (L : Layout) where
   -- the bytes are a legal rule, the slots are its first match, and the arrays hold the values of its variables
   pub record AtMatch (nodes edges bs slots lens atoms : List ℕ) : Type 0 where
-    pub room : length slots ≡ 12
+    pub room : length slots ≡ mostItems
     pub arrays : Stored lens atoms
     pub tree : Rule
     pub is : rule bs ≡ some tree

@@ -9,7 +9,7 @@ use lib.ListN.{length, getD, take, length-map, length-take, List·getD-eq-defaul
 use lib.Seq.{getD-take}
 use Rattle.meaning.specs.Layout.{Node, Edge, free, live, ofNode, ofEdge, readNodes}
 use Rattle.meaning.specs.Tags.{anyMark}
-use Rattle.meaning.specs.Image.{ruleNode, ruleEdge}
+use Rattle.meaning.specs.Image.{ruleNode, ruleEdge, mostItems}
 use Rattle.meaning.specs.Matching.{nodeIn}
 use Rattle.meaning.specs.Assigned.{assigned}
 use Rattle.meaning.specs.Applying.{labelValue, Ledger, store, between}
@@ -154,7 +154,7 @@ module _ {L : Layout} {bs lens atoms : List ℕ} {k : ℕ} (w : Made L bs lens a
       List·getD-eq-default (map live (take k (w .right .nodes))) free
       (rw (length-map (take k (w .right .nodes)) live, length-take k (w .right .nodes)) (omega arith))
 
-  module _ (places : List ℕ) (room : length places ≡ 12) (j : ℕ) (h : j < length (w .tree .right .edges)) where
+  module _ (places : List ℕ) (room : length places ≡ mostItems) (j : ℕ) (h : j < length (w .tree .right .edges)) where
     abbrev the-edge : Edge
     the-edge = getD (w .right .edges) j blankEdge
 

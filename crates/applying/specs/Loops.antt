@@ -9,7 +9,7 @@ use lib.Seq.{getD-set-other, getD-take, getD-drop, take-suc-set, take-all}
 use lib.Dec.{eqb}
 use Rattle.meaning.specs.Basics.{choose}
 use Rattle.meaning.specs.Layout.{Slot, Node, Edge, free, live, ofNode, ofEdge, put, isLive, nodeLength, recordLength, readNodes, readEdges}
-use Rattle.meaning.specs.Image.{RuleNode, RuleEdge, ruleNode, ruleEdge, ruleGraph}
+use Rattle.meaning.specs.Image.{RuleNode, RuleEdge, ruleNode, ruleEdge, ruleGraph, mostItems}
 use Rattle.meaning.specs.Tags.{anyMark}
 use Rattle.meaning.specs.Matching.{nodeIn, nodeSlot}
 use Rattle.meaning.specs.Applying.{Ledger, store, stores, nodesChange, lowestFree, freeSlots, between, addEdges}
@@ -161,7 +161,7 @@ module _ {L : Layout} {nodes₀ edges journal₀ bs lens atoms at : List ℕ} {u
       (x : ℕ) {nodes′ journal′ : List ℕ}
       → x ≡ lowestFree (readNodes L nodes)
       → ((c : Comes L p lens atoms) → Leads L (store (ofNode x (live (c .made .node))) (ledgerOf L nodes edges journal (used + i))) nodes′ edges journal′ (used + i + 1))
-      → length nodes′ ≡ length nodes → length journal′ ≡ length journal → length places ≡ 12
+      → length nodes′ ≡ length nodes → length journal′ ≡ length journal → length places ≡ mostItems
       → Growing L nodes₀ edges journal₀ bs lens atoms at used k new (i + 1) nodes′ journal′ (set places (k + i) x)
   growing-more i h {nodes} {journal} {places} so-far p e x {nodes′} {journal′} q l a b room w =
       let ns : List Node = drop k (w .made .right .nodes) in
@@ -177,7 +177,7 @@ module _ {L : Layout} {nodes₀ edges journal₀ bs lens atoms at : List ℕ} {u
             (append-assoc (take k at) (coming L nodes₀ edges journal₀ used ns i .slots) (x ∷ []));
       }
 
-  pub growing-all : (i : ℕ) {nodes journal places : List ℕ} → Growing L nodes₀ edges journal₀ bs lens atoms at used k new i nodes journal places → i ≡ new → length places ≡ 12
+  pub growing-all : (i : ℕ) {nodes journal places : List ℕ} → Growing L nodes₀ edges journal₀ bs lens atoms at used k new i nodes journal places → i ≡ new → length places ≡ mostItems
       → (w : Grows L nodes₀ journal₀ bs lens atoms at used k new)
       → Grew L (drop k (w .made .right .nodes)) nodes₀ edges journal₀ at used k new places nodes journal
   growing-all i {nodes} {journal} {places} so-far e room w =

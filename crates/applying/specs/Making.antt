@@ -9,7 +9,7 @@ use lib.ListN.{length, getD, take}
 use lib.Dec.{eqb}
 use Rattle.meaning.specs.Basics.{choose}
 use Rattle.meaning.specs.Layout.{Node, Edge, Host, free, liveAt, nodeLength, recordLength, readNodes, readEdges}
-use Rattle.meaning.specs.Image.{RuleNode, RuleEdge, Rule, ruleNode, ruleEdge, ruleGraph}
+use Rattle.meaning.specs.Image.{RuleNode, RuleEdge, Rule, ruleNode, ruleEdge, ruleGraph, mostItems}
 use Rattle.meaning.specs.Tags.{anyMark}
 use Rattle.meaning.specs.References.{names}
 use Rattle.meaning.specs.Matching.{leftNodes, leftEdges, nodeIn, nodeAt, nodeSlot, total}
@@ -68,7 +68,7 @@ module _ (L : Layout) where
   pub record Joins (p lens atoms places : List ℕ) : Type 0 where
     pub stored : Stored lens atoms
     pub few : L .atoms ≤ 8
-    pub room : length places ≡ 12
+    pub room : length places ≡ mostItems
     pub rule : RuleEdge
     pub is : ruleEdge p ≡ some rule
     pub edge : Edge
@@ -76,7 +76,7 @@ module _ (L : Layout) where
     pub mark : edge .mark ≡ rule .mark
     pub source : edge .source ≡ rule .source
     pub target : edge .target ≡ rule .target
-    pub inside : (edge .source < 12) × (edge .target < 12)
+    pub inside : (edge .source < mostItems) × (edge .target < mostItems)
     pub legal : LegalEdge L (between places edge)
 
   -- The whole right side.
@@ -108,8 +108,8 @@ module _ (L : Layout) where
   -- the n left nodes, in the slots, are to change
   pub record Alters (nodes journal bs lens atoms at : List ℕ) (used k n : ℕ) : Type 0 where
     pub made : Made bs lens atoms k
-    pub room : length at ≡ 12
-    pub few : n ≤ 12
+    pub room : length at ≡ mostItems
+    pub few : n ≤ mostItems
     pub records : used + n ≤ length journal / recordLength L
     pub inside : k ≤ n
     pub host : made .host .nodes ≡ readNodes L nodes
@@ -121,7 +121,7 @@ module _ (L : Layout) where
   -- `new` right nodes are to come; the slots of those of the interface are known
   pub record Grows (nodes journal bs lens atoms at : List ℕ) (used k new : ℕ) : Type 0 where
     pub made : Made bs lens atoms k
-    pub room : length at ≡ 12
+    pub room : length at ≡ mostItems
     pub counted : k + new ≡ length (made .tree .right .nodes)
     pub free : new ≤ freeSlots (readNodes L nodes)
     pub records : used + new ≤ length journal / recordLength L
@@ -130,13 +130,13 @@ module _ (L : Layout) where
   pub record Grew (ns : List Node) (nodes edges journal at : List ℕ) (used k new : ℕ) (places nodes′ journal′ : List ℕ) : Type 0 where
     pub went : Went L (addNodes ns (ledgerOf L nodes edges journal used) .ledger) nodes edges journal nodes′ edges journal′ (used + new)
     pub lie : take (k + new) places ≡ take k at ++ addNodes ns (ledgerOf L nodes edges journal used) .slots
-    pub room : length places ≡ 12
+    pub room : length places ≡ mostItems
 
   -- `count` right edges are to come, between the places
   pub record Edges (edges journal bs lens atoms places : List ℕ) (used count : ℕ) : Type 0 where
     pub interface : ℕ
     pub made : Made bs lens atoms interface
-    pub room : length places ≡ 12
+    pub room : length places ≡ mostItems
     pub counted : count ≡ length (made .tree .right .edges)
     pub ends : (i : ℕ) → i < count → LegalEdge L (between (take (length (made .tree .right .nodes)) places) (getD (made .right .edges) i blankEdge))
     pub free : count ≤ freeSlots (readEdges L edges)

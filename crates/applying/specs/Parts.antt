@@ -9,7 +9,7 @@ use borrow.Author.Tests.{leb-true}
 use lib.ListN.{length, getD, take, drop}
 use lib.Seq.{getD-take, take-take, take-add, drop-at, length-take-le}
 use Rattle.meaning.specs.Layout.{free, nodeLength, edgeLength, recordLength, readNode, readEdge}
-use Rattle.meaning.specs.Image.{Rule, ruleGraph}
+use Rattle.meaning.specs.Image.{Rule, ruleGraph, mostItems}
 use Rattle.meaning.specs.Matching.{leftNodes, leftEdges, Match, total}
 use Rattle.meaning.specs.Applying.{Right, rightSide, Ledger, Added, stores, freeSlots, edgesGo, nodesChange, addNodes, between, addEdges, changed, recordsOf, hindrance}
 use Rattle.meaning.specs.Laws.Tests.{isSome-true}
@@ -136,7 +136,7 @@ module _ {L : Layout} {nodes edges journal : List ℕ} {used : ℕ} {bs slots le
         -- Left edges go.
 
         pub go-next : Held L nodes edges journal used
-            × ((used + m ≤ length journal / recordLength L) × (n + m ≤ length slots) × (length slots ≡ 12))
+            × ((used + m ≤ length journal / recordLength L) × (n + m ≤ length slots) × (length slots ≡ mostItems))
             × Below (length edges / edgeLength L) slots n m
         go-next =
             let a = few .leftNodes in

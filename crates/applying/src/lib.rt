@@ -16,6 +16,7 @@ ghost use Rattle.applying.specs.Application.{AtMatch, Applies};
 ghost use Rattle.applying.specs.Making.{Takes, Comes, Joins, Changes, Alters, Grows, Grew, Edges, Unhindered, Changed, LeftChanged, Halfway, RightCame};
 use ledger::Applied;
 use meaning::Layout;
+use meaning::Room;
 use meaning::Stop;
 
 // What an application came to, and the records used after it.
@@ -32,8 +33,8 @@ fn take_values(
     journal: &mut [u8],
     used: usize,
     p: &[u8],
-    lens: &[usize; 6],
-    atoms: &[u32; 48],
+    lens: &[usize; Room::VARIABLES],
+    atoms: &[u32; Room::ATOMS],
     x: usize,
 )
     requires { ⌜ Held l (now nodes) (now edges) (now journal) used ⌝ }
@@ -61,8 +62,8 @@ fn come_node(
     journal: &mut [u8],
     used: usize,
     p: &[u8],
-    lens: &[usize; 6],
-    atoms: &[u32; 48],
+    lens: &[usize; Room::VARIABLES],
+    atoms: &[u32; Room::ATOMS],
 ) -> usize
     requires { ⌜ Held l (now nodes) (now edges) (now journal) used ⌝ }
     requires { ⌜ (0 < freeSlots (readNodes l (now nodes))) × (used < length (now journal) / recordLength l) ⌝ }
@@ -85,9 +86,9 @@ fn come_edge(
     journal: &mut [u8],
     used: usize,
     p: &[u8],
-    lens: &[usize; 6],
-    atoms: &[u32; 48],
-    places: &[usize; 12],
+    lens: &[usize; Room::VARIABLES],
+    atoms: &[u32; Room::ATOMS],
+    places: &[usize; Room::ITEMS],
 ) -> usize
     requires { ⌜ Held l (now nodes) (now edges) (now journal) used ⌝ }
     requires { ⌜ (0 < freeSlots (readEdges l (now edges))) × (used < length (now journal) / recordLength l) ⌝ }
@@ -123,8 +124,8 @@ fn change_node(
     used: usize,
     right: &[u8],
     k: usize,
-    lens: &[usize; 6],
-    atoms: &[u32; 48],
+    lens: &[usize; Room::VARIABLES],
+    atoms: &[u32; Room::ATOMS],
     i: usize,
     x: usize,
 )
@@ -159,9 +160,9 @@ fn change_nodes(
     used: usize,
     right: &[u8],
     k: usize,
-    lens: &[usize; 6],
-    atoms: &[u32; 48],
-    slots: &[usize; 12],
+    lens: &[usize; Room::VARIABLES],
+    atoms: &[u32; Room::ATOMS],
+    slots: &[usize; Room::ITEMS],
     n: usize,
 )
     requires { ⌜ Held l (now nodes) (now edges) (now journal) used ⌝ }
@@ -196,11 +197,11 @@ fn new_nodes(
     used: usize,
     right: &[u8],
     k: usize,
-    lens: &[usize; 6],
-    atoms: &[u32; 48],
-    slots: &[usize; 12],
+    lens: &[usize; Room::VARIABLES],
+    atoms: &[u32; Room::ATOMS],
+    slots: &[usize; Room::ITEMS],
     new: usize,
-) -> [usize; 12]
+) -> [usize; Room::ITEMS]
     requires { ⌜ Held l (now nodes) (now edges) (now journal) used ⌝ }
     requires { ⌜ Grows l (now nodes) (now journal) (now right) (now lens) (now atoms) (now slots) used k new ⌝ }
     ensures { λ r. ⌜ ((w : Grows l (now (nodes .entry)) (now (journal .entry)) (now (right .entry)) (now (lens .entry)) (now (atoms .entry)) (now (slots .entry)) used k new) → Grew l (drop k (w .made .right .nodes)) (now (nodes .entry)) (now (edges .entry)) (now (journal .entry)) (now (slots .entry)) used k new r (now (nodes .exit)) (now (journal .exit))) ⌝ }
@@ -223,9 +224,9 @@ fn new_edges(
     journal: &mut [u8],
     used: usize,
     right: &[u8],
-    lens: &[usize; 6],
-    atoms: &[u32; 48],
-    places: &[usize; 12],
+    lens: &[usize; Room::VARIABLES],
+    atoms: &[u32; Room::ATOMS],
+    places: &[usize; Room::ITEMS],
     count: usize,
 )
     requires { ⌜ Held l (now nodes) (now edges) (now journal) used ⌝ }
@@ -248,9 +249,9 @@ fn hindrance(
     journal: &[u8],
     used: usize,
     rule: &[u8],
-    slots: &[usize; 12],
-    lens: &[usize; 6],
-    atoms: &[u32; 48],
+    slots: &[usize; Room::ITEMS],
+    lens: &[usize; Room::VARIABLES],
+    atoms: &[u32; Room::ATOMS],
 ) -> Applied
     requires { ⌜ Running l (now nodes) (now edges) (now journal) used ⌝ }
     requires { ⌜ AtMatch l (now nodes) (now edges) (now rule) (now slots) (now lens) (now atoms) ⌝ }
@@ -279,9 +280,9 @@ fn change_left(
     journal: &mut [u8],
     used: usize,
     rule: &[u8],
-    slots: &[usize; 12],
-    lens: &[usize; 6],
-    atoms: &[u32; 48],
+    slots: &[usize; Room::ITEMS],
+    lens: &[usize; Room::VARIABLES],
+    atoms: &[u32; Room::ATOMS],
 ) -> usize
     requires { ⌜ Unhindered l (now nodes) (now edges) (now journal) used (now rule) (now slots) (now lens) (now atoms) ⌝ }
     ensures { λ r. ⌜ LeftChanged l (now (nodes .entry)) (now (edges .entry)) (now (journal .entry)) used (now (rule .entry)) (now (slots .entry)) (now (lens .entry)) (now (atoms .entry)) r (now (nodes .exit)) (now (edges .exit)) (now (journal .exit)) ⌝ }
@@ -317,9 +318,9 @@ fn add_right(
     journal: &mut [u8],
     used: usize,
     rule: &[u8],
-    slots: &[usize; 12],
-    lens: &[usize; 6],
-    atoms: &[u32; 48],
+    slots: &[usize; Room::ITEMS],
+    lens: &[usize; Room::VARIABLES],
+    atoms: &[u32; Room::ATOMS],
 ) -> usize
     requires { ⌜ Halfway l (now nodes) (now edges) (now journal) used (now rule) (now slots) (now lens) (now atoms) ⌝ }
     ensures { λ r. ⌜ RightCame l (now (nodes .entry)) (now (edges .entry)) (now (journal .entry)) used (now (rule .entry)) (now (slots .entry)) (now (lens .entry)) (now (atoms .entry)) r (now (nodes .exit)) (now (edges .exit)) (now (journal .exit)) ⌝ }
@@ -365,9 +366,9 @@ fn change(
     journal: &mut [u8],
     used: usize,
     rule: &[u8],
-    slots: &[usize; 12],
-    lens: &[usize; 6],
-    atoms: &[u32; 48],
+    slots: &[usize; Room::ITEMS],
+    lens: &[usize; Room::VARIABLES],
+    atoms: &[u32; Room::ATOMS],
 ) -> usize
     requires { ⌜ Unhindered l (now nodes) (now edges) (now journal) used (now rule) (now slots) (now lens) (now atoms) ⌝ }
     ensures { λ r. ⌜ Changed l (now (nodes .entry)) (now (edges .entry)) (now (journal .entry)) used (now (rule .entry)) (now (slots .entry)) (now (lens .entry)) (now (atoms .entry)) r (now (nodes .exit)) (now (edges .exit)) (now (journal .exit)) ⌝ }
@@ -393,9 +394,9 @@ fn change_and_test(
     journal: &mut [u8],
     used: usize,
     rule: &[u8],
-    slots: &[usize; 12],
-    lens: &[usize; 6],
-    atoms: &[u32; 48],
+    slots: &[usize; Room::ITEMS],
+    lens: &[usize; Room::VARIABLES],
+    atoms: &[u32; Room::ATOMS],
 ) -> After
     requires { ⌜ Unhindered l (now nodes) (now edges) (now journal) used (now rule) (now slots) (now lens) (now atoms) ⌝ }
     ensures { λ a. ⌜ Applies l (now (nodes .entry)) (now (edges .entry)) (now (journal .entry)) used (now (rule .entry)) (now (slots .entry)) a (now (nodes .exit)) (now (edges .exit)) (now (journal .exit)) ⌝ }
@@ -423,9 +424,9 @@ pub fn apply(
     journal: &mut [u8],
     used: usize,
     rule: &[u8],
-    slots: &[usize; 12],
-    lens: &[usize; 6],
-    atoms: &[u32; 48],
+    slots: &[usize; Room::ITEMS],
+    lens: &[usize; Room::VARIABLES],
+    atoms: &[u32; Room::ATOMS],
 ) -> After
     requires { ⌜ Running l (now nodes) (now edges) (now journal) used ⌝ }
     requires { ⌜ AtMatch l (now nodes) (now edges) (now rule) (now slots) (now lens) (now atoms) ⌝ }

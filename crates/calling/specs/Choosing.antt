@@ -7,7 +7,7 @@ use mathlib.Core.List.{List}
 use Prim.Native.Nat.{ℕ, _<_}
 use lib.ListN.{length, take}
 use Rattle.meaning.specs.Basics.{absent}
-use Rattle.meaning.specs.Image.{Rule, program}
+use Rattle.meaning.specs.Image.{Rule, program, mostItems}
 use Rattle.meaning.specs.References.{names}
 use Rattle.meaning.specs.Assigned.{assigned}
 use Rattle.meaning.specs.Commands.{Chosen, ruleAt, firstRule}
@@ -38,7 +38,7 @@ module _ (L : Layout) where
   -- a match of a rule of the list: the arrays hold the values of the variables that occur on the left
   pub record HasMatch (rules : List Rule) (nodes edges : List ℕ) (c : Choice) (lens atoms : List ℕ) : Type 0 where
     pub there : c .number < length rules
-    pub room : length (c .matched .slots) ≡ 12
+    pub room : length (c .matched .slots) ≡ mostItems
     pub arrays : Stored lens atoms
     pub values : (v : ℕ) → absent v (names (ruleAt rules (c .number) .left)) ≡ false
         → valuesOf lens atoms v

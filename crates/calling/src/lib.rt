@@ -14,6 +14,7 @@ use matching::Outcome;
 use meaning::End;
 use meaning::Layout;
 use meaning::Ran;
+use meaning::Room;
 use meaning::Tally;
 use plan::At;
 
@@ -32,8 +33,8 @@ pub fn first_rule(
     nodes: &[u8],
     edges: &[u8],
     plan: &mut [usize; At::LENGTH],
-    lens: &mut [usize; 6],
-    atoms: &mut [u32; 48],
+    lens: &mut [usize; Room::VARIABLES],
+    atoms: &mut [u32; Room::ATOMS],
 ) -> Choice
     requires { ⌜ Legal l (now nodes) (now edges) ⌝ }
     requires { ⌜ Listed (now image) (now numbers) ⌝ }
@@ -91,8 +92,8 @@ pub fn call(
     ensures { λ r. ⌜ Called l (now (image .entry)) (now (numbers .entry)) (now (nodes .entry)) (now (edges .entry)) (now (journal .entry)) t r (now (nodes .exit)) (now (edges .exit)) (now (journal .exit)) ⌝ }
 {
     let mut plan = [0usize; At::LENGTH];
-    let mut lens = [0usize; 6];
-    let mut atoms = [0u32; 48];
+    let mut lens = [0usize; Room::VARIABLES];
+    let mut atoms = [0u32; Room::ATOMS];
     let c = first_rule(
         l,
         image,

@@ -8,7 +8,7 @@ use lib.ListN.{length, getD}
 use lib.Dec.{eqb, leb}
 use Rattle.meaning.specs.Basics.{both, either}
 use Rattle.meaning.specs.Layout.{Host, liveAt}
-use Rattle.meaning.specs.Image.{Rule}
+use Rattle.meaning.specs.Image.{Rule, mostItems}
 use Rattle.meaning.specs.Matching.{nodeAt, edgeAt, leftNodes, leftEdges, leftNode, leftEdge, rootsAgree, runs}
 use Rattle.meaning.specs.FirstMatch.{marksAgree, nodeFits}
 use Rattle.plan.specs.Plan.{labelOf, edgesAt, interfaceAt, nodesAt, planLength}
@@ -32,8 +32,8 @@ pub record Numbers (plan : List ℕ) (r : Rule) : Type 0 where
 -- there is room for a plan's numbers and for the slots of all its items
 pub record Room (plan at : List ℕ) : Type 0 where
   pub numbers : length plan ≡ planLength
-  pub slots : length at ≡ 12
-  pub items : getD plan nodesAt 0 + getD plan edgesAt 0 ≤ 12
+  pub slots : length at ≡ mostItems
+  pub items : getD plan nodesAt 0 + getD plan edgesAt 0 ≤ mostItems
 
 -- Edges.
 

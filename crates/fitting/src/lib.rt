@@ -6,7 +6,7 @@ ghost use Prim.Native.Nat.{_+_, _-_, _<_, _≤_};
 ghost use lib.ListN.{length, getD, take, drop};
 ghost use Rattle.meaning.specs.Basics.{any, all, count, absent};
 ghost use Rattle.meaning.specs.Layout.{Host, hostOf};
-ghost use Rattle.meaning.specs.Image.{Rule};
+ghost use Rattle.meaning.specs.Image.{Rule, mostItems};
 ghost use Rattle.meaning.specs.Matching.{leftNodes, leftEdges, leftNode, leftEdge, nodeSlot, total};
 ghost use Rattle.meaning.specs.FirstMatch.{marksAgree, linked as isLinked, leftTouches, canGo, dangles as isDangling};
 ghost use Rattle.graph.specs.Graph.{Legal};
@@ -16,6 +16,7 @@ ghost use Rattle.agreeing.specs.Candidates.{Likely};
 ghost use Rattle.fitting.specs.Fitting.{TriedEdge, Numbers, Room, joinsAt, goneAt, NodeLike, NextLike};
 use agreeing::slot_of;
 use meaning::Layout;
+use meaning::Room;
 use plan::At;
 
 // Marks, slots and edges.
@@ -30,8 +31,8 @@ pub fn marks_agree(left: u8, mark: u8) -> bool
 }
 
 // Whether slot c is none of at[from..to].
-fn absent(at: &[usize; 12], from: usize, to: usize, c: usize) -> bool
-    requires { ⌜ (from ≤ to) × (to ≤ 12) × (length (now at) ≡ 12) ⌝ }
+fn absent(at: &[usize; Room::ITEMS], from: usize, to: usize, c: usize) -> bool
+    requires { ⌜ (from ≤ to) × (to ≤ mostItems) × (length (now at) ≡ mostItems) ⌝ }
     ensures { λ r. ⌜ r ≡ absent c (drop from (take to (now (at .entry)))) ⌝ }
 {
     let mut j = from;
@@ -102,7 +103,7 @@ fn link_holds(
     edges: &[u8],
     rule: &[u8],
     plan: &[usize; At::LENGTH],
-    at: &[usize; 12],
+    at: &[usize; Room::ITEMS],
     i: usize,
     c: usize,
     k: usize,
@@ -134,7 +135,7 @@ fn linked(
     edges: &[u8],
     rule: &[u8],
     plan: &[usize; At::LENGTH],
-    at: &[usize; 12],
+    at: &[usize; Room::ITEMS],
     i: usize,
     c: usize,
 ) -> bool
@@ -268,13 +269,13 @@ pub fn node_likely(
     edges: &[u8],
     rule: &[u8],
     plan: &[usize; At::LENGTH],
-    at: &[usize; 12],
+    at: &[usize; Room::ITEMS],
     i: usize,
     c: usize,
 ) -> bool
     requires { ⌜ Legal l (now nodes) (now edges) ⌝ }
     requires { ⌜ Known (now rule) (now plan) ⌝ }
-    requires { ⌜ (length (now at) ≡ 12) × Inside (hostOf l (now nodes) (now edges)) (getD (now plan) nodesAt 0) (now at) i ⌝ }
+    requires { ⌜ (length (now at) ≡ mostItems) × Inside (hostOf l (now nodes) (now edges)) (getD (now plan) nodesAt 0) (now at) i ⌝ }
     requires { ⌜ (i < getD (now plan) nodesAt 0) × (c < length (hostOf l (now nodes) (now edges) .nodes)) ⌝ }
     requires { ⌜ ((w : Known (now rule) (now plan)) → NodeLike (hostOf l (now nodes) (now edges)) (w .rule) (getD (now plan) (sortAt + i) 0) i c true) ⌝ }
     ensures { λ b. ⌜ ((w : Known (now (rule .entry)) (now (plan .entry))) → Likely (hostOf l (now (nodes .entry)) (now (edges .entry))) (w .rule) (getD (now (plan .entry)) (sortAt + i) 0) (take i (now (at .entry))) i c b) ⌝ }
@@ -295,7 +296,7 @@ pub fn edge_likely(
     edges: &[u8],
     rule: &[u8],
     plan: &[usize; At::LENGTH],
-    at: &[usize; 12],
+    at: &[usize; Room::ITEMS],
     i: usize,
     s: usize,
     t: usize,
@@ -303,7 +304,7 @@ pub fn edge_likely(
 ) -> bool
     requires { ⌜ Legal l (now nodes) (now edges) ⌝ }
     requires { ⌜ Known (now rule) (now plan) ⌝ }
-    requires { ⌜ (length (now at) ≡ 12) × Inside (hostOf l (now nodes) (now edges)) (getD (now plan) nodesAt 0) (now at) i ⌝ }
+    requires { ⌜ (length (now at) ≡ mostItems) × Inside (hostOf l (now nodes) (now edges)) (getD (now plan) nodesAt 0) (now at) i ⌝ }
     requires { ⌜ (getD (now plan) nodesAt 0 ≤ i) × (i < getD (now plan) nodesAt 0 + getD (now plan) edgesAt 0) × (c < length (hostOf l (now nodes) (now edges) .edges)) ⌝ }
     requires { ⌜ ((w : Known (now rule) (now plan)) → (s ≡ nodeSlot (take i (now at)) (leftEdge (w .rule) (i - leftNodes (w .rule)) .source)) × (t ≡ nodeSlot (take i (now at)) (leftEdge (w .rule) (i - leftNodes (w .rule)) .target))) ⌝ }
     ensures { λ b. ⌜ ((w : Known (now (rule .entry)) (now (plan .entry))) → Likely (hostOf l (now (nodes .entry)) (now (edges .entry))) (w .rule) (getD (now (plan .entry)) (sortAt + i) 0) (take i (now (at .entry))) i c b) ⌝ }
@@ -321,7 +322,7 @@ pub fn edge_likely(
 // Edges that dangle.
 
 // Whether slot s or slot t is that of a left node that goes.
-fn touches_gone(plan: &[usize; At::LENGTH], at: &[usize; 12], s: usize, t: usize) -> bool
+fn touches_gone(plan: &[usize; At::LENGTH], at: &[usize; Room::ITEMS], s: usize, t: usize) -> bool
     requires { ⌜ Room (now plan) (now at) ⌝ }
     ensures { λ r. ⌜ r ≡ any (goneAt (getD (now (plan .entry)) interfaceAt 0) (now (at .entry)) s t) (getD (now (plan .entry)) nodesAt 0) ⌝ }
 {
@@ -346,7 +347,7 @@ fn dangles(
     nodes: &[u8],
     edges: &[u8],
     plan: &[usize; At::LENGTH],
-    at: &[usize; 12],
+    at: &[usize; Room::ITEMS],
     x: usize,
 ) -> bool
     requires { ⌜ Legal l (now nodes) (now edges) ⌝ }
@@ -372,7 +373,7 @@ pub fn any_dangles(
     nodes: &[u8],
     edges: &[u8],
     plan: &[usize; At::LENGTH],
-    at: &[usize; 12],
+    at: &[usize; Room::ITEMS],
 ) -> bool
     requires { ⌜ Legal l (now nodes) (now edges) ⌝ }
     requires { ⌜ Room (now plan) (now at) ⌝ }

@@ -10,6 +10,7 @@ ghost use Rattle.values.specs.Values.{Stored};
 ghost use Rattle.pairs.specs.Pairs.{starts as doesStart, Answers};
 ghost use Rattle.plan.specs.Plan.{planLength};
 use matching::Matched;
+use meaning::Room;
 use plan::At;
 
 // The first match of the first rule, asked for n times, and at least once.
@@ -19,8 +20,8 @@ fn repeated(
     image: &[u8],
     n: u32,
     plan: &mut [usize; At::LENGTH],
-    lens: &mut [usize; 6],
-    atoms: &mut [u32; 48],
+    lens: &mut [usize; Room::VARIABLES],
+    atoms: &mut [u32; Room::ATOMS],
 ) -> Matched
     requires { ⌜ doesStart (now nodes) (now edges) (now image) ≡ true ⌝ }
     requires { ⌜ For (program (now image)) (λ p. 0 < length (p .rules)) ⌝ }
@@ -40,8 +41,8 @@ fn match_first(nodes: &[u8], edges: &[u8], image: &[u8], n: u32)
     requires { ⌜ For (program (now image)) (λ p. 0 < length (p .rules)) ⌝ }
 {
     let mut plan = [0usize; At::LENGTH];
-    let mut lens = [0usize; 6];
-    let mut atoms = [0u32; 48];
+    let mut lens = [0usize; Room::VARIABLES];
+    let mut atoms = [0u32; Room::ATOMS];
     let found = repeated(nodes, edges, image, n, &mut plan, &mut lens, &mut atoms);
     pairs::write_match(parts::rule_part(image, 0), found, lens, atoms);
 }

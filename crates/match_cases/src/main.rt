@@ -7,14 +7,15 @@ ghost use Prim.Native.Nat.{_<_};
 ghost use Rattle.meaning.specs.Image.{program};
 ghost use Rattle.parts.specs.Runs.{For};
 ghost use Rattle.pairs.specs.Pairs.{starts as doesStart};
+use meaning::Room;
 
 fn match_rule(nodes: &[u8], edges: &[u8], image: &[u8], i: usize)
     requires { ⌜ doesStart (now nodes) (now edges) (now image) ≡ true ⌝ }
     requires { ⌜ For (program (now image)) (λ p. i < length (p .rules)) ⌝ }
 {
     let mut plan = [0usize; At::LENGTH];
-    let mut lens = [0usize; 6];
-    let mut atoms = [0u32; 48];
+    let mut lens = [0usize; Room::VARIABLES];
+    let mut atoms = [0u32; Room::ATOMS];
     let found = pairs::rule_match(nodes, edges, image, i, &mut plan, &mut lens, &mut atoms);
     pairs::write_match(parts::rule_part(image, i), found, lens, atoms);
 }

@@ -9,7 +9,7 @@ use borrow.Author.Tests.{lt-leb}
 use lib.ListN.{length, getD}
 use Rattle.meaning.specs.Basics.{any}
 use Rattle.meaning.specs.Layout.{Host}
-use Rattle.meaning.specs.Image.{Rule}
+use Rattle.meaning.specs.Image.{Rule, mostItems}
 use Rattle.meaning.specs.Matching.{leftNodes}
 use Rattle.meaning.specs.FirstMatch.{touchesGone, dangles}
 use Rattle.meaning.specs.Laws.Tests.{both-no, any-no}
@@ -19,8 +19,8 @@ use Rattle.fitting.specs.Fitting.{Numbers}
 use Rattle.matching.proofs.Plans.{nodes-of, edges-of}
 use Rattle.plan.specs.Plan.{edgesAt, nodesAt}
 
-abbrev pub allPlaced : (h : Host) (bs plan at : List ℕ) (w : Known bs plan) → length at ≡ 12
-    → Inside h (getD plan nodesAt 0) at (getD plan nodesAt 0 + getD plan edgesAt 0) → Full h bs plan at 12 0
+abbrev pub allPlaced : (h : Host) (bs plan at : List ℕ) (w : Known bs plan) → length at ≡ mostItems
+    → Inside h (getD plan nodesAt 0) at (getD plan nodesAt 0 + getD plan edgesAt 0) → Full h bs plan at mostItems 0
 allPlaced h bs plan at w room inside = full h bs plan at w room 12 0 (few-items w) (rw (nodes-of _ _ w, edges-of _ _ w) at inside)
 
 abbrev pub numbers : {bs plan : List ℕ} (w : Known bs plan) → Numbers plan (w .rule)

@@ -10,7 +10,7 @@ use native.Mathlib.Decide.{ℕ-discrete}
 use lib.ListN.{length, getD, take, set, length-set}
 use lib.Seq.{getD-set-same, getD-set-other}
 use Rattle.meaning.specs.Layout.{Host, hostOf}
-use Rattle.meaning.specs.Image.{Rule}
+use Rattle.meaning.specs.Image.{Rule, mostItems}
 use Rattle.meaning.specs.Matching.{leftNodes, total}
 use Rattle.meaning.specs.FirstMatch.{fits, candidates, complete, firstMatch}
 use Rattle.meaning.specs.declared.Layout.{Layout}
@@ -39,16 +39,16 @@ module _ (h : Host) (r : Rule) where
   behind at i = steps.back (candidates h r) (fits h r) (complete h r) (total r) at i
 
   pub record Going (at : List ℕ) (i c : ℕ) : Type 0 where
-    pub room : length at ≡ 12
+    pub room : length at ≡ mostItems
     pub level : i ≤ total r
     pub inside : Inside h (leftNodes r) at i
     pub same : from-here at i c ≡ firstMatch h r
 
-  pub begin : (at : List ℕ) → length at ≡ 12 → Going at 0 0
+  pub begin : (at : List ℕ) → length at ≡ mostItems → Going at 0 0
   unfolding firstMatch
   begin at e = record { room = e; level = omega arith; inside = λ j k. absurd (omega arith); same = steps.start _ _ _ _ at }
 
-  module _ (few : total r ≤ 12) (at : List ℕ) (i c : ℕ) (g : Going at i c) where
+  module _ (few : total r ≤ mostItems) (at : List ℕ) (i c : ℕ) (g : Going at i c) where
     module _ (under : i < total r) where
       module _ (x : ℕ) (n : NextSlot h r (take i at) c (At x)) where
         in-room : i < length at

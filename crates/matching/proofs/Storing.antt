@@ -13,7 +13,7 @@ use lib.Seq.{ext-getD, getD-take, getD-drop, getD-set-same, getD-set-other, leng
 use Rattle.meaning.specs.Basics.{absent}
 use Rattle.meaning.specs.Numbers.{whole}
 use Rattle.meaning.specs.Layout.{Host}
-use Rattle.meaning.specs.Image.{Rule}
+use Rattle.meaning.specs.Image.{Rule, mostItems}
 use Rattle.meaning.specs.References.{labels, names, testNames, variablesExist, ruleHolds}
 use Rattle.meaning.specs.FirstMatch.{firstWith}
 use Rattle.meaning.specs.Assigned.{assigned}
@@ -26,7 +26,7 @@ use Rattle.labels.specs.declared.Label.{Label}
 use Rattle.agreeing.specs.Placed.{Known, Inside, Full}
 use Rattle.agreeing.specs.Agreeing.{HasValue}
 use Rattle.meaning.specs.Matching.{total}
-use Rattle.values.specs.Values.{valuesOf, Stored}
+use Rattle.values.specs.Values.{valuesOf, Stored, valuesRoom}
 use Rattle.matching.specs.Values.{Copied, HasValues}
 use Rattle.matching.proofs.Plans.{levels-of}
 use Rattle.matching.proofs.Completing.{allPlaced}
@@ -45,11 +45,11 @@ same-part n k d xs ys a b e =
 -- Copying, one number at a time.
 
 pub record Copying (start j : ℕ) (new before after : List ℕ) : Type 0 where
-  pub room : length after ≡ 48
+  pub room : length after ≡ valuesRoom
   pub inside : (x : ℕ) → x < j → getD after (start + x) 0 ≡ getD new x 0
   pub outside : (x : ℕ) → (x < start) ⊎ (start + j ≤ x) → getD after x 0 ≡ getD before x 0
 
-pub copy-none : (start : ℕ) (new before : List ℕ) → length before ≡ 48 → Copying start 0 new before before
+pub copy-none : (start : ℕ) (new before : List ℕ) → length before ≡ valuesRoom → Copying start 0 new before before
 copy-none start new before e = record { room = e; inside = λ x k. absurd (omega arith); outside = λ x k. refl }
 
 pub copied-all : (start j : ℕ) (new before after : List ℕ) → j ≡ 8 → Copying start j new before after
@@ -58,7 +58,7 @@ copied-all start j new before after e s =
     let t : Copying start 8 new before after = rw e at s in
     record { room = t .room; inside = t .inside; outside = t .outside }
 
-pub copy-more : (start j : ℕ) (new before after : List ℕ) → start + j < 48 → Copying start j new before after
+pub copy-more : (start j : ℕ) (new before after : List ℕ) → start + j < valuesRoom → Copying start j new before after
     → Copying start (j + 1) new before (set after (start + j) (getD new j 0))
 copy-more start j new before after h s = record {
   room = length-set after (start + j) (getD new j 0) ∙ s .room;
@@ -152,13 +152,13 @@ on-left r holds v e =
 
 -- A full placement gives them.
 
-module _ (h : Host) (bs plan at : List ℕ) (w : Known bs plan) (room : length at ≡ 12)
+module _ (h : Host) (bs plan at : List ℕ) (w : Known bs plan) (room : length at ≡ mostItems)
     (inside : Inside h (getD plan nodesAt 0) at (getD plan nodesAt 0 + getD plan edgesAt 0)) where
-  abbrev placed : Full h bs plan at 12 0
+  abbrev placed : Full h bs plan at mostItems 0
   placed = allPlaced h bs plan at w room inside
 
   abbrev pub has-value : (v : ℕ) → v < length (w .rule .variables) → getD plan (firstAt + v) 0 < getD plan nodesAt 0 + getD plan edgesAt 0
-      → HasValue h bs plan at 12 0 v
+      → HasValue h bs plan at mostItems 0 v
   has-value v k l = record {
     trial = placed .trial;
     valued = (k, omega (arith, placed .whole, w .planned .first v k .item, levels-of _ _ w));

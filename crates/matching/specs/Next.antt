@@ -7,7 +7,7 @@ use mathlib.Core.Option.{Option, some, none}
 use mathlib.Core.List.{List}
 use lib.ListN.{length, getD}
 use Rattle.meaning.specs.Layout.{Host, liveAt, hostOf}
-use Rattle.meaning.specs.Image.{Rule}
+use Rattle.meaning.specs.Image.{Rule, mostItems}
 use Rattle.meaning.specs.Matching.{edgeAt, total}
 use Rattle.meaning.specs.FirstMatch.{marksAgree, fits, candidates, complete}
 use Rattle.meaning.specs.declared.Layout.{Layout}
@@ -33,7 +33,7 @@ pub record Handed (L : Layout) (nodes edges bs plan : List ℕ) : Type 0 where
 pub record Ready (L : Layout) (nodes edges bs plan at : List ℕ) (i : ℕ) : Type 0 where
   pub legal : Legal L nodes edges
   pub known : Known bs plan
-  pub room : length at ≡ 12
+  pub room : length at ≡ mostItems
   pub inside : Inside (hostOf L nodes edges) (getD plan nodesAt 0) at i
 
 -- What is answered, of whichever rule the plan is.

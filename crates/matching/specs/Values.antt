@@ -8,12 +8,12 @@ use mathlib.Core.List.{List}
 use lib.ListN.{length, getD, take, drop}
 use Rattle.meaning.specs.Basics.{absent}
 use Rattle.meaning.specs.Layout.{Host, hostOf}
-use Rattle.meaning.specs.Image.{Rule, rule}
+use Rattle.meaning.specs.Image.{Rule, rule, mostItems}
 use Rattle.meaning.specs.References.{labels, names}
 use Rattle.meaning.specs.FirstMatch.{firstWith, firstMatch}
 use Rattle.meaning.specs.Assigned.{assigned}
 use Rattle.meaning.specs.declared.Layout.{Layout}
-use Rattle.values.specs.Values.{valuesOf, Stored}
+use Rattle.values.specs.Values.{valuesOf, Stored, valuesRoom}
 use Rattle.matching.specs.Next.{Of, slotsAt}
 use Rattle.meaning.specs.Matching.{total}
 use Rattle.matching.specs.declared.Outcome.the-variants.{Match}
@@ -21,7 +21,7 @@ use Rattle.matching.specs.declared.Matched.{Matched}
 
 -- eight numbers are copied to a place, and nothing else
 pub record Copied (start : ℕ) (new before after : List ℕ) : Type 0 where
-  pub room : length after ≡ 48
+  pub room : length after ≡ valuesRoom
   pub inside : (j : ℕ) → j < 8 → getD after (start + j) 0 ≡ getD new j 0
   pub outside : (x : ℕ) → (x < start) ⊎ (start + 8 ≤ x) → getD after x 0 ≡ getD before x 0
 
@@ -33,7 +33,7 @@ HasValues h r p n lens atoms =
 module _ (L : Layout) (nodes edges bs : List ℕ) where
   -- the first placement of the rule that the plan is of, or none, with the values that it gives
   pub record Sought (plan : List ℕ) (x : Matched) (lens atoms : List ℕ) : Type 0 where
-    pub room : length (x .slots) ≡ 12
+    pub room : length (x .slots) ≡ mostItems
     pub arrays : Stored lens atoms
     pub right : Of bs plan (λ r. slotsAt (take (total r) (x .slots)) (x .outcome) ≡ firstMatch (hostOf L nodes edges) r)
     pub values : Of bs plan (λ r. x .outcome ≡ Match
@@ -41,7 +41,7 @@ module _ (L : Layout) (nodes edges bs : List ℕ) where
 
   -- the first match of the rule that the bytes are, with the values of the variables that occur on the left
   pub record IsFirst (x : Matched) (lens atoms : List ℕ) : Type 0 where
-    pub room : length (x .slots) ≡ 12
+    pub room : length (x .slots) ≡ mostItems
     pub arrays : Stored lens atoms
     pub right : (r : Rule) → rule bs ≡ some r → slotsAt (take (total r) (x .slots)) (x .outcome) ≡ firstMatch
         (hostOf L nodes edges) r

@@ -3,17 +3,19 @@ ghost use mathlib.Core.Path.{_≡_};
 ghost use mathlib.Core.Bool.{false};
 ghost use Prim.Native.Nat.{ℕ, _+_, _<_, _≤_};
 ghost use lib.ListN.{length, getD, take, replicate};
+ghost use Rattle.meaning.specs.Image.{mostItems};
 ghost use Rattle.meaning.specs.FirstMatch.{nodeFits, complete as isComplete};
 ghost use Rattle.graph.specs.Graph.{Legal};
 ghost use Rattle.meaning.specs.Layout.{hostOf};
 ghost use Rattle.plan.specs.Plan.{IsRule, edgesAt, nodesAt, planLength, sortAt};
 ghost use Rattle.matching.specs.Next.{Handed, Ready, Of, endOf, Meets, NextSlot, NextLikely, IsStep};
 ghost use Rattle.meaning.specs.Matching.{total};
-ghost use Rattle.values.specs.Values.{Stored};
+ghost use Rattle.values.specs.Values.{Stored, valuesRoom};
 ghost use Rattle.matching.specs.Values.{Copied, HasValues, Sought, IsFirst};
 ghost use Rattle.matching.specs.declared.Outcome.the-variants.{Match, NoMatch};
 use labels::Label;
 use meaning::Layout;
+use meaning::Room;
 use plan::At;
 
 // The next slot that fits, or none.
@@ -37,22 +39,22 @@ pub enum Outcome {
 // The slots stand beside the outcome, and mean something where it is Match: node slots in left order, then edge slots.
 pub struct Matched {
     pub outcome: Outcome,
-    pub slots: [usize; 12],
+    pub slots: [usize; Room::ITEMS],
 }
 
 impl Matched {
     // No match.
     pub fn none() -> Self
-        ensures { λ r. ⌜ r ≡ record { outcome = NoMatch; slots = replicate 12 0 } ⌝ }
+        ensures { λ r. ⌜ r ≡ record { outcome = NoMatch; slots = replicate mostItems 0 } ⌝ }
     {
         Matched {
             outcome: Outcome::NoMatch,
-            slots: [0; 12],
+            slots: [0; Room::ITEMS],
         }
     }
 
     // The match at these slots.
-    pub fn at(slots: [usize; 12]) -> Self
+    pub fn at(slots: [usize; Room::ITEMS]) -> Self
         ensures { λ r. ⌜ r ≡ record { outcome = Match; slots = slots } ⌝ }
     {
         Matched {
@@ -145,7 +147,7 @@ fn next_candidate(
     edges: &[u8],
     rule: &[u8],
     plan: &[usize; At::LENGTH],
-    at: &[usize; 12],
+    at: &[usize; Room::ITEMS],
     i: usize,
     c: usize,
     n: usize,
@@ -185,7 +187,7 @@ fn next_node(
     edges: &[u8],
     rule: &[u8],
     plan: &[usize; At::LENGTH],
-    at: &[usize; 12],
+    at: &[usize; Room::ITEMS],
     i: usize,
     c: usize,
 ) -> Next
@@ -223,7 +225,7 @@ fn next_edge(
     edges: &[u8],
     rule: &[u8],
     plan: &[usize; At::LENGTH],
-    at: &[usize; 12],
+    at: &[usize; Room::ITEMS],
     i: usize,
     c: usize,
 ) -> Next
@@ -254,7 +256,7 @@ fn next_likely(
     edges: &[u8],
     rule: &[u8],
     plan: &[usize; At::LENGTH],
-    at: &[usize; 12],
+    at: &[usize; Room::ITEMS],
     i: usize,
     c: usize,
 ) -> Next
@@ -275,7 +277,7 @@ fn next_slot(
     edges: &[u8],
     rule: &[u8],
     plan: &[usize; At::LENGTH],
-    at: &[usize; 12],
+    at: &[usize; Room::ITEMS],
     i: usize,
     c: usize,
 ) -> Next
@@ -309,7 +311,7 @@ fn complete(
     edges: &[u8],
     rule: &[u8],
     plan: &[usize; At::LENGTH],
-    at: &[usize; 12],
+    at: &[usize; Room::ITEMS],
 ) -> bool
     requires { ⌜ Ready l (now nodes) (now edges) (now rule) (now plan) (now at) (getD (now plan) nodesAt 0 + getD (now plan) edgesAt 0) ⌝ }
     ensures { λ b. ⌜ Of (now (rule .entry)) (now (plan .entry)) (λ r. b ≡ isComplete (hostOf l (now (nodes .entry)) (now (edges .entry))) r (take (total r) (now (at .entry)))) ⌝ }
@@ -329,7 +331,7 @@ fn advance(
     edges: &[u8],
     rule: &[u8],
     plan: &[usize; At::LENGTH],
-    at: &[usize; 12],
+    at: &[usize; Room::ITEMS],
     i: usize,
     c: usize,
 ) -> Step
@@ -353,8 +355,8 @@ fn advance(
 // The values of the variables.
 
 // Copies the atoms of label a to a place.
-fn put_atoms(atoms: &mut [u32; 48], start: usize, a: Label)
-    requires { ⌜ (start + 8 ≤ 48) × (length (now atoms) ≡ 48) ⌝ }
+fn put_atoms(atoms: &mut [u32; Room::ATOMS], start: usize, a: Label)
+    requires { ⌜ (start + 8 ≤ valuesRoom) × (length (now atoms) ≡ valuesRoom) ⌝ }
     ensures { λ r. ⌜ Copied start (a .atoms) (now (atoms .entry)) (now (atoms .exit)) ⌝ }
 {
     let from = a.atoms;
@@ -372,9 +374,9 @@ fn assign(
     edges: &[u8],
     rule: &[u8],
     plan: &[usize; At::LENGTH],
-    at: &[usize; 12],
-    lens: &mut [usize; 6],
-    atoms: &mut [u32; 48],
+    at: &[usize; Room::ITEMS],
+    lens: &mut [usize; Room::VARIABLES],
+    atoms: &mut [u32; Room::ATOMS],
 )
     requires { ⌜ Ready l (now nodes) (now edges) (now rule) (now plan) (now at) (getD (now plan) nodesAt 0 + getD (now plan) edgesAt 0) ⌝ }
     requires { ⌜ Stored (now lens) (now atoms) ⌝ }
@@ -386,7 +388,7 @@ fn assign(
     let mut v: usize = 0;
     while v < n {
         if plan[At::FIRST + v] < m {
-            let a = agreeing::value(l, nodes, edges, rule, plan, at, 12, 0, v);
+            let a = agreeing::value(l, nodes, edges, rule, plan, at, Room::ITEMS, 0, v);
             lens[v] = a.len;
             put_atoms(atoms, 8 * v, a);
             v += 1;
@@ -405,14 +407,14 @@ fn search(
     edges: &[u8],
     rule: &[u8],
     plan: &[usize; At::LENGTH],
-    lens: &mut [usize; 6],
-    atoms: &mut [u32; 48],
+    lens: &mut [usize; Room::VARIABLES],
+    atoms: &mut [u32; Room::ATOMS],
 ) -> Matched
     requires { ⌜ Handed l (now nodes) (now edges) (now rule) (now plan) ⌝ }
     requires { ⌜ Stored (now lens) (now atoms) ⌝ }
     ensures { λ x. ⌜ Sought l (now (nodes .entry)) (now (edges .entry)) (now (rule .entry)) (now (plan .entry)) x (now (lens .exit)) (now (atoms .exit)) ⌝ }
 {
-    let mut at = [0usize; 12];
+    let mut at = [0usize; Room::ITEMS];
     let mut i: usize = 0;
     let mut c: usize = 0;
     'found: loop {
@@ -446,14 +448,14 @@ pub fn first_match(
     edges: &[u8],
     rule: &[u8],
     plan: &mut [usize; At::LENGTH],
-    lens: &mut [usize; 6],
-    atoms: &mut [u32; 48],
+    lens: &mut [usize; Room::VARIABLES],
+    atoms: &mut [u32; Room::ATOMS],
 ) -> Matched
     requires { ⌜ Legal l (now nodes) (now edges) ⌝ }
     requires { ⌜ IsRule (now rule) ⌝ }
     requires { ⌜ (length (now plan) ≡ planLength) × Stored (now lens) (now atoms) ⌝ }
     ensures { λ x. ⌜ (length (now (plan .exit)) ≡ planLength) × IsFirst l (now (nodes .entry)) (now (edges .entry)) (now (rule .entry)) x (now (lens .exit)) (now (atoms .exit)) ⌝ }
 {
-    plan::make(rule, plan);
+    planning::make(rule, plan);
     search(l, nodes, edges, rule, &*plan, lens, atoms)
 }

@@ -91,6 +91,10 @@ limits =
       depth = 16;
     }
 
+-- the most left items of a rule: its nodes and its edges
+abbrev pub mostItems : ℕ
+mostItems = 12
+
 -- Fields: a one-byte tag, a two-byte length and that many bytes.
 
 pub record Field : Type 0 where

@@ -2,6 +2,8 @@
 ghost use mathlib.Core.Path.{_≡_};
 ghost use Rattle.meaning.specs.Layout.{base};
 
+pub mod tags;
+
 // A sum's, a difference's or a relation test's operand. An atom is held as its 32-bit word.
 pub enum Operand {
     Constant(u32),
@@ -94,6 +96,17 @@ impl Tally {
             records: 0,
         }
     }
+}
+
+// The arrays that a search fills: the slots of left items, and of each variable the length of its value and its atoms.
+pub struct Room {}
+
+impl Room {
+    pub const ITEMS: usize = 12;
+
+    pub const VARIABLES: usize = 6;
+
+    pub const ATOMS: usize = 48;
 }
 
 // The kinds of table: the bytes of a slot and the most slots.

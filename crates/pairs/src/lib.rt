@@ -3,15 +3,16 @@ ghost use mathlib.Core.Path.{_≡_};
 ghost use mathlib.Core.Bool.{true};
 ghost use lib.ListN.{length};
 ghost use Prim.Native.Nat.{_+_, _<_, _≤_};
-ghost use Rattle.meaning.specs.Image.{program};
+ghost use Rattle.meaning.specs.Image.{program, mostItems};
 ghost use Rattle.parts.specs.Runs.{For};
-ghost use Rattle.values.specs.Values.{Stored};
+ghost use Rattle.values.specs.Values.{Stored, valuesRoom};
 ghost use Rattle.pairs.specs.Pairs.{isMatch, starts as doesStart, Answers};
 ghost use Rattle.plan.specs.Plan.{planLength};
 use answers::Checked;
 use matching::Matched;
 use matching::Outcome;
 use meaning::Layout;
+use meaning::Room;
 use plan::At;
 
 // Whether a run of the image on the host would start, with no fuel and no journal.
@@ -33,8 +34,8 @@ pub fn rule_match(
     image: &[u8],
     i: usize,
     plan: &mut [usize; At::LENGTH],
-    lens: &mut [usize; 6],
-    atoms: &mut [u32; 48],
+    lens: &mut [usize; Room::VARIABLES],
+    atoms: &mut [u32; Room::ATOMS],
 ) -> Matched
     requires { ⌜ doesStart (now nodes) (now edges) (now image) ≡ true ⌝ }
     requires { ⌜ For (program (now image)) (λ p. i < length (p .rules)) ⌝ }
@@ -57,9 +58,9 @@ fn write_number(x: u64) {
     io::print_decimal(1, x);
 }
 
-fn write_slots(slots: [usize; 12], n: usize) {
+fn write_slots(slots: [usize; Room::ITEMS], n: usize) {
     let mut i: usize = 0;
-    while i < 12 {
+    while i < mostItems {
         if i >= n {
             return;
         }
@@ -69,8 +70,8 @@ fn write_slots(slots: [usize; 12], n: usize) {
 }
 
 // Writes the value of a variable: as many atoms from a place on.
-fn write_value(atoms: [u32; 48], start: usize, n: usize)
-    requires { ⌜ start + 8 ≤ 48 ⌝ }
+fn write_value(atoms: [u32; Room::ATOMS], start: usize, n: usize)
+    requires { ⌜ start + 8 ≤ valuesRoom ⌝ }
 {
     io::write_all(1, b" =");
     let mut j: usize = 0;
@@ -83,9 +84,9 @@ fn write_value(atoms: [u32; 48], start: usize, n: usize)
     }
 }
 
-fn write_values(lens: [usize; 6], atoms: [u32; 48], n: usize) {
+fn write_values(lens: [usize; Room::VARIABLES], atoms: [u32; Room::ATOMS], n: usize) {
     let mut v: usize = 0;
-    while v < 6 {
+    while v < Room::VARIABLES {
         if v >= n {
             return;
         }
@@ -96,7 +97,12 @@ fn write_values(lens: [usize; 6], atoms: [u32; 48], n: usize) {
 
 // Writes a rule's match on a line: the slots, node slots first, then behind a sign the atoms of each variable; or that there is
 // none. Says whether there is one.
-pub fn write_match(rule: &[u8], found: Matched, lens: [usize; 6], atoms: [u32; 48]) -> bool
+pub fn write_match(
+    rule: &[u8],
+    found: Matched,
+    lens: [usize; Room::VARIABLES],
+    atoms: [u32; Room::ATOMS],
+) -> bool
     ensures { λ r. ⌜ r ≡ isMatch (found .outcome) ⌝ }
 {
     let items = parts::count_fields(parts::left_part(rule));

@@ -9,7 +9,7 @@ use mathlib.Core.List.{List, [], _∷_, _++_, map}
 use Prim.Native.Nat.{ℕ, suc, _+_, _-_, _<_, _≤_}
 use lib.ListN.{length, getD, take, drop}
 use Rattle.meaning.specs.Basics.{choose, concat}
-use Rattle.meaning.specs.Image.{RuleNode, RuleEdge, RuleGraph, Rule, only, anyTag, ruleNode, ruleEdge, ruleGraph, types, test, rule}
+use Rattle.meaning.specs.Image.{RuleNode, RuleEdge, RuleGraph, Rule, only, anyTag, ruleNode, ruleEdge, ruleGraph, types, test, rule, limits}
 use Rattle.meaning.specs.References.{operandNames, conditionOperands, conditionNodes, labels, lists, takesList, ruleHolds}
 use Rattle.meaning.specs.Matching.{leftNode, leftEdge, leftNodes, leftEdges}
 use Rattle.meaning.specs.Assigned.{isVariable}
@@ -97,16 +97,6 @@ lengthSort = 1
 abbrev pub constantSort : ℕ
 constantSort = 2
 
--- the most left items, variables and tests of a rule
-abbrev pub mostItems : ℕ
-mostItems = 12
-
-abbrev pub mostVariables : ℕ
-mostVariables = 6
-
-abbrev pub mostTests : ℕ
-mostTests = 4
-
 -- what a reader of bytes reads between two places
 pub record Placed {A : Type 0} (read : List ℕ → Option A) (bs : List ℕ) (start end : ℕ) (a : A) : Type 0 where
   pub ordered : start ≤ end
@@ -131,8 +121,8 @@ pub record Items (bs : List ℕ) (g : RuleGraph) (plan : List ℕ) : Type 0 wher
   pub size : length plan ≡ planLength
   pub nodes : getD plan nodesAt 0 ≡ length (g .nodes)
   pub edges : getD plan edgesAt 0 ≡ length (g .edges)
-  pub fewNodes : length (g .nodes) ≤ 6
-  pub fewEdges : length (g .edges) ≤ 6
+  pub fewNodes : length (g .nodes) ≤ limits .nodes
+  pub fewEdges : length (g .edges) ≤ limits .edges
   pub node : (i : ℕ) → i < length (g .nodes) → Placed ruleNode bs (getD plan (startAt + i) 0) (getD plan (endAt + i) 0) (nodeOf g i)
   pub edge : (k : ℕ) → k < length (g .edges)
       → Placed ruleEdge bs (getD plan (startAt + (length (g .nodes) + k)) 0) (getD plan (endAt + (length (g .nodes) + k)) 0) (edgeOf g k)
@@ -143,10 +133,10 @@ pub record Laid (bs : List ℕ) (r : Rule) (plan : List ℕ) : Type 0 where
   pub holds : ruleHolds r ≡ true
   pub items : Items bs (r .left) plan
   pub interface : getD plan interfaceAt 0 ≡ r .interface
-  pub fewVariables : length (r .variables) ≤ 6
+  pub fewVariables : length (r .variables) ≤ limits .variables
   pub types : Placed types bs (getD plan typesStartAt 0) (getD plan typesEndAt 0) (r .variables)
-  pub fewTests : length (r .tests) ≤ 4
-  pub tests : Placed (only anyTag test 4) bs (getD plan testsStartAt 0) (getD plan testsEndAt 0) (r .tests)
+  pub fewTests : length (r .tests) ≤ limits .tests
+  pub tests : Placed (only anyTag test (limits .tests)) bs (getD plan testsStartAt 0) (getD plan testsEndAt 0) (r .tests)
 
 -- Where variables are. How many elements of one atom, and how many lists, a label has before variable v.
 
@@ -187,8 +177,8 @@ Alone r j l = (l ≡ []) ⊎ Fresh r j l
 pub record Labelled (r : Rule) (plan : List ℕ) (j : ℕ) : Type 0 where
   pub elements : getD plan (elementsAt + j) 0 ≡ length (labelOf r j)
   pub lists : getD plan (listsAt + j) 0 ≡ lists r (labelOf r j)
-  pub alone : getD plan (sortAt + j) 0 ≡ 1 → Alone r j (labelOf r j)
-  pub constant : getD plan (sortAt + j) 0 ≡ 2 → labelOf r j ≡ constantElement (getD plan (constantAt + j) 0) ∷ []
+  pub alone : getD plan (sortAt + j) 0 ≡ lengthSort → Alone r j (labelOf r j)
+  pub constant : getD plan (sortAt + j) 0 ≡ constantSort → labelOf r j ≡ constantElement (getD plan (constantAt + j) 0) ∷ []
 
 -- the whole plan of rule r
 pub record Planned (bs : List ℕ) (r : Rule) (plan : List ℕ) : Type 0 where

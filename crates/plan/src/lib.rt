@@ -6,10 +6,10 @@ ghost use mathlib.Core.Option.{some};
 ghost use mathlib.Core.List.{[]};
 ghost use Prim.Native.Nat.{_+_, _<_, max};
 ghost use lib.ListN.{length, getD};
-ghost use Rattle.meaning.specs.Image.{label};
+ghost use Rattle.meaning.specs.Image.{mostItems, label};
 ghost use Rattle.meaning.specs.References.{labels};
 ghost use Rattle.meaning.specs.Matching.{leftNode, leftEdge};
-ghost use Rattle.plan.specs.Plan.{planLength, mostItems, elementsAt, listsAt, IsLaid, HasItem, HasNode, HasEdge, For, Marked, testOf};
+ghost use Rattle.plan.specs.Plan.{planLength, elementsAt, listsAt, IsLaid, HasItem, HasNode, HasEdge, For, Marked, testOf};
 use fields::Found;
 use meaning::Condition;
 use meaning::Test;
@@ -157,7 +157,7 @@ pub fn test(rule: &[u8], plan: &[usize; At::LENGTH], t: usize) -> Test
 
 // The counts of the label of item j.
 pub fn counts(plan: &[usize; At::LENGTH], j: usize) -> Counts
-    requires { ⌜ (length (now plan) ≡ planLength) × (j < 12) ⌝ }
+    requires { ⌜ (length (now plan) ≡ planLength) × (j < mostItems) ⌝ }
     ensures { λ c. ⌜ (c .elements ≡ getD (now (plan .entry)) (elementsAt + j) 0) × (c .lists ≡ getD (now (plan .entry)) (listsAt + j) 0) ⌝ }
 {
     Counts {

@@ -8,7 +8,7 @@ use native.Mathlib.Omega.{arith}
 use native.Mathlib.Decide.{ℕ-discrete}
 use lib.ListN.{length, getD, set, take, drop, length-drop}
 use Rattle.meaning.specs.Basics.{concat}
-use Rattle.meaning.specs.Image.{Rule, field, test}
+use Rattle.meaning.specs.Image.{Rule, field, test, mostItems}
 use Rattle.meaning.specs.References.{operandNames, conditionOperands, conditionNodes, labels}
 use Rattle.meaning.specs.Matching.{leftNodes}
 use Rattle.meaning.specs.FirstMatch.{firstWith, highest, decidedAt}
@@ -32,7 +32,7 @@ use Rattle.planning.proofs.Stores.{other, stored, all-kept}
 -- Operands.
 
 module _ (plan : List ℕ) (o : Operand) where
-  pub valued : Valued plan o → {v : ℕ} → o ≡ variableOperand v → (v < 6) × (getD plan (firstAt + v) 0 ≤ 12)
+  pub valued : Valued plan o → {v : ℕ} → o ≡ variableOperand v → (v < 6) × (getD plan (firstAt + v) 0 ≤ mostItems)
   unfolding operandNames
   valued w {v} e = let a = w .variables in (rw e at a) .0
 
@@ -124,7 +124,7 @@ module _ {bs : List ℕ} {r : Rule} {plan : List ℕ} (w : Named bs r plan (leng
   decides =
       let few = w .laid .items .fewNodes in
       let fewer = w .laid .items .fewEdges in
-      let low : (v : ℕ) → v < length (r .variables) → (v < 6) × (getD plan (firstAt + v) 0 ≤ 12) = λ v k.
+      let low : (v : ℕ) → v < length (r .variables) → (v < 6) × (getD plan (firstAt + v) 0 ≤ mostItems) = λ v k.
       (omega (arith, w .laid .fewVariables), omega (arith, w .first v k .item, first-low v (labels (r .left)), labels-length r))
       in
       record {

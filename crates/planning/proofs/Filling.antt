@@ -9,7 +9,7 @@ use native.Mathlib.Omega.{arith}
 use native.Mathlib.Decide.{ℕ-discrete, decLt}
 use lib.ListN.{length, getD, set, take, drop, length-append, length-drop, length-map, length-set, List·getD-append}
 use lib.Seq.{getD-append-add}
-use Rattle.meaning.specs.Image.{RuleNode, RuleEdge, RuleGraph, Rule, field, ruleNode, ruleEdge, ruleGraph, types, rule}
+use Rattle.meaning.specs.Image.{RuleNode, RuleEdge, RuleGraph, Rule, field, ruleNode, ruleEdge, ruleGraph, types, rule, mostItems}
 use Rattle.meaning.specs.References.{ruleHolds}
 use Rattle.meaning.specs.Laws.Tests.{some-inj}
 use Rattle.meaning.specs.Laws.Image.Parsed.{oneByte-is, ruleGraph-is, rule-few}
@@ -82,7 +82,7 @@ as-edge tag bs (edgeItem n) e h = (n, refl, item-is tag bs (edgeItem n) e .1)
 
 -- Two stores.
 
-module _ (plan : List ℕ) (j a b : ℕ) (size : length plan ≡ planLength) (low : j < 12) where
+module _ (plan : List ℕ) (j a b : ℕ) (size : length plan ≡ planLength) (low : j < mostItems) where
   abbrev both : List ℕ
   both = set (set plan (startAt + j) a) (endAt + j) b
 
@@ -114,7 +114,7 @@ pub record Filling (bs : List ℕ) (g : RuleGraph) (p plan : List ℕ) (at j nod
       → Placed ruleEdge bs (getD plan (startAt + (length (g .nodes) + k)) 0) (getD plan (endAt + (length (g .nodes) + k)) 0) (edgeOf g k)
 
 module _ {bs : List ℕ} {g : RuleGraph} {p : List ℕ} {start end : ℕ} (is : p ≡ take (end - start) (drop start bs)) (lies : Placed ruleGraph bs start end g) where
-  few-items : length (itemsOf g) ≤ 12
+  few-items : length (itemsOf g) ≤ mostItems
   few-items = let f = ruleGraph-is _ g (lies .is) in omega (arith, items-length g, f .fewNodes, f .fewEdges)
 
   pub filling-start : (plan : List ℕ) → length plan ≡ planLength → Filling bs g p plan 0 0 0
@@ -160,7 +160,7 @@ module _ {bs : List ℕ} {g : RuleGraph} {p : List ℕ} {start end : ℕ} (is : 
           let d = drop-head none-item (itemsOf g) j (n .first) (n .others) (n .parts) in
           (n .first, d .0, d .1, n .read, rw (d .2) (n .run))
 
-      pub next-low : j < 12
+      pub next-low : j < mostItems
       next-low = omega (arith, next .1, few-items)
 
       pub next-fits : start + e ≤ length bs

@@ -7,7 +7,7 @@ use Prim.Native.Nat.{ℕ, _+_, _<_, _≤_}
 use native.Mathlib.Omega.{arith}
 use native.Mathlib.Decide.{ℕ-discrete}
 use lib.ListN.{length, getD, set, length-set}
-use Rattle.meaning.specs.Image.{Rule, element, label}
+use Rattle.meaning.specs.Image.{Rule, element, label, mostItems}
 use Rattle.meaning.specs.declared.Element.{Element}
 use Rattle.meaning.specs.declared.Element.the-variants.{Constant as constantElement}
 use Rattle.parts.specs.Runs.{run-none}
@@ -36,7 +36,7 @@ module _ {bs : List ℕ} {r : Rule} {plan : List ℕ} (w : Named bs r plan (leng
   abbrev two : List ℕ
   two = set one (listsAt + j) (c .lists)
 
-  low : j < 12
+  low : j < mostItems
   low = omega (arith, there, w .laid .items .nodes, w .laid .items .edges, w .laid .items .fewNodes, w .laid .items .fewEdges)
 
   one-size : length one ≡ planLength
@@ -97,7 +97,7 @@ pub record Labelling (bs : List ℕ) (r : Rule) (plan : List ℕ) (j : ℕ) : Ty
   pub named : Named bs r plan (length (r .variables))
   pub labelled : (i : ℕ) → i < j → Labelled r plan i
 
-pub labelling-next : {bs : List ℕ} {r : Rule} {plan after : List ℕ} {j : ℕ} → Labelling bs r plan j → j < 12 → Labelled r after j × OnlyLabel plan after j → Labelling bs r after (j + 1)
+pub labelling-next : {bs : List ℕ} {r : Rule} {plan after : List ℕ} {j : ℕ} → Labelling bs r plan j → j < mostItems → Labelled r after j × OnlyLabel plan after j → Labelling bs r after (j + 1)
 labelling-next {bs} {r} {plan} {after} {j} w low (said, only) =
     record {
       named = named-same (only .size) (λ x a b c. only .kept x (λ e. let k = c (omega arith) in omega arith) (λ e. let k = c (omega arith) in omega arith) (λ e. let k = c (omega arith) in omega arith) (λ e. let k = c (omega arith) in omega arith)) (w .named);

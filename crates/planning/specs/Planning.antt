@@ -2,12 +2,13 @@
 -- as it is made. Rests on plan's Plan and on the meaning's FirstMatch.
 use mathlib.Core.Path.{_≡_}
 use mathlib.Core.Logic.{_⊎_}
+use mathlib.Core.Option.{some}
 use mathlib.Core.Bool.{true, false}
 use mathlib.Core.List.{List, [], _∷_, _++_, map}
 use Prim.Native.Nat.{ℕ, suc, _+_, _<_, _≤_}
 use lib.ListN.{length, getD}
 use Rattle.meaning.specs.Basics.{concat}
-use Rattle.meaning.specs.Image.{RuleGraph, Rule, ruleGraph, rule}
+use Rattle.meaning.specs.Image.{RuleGraph, Rule, limits, mostItems, ruleGraph, rule}
 use Rattle.meaning.specs.References.{operandNames, conditionOperands, conditionNodes}
 use Rattle.meaning.specs.Matching.{leftNodes, leftEdges}
 use Rattle.meaning.specs.FirstMatch.{has, highest}
@@ -80,11 +81,11 @@ pub record IsLabelled (bs plan : List ℕ) : Type 0 where
 -- the plan has the first item with each of the operand's variables
 pub record Valued (plan : List ℕ) (o : Operand) : Type 0 where
   pub size : length plan ≡ planLength
-  pub variables : Every (λ v. (v < 6) × (getD plan (firstAt + v) 0 ≤ 12)) (operandNames o)
+  pub variables : Every (λ v. (v < limits .variables) × (getD plan (firstAt + v) 0 ≤ mostItems)) (operandNames o)
 
 -- and with each of the condition's, whose nodes are there
 pub record Decides (plan : List ℕ) (c : Condition) : Type 0 where
-  pub nodes : Every (λ a. a < 6) (conditionNodes c)
+  pub nodes : Every (λ a. a < limits .nodes) (conditionNodes c)
   pub operands : Every (Valued plan) (conditionOperands c)
 
 -- how many items must be placed before an operand has its value

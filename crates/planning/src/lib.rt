@@ -4,16 +4,17 @@ ghost use mathlib.Core.Option.{some};
 ghost use mathlib.Core.List.{List, []};
 ghost use Prim.Native.Nat.{_+_, _<_};
 ghost use lib.ListN.{length, getD};
-ghost use Rattle.meaning.specs.Image.{Rule, RuleGraph, ruleGraph, element, label};
+ghost use Rattle.meaning.specs.Image.{mostItems, Rule, RuleGraph, ruleGraph, element, label};
 ghost use Rattle.meaning.specs.References.{labels, takesList};
 ghost use Rattle.meaning.specs.Assigned.{isVariable};
 ghost use Rattle.meaning.specs.declared.Element.{Element};
-ghost use Rattle.plan.specs.Plan.{planLength, mostItems, mostVariables, firstAt, Placed, Items, Planned, IsLaid, HasItem, For, FirstAt, Labelled, IsRule, Part, edgesAt, nodesAt};
+ghost use Rattle.plan.specs.Plan.{planLength, firstAt, Placed, Items, Planned, IsLaid, HasItem, For, FirstAt, Labelled, IsRule, Part, edgesAt, nodesAt};
 ghost use Rattle.planning.specs.Planning.{Named, HasGraph, IsNamed, Valued, decidedBy, Decides, Plans, operandDecided, Occurring, Sorts, OnlyLabel, AllLabelled, IsLabelled};
 use fields::Found;
 use meaning::Condition;
 use meaning::Element;
 use meaning::Operand;
+use meaning::Room;
 use parts::Counts;
 use parts::Front;
 use plan::At;
@@ -203,7 +204,7 @@ fn sort_of(types: &[u8], plan: &[usize; At::LENGTH], j: usize, p: &[u8]) -> Sort
                 Element::Constant(x) => Sort::Constant(x),
                 Element::Variable(v) => {
                     if v < types.len() {
-                        if v < 6 {
+                        if v < Room::VARIABLES {
                             if plan[At::FIRST + v] == j {
                                 return Sort::Length;
                             }

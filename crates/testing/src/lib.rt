@@ -4,6 +4,7 @@ ghost use mathlib.Core.Path.{_≡_};
 ghost use mathlib.Core.Bool.{true};
 ghost use Prim.Native.Nat.{_+_};
 ghost use lib.ListN.{length, getD, take};
+ghost use Rattle.meaning.specs.Image.{mostItems};
 ghost use Rattle.meaning.specs.Basics.{every};
 ghost use Rattle.meaning.specs.Layout.{hostOf};
 ghost use Rattle.meaning.specs.Matching.{atomOf, conditionHolds, testHolds};
@@ -18,6 +19,7 @@ use agreeing::slot_of;
 use meaning::Condition;
 use meaning::Layout;
 use meaning::Operand;
+use meaning::Room;
 use plan::At;
 
 // One test.
@@ -29,7 +31,7 @@ fn atom(
     edges: &[u8],
     rule: &[u8],
     plan: &[usize; At::LENGTH],
-    at: &[usize; 12],
+    at: &[usize; Room::ITEMS],
     i: usize,
     c: usize,
     o: Operand,
@@ -50,7 +52,7 @@ fn condition_holds(
     edges: &[u8],
     rule: &[u8],
     plan: &[usize; At::LENGTH],
-    at: &[usize; 12],
+    at: &[usize; Room::ITEMS],
     i: usize,
     c: usize,
     k: Condition,
@@ -87,7 +89,7 @@ fn test_holds(
     edges: &[u8],
     rule: &[u8],
     plan: &[usize; At::LENGTH],
-    at: &[usize; 12],
+    at: &[usize; Room::ITEMS],
     i: usize,
     c: usize,
     t: usize,
@@ -114,7 +116,7 @@ fn tests_so_far(
     edges: &[u8],
     rule: &[u8],
     plan: &[usize; At::LENGTH],
-    at: &[usize; 12],
+    at: &[usize; Room::ITEMS],
     i: usize,
     c: usize,
 ) -> bool
@@ -143,16 +145,16 @@ pub fn all_tests(
     edges: &[u8],
     rule: &[u8],
     plan: &[usize; At::LENGTH],
-    at: &[usize; 12],
+    at: &[usize; Room::ITEMS],
 ) -> bool
     requires { ⌜ Legal l (now nodes) (now edges) ⌝ }
-    requires { ⌜ Full (hostOf l (now nodes) (now edges)) (now rule) (now plan) (now at) 12 0 ⌝ }
-    ensures { λ r. ⌜ ((w : Full (hostOf l (now (nodes .entry)) (now (edges .entry))) (now (rule .entry)) (now (plan .entry)) (now (at .entry)) 12 0) → r ≡ every (testHolds (hostOf l (now (nodes .entry)) (now (edges .entry))) (w .trial .placed) (assigned (hostOf l (now (nodes .entry)) (now (edges .entry))) (w .trial .rule) (w .trial .placed))) (w .trial .rule .tests)) ⌝ }
+    requires { ⌜ Full (hostOf l (now nodes) (now edges)) (now rule) (now plan) (now at) mostItems 0 ⌝ }
+    ensures { λ r. ⌜ ((w : Full (hostOf l (now (nodes .entry)) (now (edges .entry))) (now (rule .entry)) (now (plan .entry)) (now (at .entry)) mostItems 0) → r ≡ every (testHolds (hostOf l (now (nodes .entry)) (now (edges .entry))) (w .trial .placed) (assigned (hostOf l (now (nodes .entry)) (now (edges .entry))) (w .trial .rule) (w .trial .placed))) (w .trial .rule .tests)) ⌝ }
 {
     let n = plan[At::TESTS];
     let mut t: usize = 0;
     while t < n {
-        if !test_holds(l, nodes, edges, rule, plan, at, 12, 0, t) {
+        if !test_holds(l, nodes, edges, rule, plan, at, Room::ITEMS, 0, t) {
             return false;
         }
         t += 1;
@@ -167,13 +169,13 @@ pub fn rest_fits(
     edges: &[u8],
     rule: &[u8],
     plan: &[usize; At::LENGTH],
-    at: &[usize; 12],
+    at: &[usize; Room::ITEMS],
     i: usize,
     c: usize,
 ) -> bool
     requires { ⌜ Legal l (now nodes) (now edges) ⌝ }
     requires { ⌜ Known (now rule) (now plan) ⌝ }
-    requires { ⌜ (length (now at) ≡ 12) × Inside (hostOf l (now nodes) (now edges)) (getD (now plan) nodesAt 0) (now at) i ⌝ }
+    requires { ⌜ (length (now at) ≡ mostItems) × Inside (hostOf l (now nodes) (now edges)) (getD (now plan) nodesAt 0) (now at) i ⌝ }
     requires { ⌜ Candidate (hostOf l (now nodes) (now edges)) (now rule) (now plan) i c ⌝ }
     requires { ⌜ ((w : Known (now rule) (now plan)) → Likely (hostOf l (now nodes) (now edges)) (w .rule) (getD (now plan) (sortAt + i) 0) (take i (now at)) i c true) ⌝ }
     ensures { λ r. ⌜ ((w : Known (now (rule .entry)) (now (plan .entry))) → r ≡ fits (hostOf l (now (nodes .entry)) (now (edges .entry))) (w .rule) (take i (now (at .entry))) c) ⌝ }

@@ -30,7 +30,7 @@ use Rattle.labels.specs.Laws.{Filled, filled-more, filled-all, held-length}
 use Rattle.parts.specs.Walks.{spells-label}
 use Rattle.labels.specs.declared.Label.{Label}
 use Rattle.parts.specs.Runs.{For}
-use Rattle.values.specs.Values.{valuesOf, Stored, asOption, lowered, ofAtom, valueIn, Kept, fitting}
+use Rattle.values.specs.Values.{valuesOf, Stored, asOption, lowered, ofAtom, valueIn, Kept, fitting, valuesRoom}
 use Rattle.values.specs.declared.Atom.{Atom}
 use Rattle.values.specs.declared.Atom.the-variants.{Word, Outside}
 use Rattle.values.specs.declared.Valued.{Valued}
@@ -116,7 +116,7 @@ module _ (lens atoms : List ℕ) (v : ℕ) where
   value-far r s h k = rw (no-atoms (far s h)) k
 
 -- copying atoms
-module _ (atoms : List ℕ) (from n j : ℕ) (l : List ℕ) (room : length atoms ≡ 48) (words : Words atoms) (few : n ≤ 8) (fits : from + n ≤ 48) (f : Filled (take n (drop from atoms)) j l) where
+module _ (atoms : List ℕ) (from n j : ℕ) (l : List ℕ) (room : length atoms ≡ valuesRoom) (words : Words atoms) (few : n ≤ 8) (fits : from + n ≤ valuesRoom) (f : Filled (take n (drop from atoms)) j l) where
   copied-length : length (take n (drop from atoms)) ≡ n
   copied-length =
       let d = length-drop from atoms in

@@ -9,7 +9,8 @@ use lib.ListN.{length, getD, take, drop}
 use lib.Dec.{leb, ltb}
 use Rattle.meaning.specs.Basics.{choose, both, every, concat, isSome, ensure, _>>_, _>>=_}
 use Rattle.meaning.specs.Numbers.{half, whole, height}
-use Rattle.meaning.specs.Image.{RuleGraph}
+use Rattle.meaning.specs.Layout.{mostAtoms}
+use Rattle.meaning.specs.Image.{RuleGraph, limits}
 use Rattle.meaning.specs.References.{elementNames, labels}
 use Rattle.meaning.specs.Matching.{Assignment}
 use Rattle.meaning.specs.Applying.{labelValue}
@@ -23,15 +24,19 @@ use Rattle.values.specs.declared.Valued.{Valued}
 
 -- The arrays.
 
--- variable v has as many atoms as `lens` says, from place 8 * v of `atoms` on
-abbrev pub valuesOf : List ℕ → List ℕ → Assignment
-valuesOf lens atoms v = take (getD lens v 0) (drop (8 * v) atoms)
+-- the atoms of all variables
+abbrev pub valuesRoom : ℕ
+valuesRoom = 48
 
--- six variables of at most eight atoms each, all of them words
+-- variable v has as many atoms as `lens` says, from place mostAtoms * v of `atoms` on
+abbrev pub valuesOf : List ℕ → List ℕ → Assignment
+valuesOf lens atoms v = take (getD lens v 0) (drop (mostAtoms * v) atoms)
+
+-- as many variables as a rule has at most, each of at most so many atoms, all of them words
 pub record Stored (lens atoms : List ℕ) : Type 0 where
-  pub variables : length lens ≡ 6
-  pub room : length atoms ≡ 48
-  pub few : (v : ℕ) → getD lens v 0 ≤ 8
+  pub variables : length lens ≡ limits .variables
+  pub room : length atoms ≡ valuesRoom
+  pub few : (v : ℕ) → getD lens v 0 ≤ mostAtoms
   pub words : Words atoms
 
 -- two assignments have the same values at the variables of the list

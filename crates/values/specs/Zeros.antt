@@ -4,13 +4,13 @@ use native.Mathlib.Omega.{arith}
 use lib.ListN.{replicate}
 use Rattle.meaning.specs.Laws.Tests.{zeros-of}
 use Rattle.meaning.specs.Laws.Layout.{getD-zeros}
-use Rattle.values.specs.Values.{Stored}
+use Rattle.values.specs.Values.{Stored, valuesRoom}
 
-pub stored-none : Stored (replicate 6 0) (replicate 48 0)
+pub stored-none : Stored (replicate 6 0) (replicate valuesRoom 0)
 stored-none =
     record {
       variables = refl;
       room = refl;
       few = λ v. omega (arith, getD-zeros (replicate 6 0) v (zeros-of 6));
-      words = λ i. omega (arith, getD-zeros (replicate 48 0) i (zeros-of 48));
+      words = λ i. omega (arith, getD-zeros (replicate valuesRoom 0) i (zeros-of valuesRoom));
     }

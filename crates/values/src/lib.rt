@@ -11,11 +11,12 @@ ghost use Rattle.meaning.specs.Laws.Layout.{Words};
 ghost use Rattle.labels.specs.Labels.{atomsIn, Held, Holds};
 ghost use Rattle.parts.specs.Runs.{For};
 ghost use Rattle.parts.specs.Rows.{graphItem, itemLabel};
-ghost use Rattle.values.specs.Values.{valuesOf, Stored, asOption, lowered, valueIn, Kept, ofAtom, fitting, allHeld};
+ghost use Rattle.values.specs.Values.{valuesOf, Stored, asOption, lowered, valueIn, Kept, ofAtom, fitting, allHeld, valuesRoom};
 use fields::Found;
 use labels::Label;
 use meaning::Element;
 use meaning::Operand;
+use meaning::Room;
 use parts::Front;
 
 // A label's value, or that it can't be held.
@@ -59,11 +60,11 @@ pub fn difference(a: u32, b: u32) -> Atom
 // The values of the variables: variable v has lens[v] atoms, from atoms[8 * v] on.
 
 // The first atom of a variable's value, 0 if it has none.
-pub fn first_atom(lens: &[usize; 6], atoms: &[u32; 48], v: usize) -> u32
+pub fn first_atom(lens: &[usize; Room::VARIABLES], atoms: &[u32; Room::ATOMS], v: usize) -> u32
     requires { ⌜ Stored (now lens) (now atoms) ⌝ }
     ensures { λ r. ⌜ r ≡ getD (valuesOf (now (lens .entry)) (now (atoms .entry)) v) 0 0 ⌝ }
 {
-    if v >= 6 {
+    if v >= Room::VARIABLES {
         return 0;
     }
     if lens[v] == 0 {
@@ -72,7 +73,7 @@ pub fn first_atom(lens: &[usize; 6], atoms: &[u32; 48], v: usize) -> u32
     atoms[8 * v]
 }
 
-pub fn atom_of(lens: &[usize; 6], atoms: &[u32; 48], o: Operand) -> u32
+pub fn atom_of(lens: &[usize; Room::VARIABLES], atoms: &[u32; Room::ATOMS], o: Operand) -> u32
     requires { ⌜ Stored (now lens) (now atoms) ⌝ }
     ensures { λ r. ⌜ r ≡ atomOf (valuesOf (now (lens .entry)) (now (atoms .entry))) o ⌝ }
 {
@@ -83,8 +84,8 @@ pub fn atom_of(lens: &[usize; 6], atoms: &[u32; 48], o: Operand) -> u32
 }
 
 // The n atoms from a place on.
-fn copied(atoms: &[u32; 48], from: usize, n: usize) -> Label
-    requires { ⌜ (length (now atoms) ≡ 48) × Words (now atoms) × (n ≤ 8) × (from + n ≤ 48) ⌝ }
+fn copied(atoms: &[u32; Room::ATOMS], from: usize, n: usize) -> Label
+    requires { ⌜ (length (now atoms) ≡ valuesRoom) × Words (now atoms) × (n ≤ 8) × (from + n ≤ valuesRoom) ⌝ }
     ensures { λ r. ⌜ Holds (take n (drop from (now (atoms .entry)))) r ⌝ }
 {
     let mut out = [0u32; 8];
@@ -96,11 +97,11 @@ fn copied(atoms: &[u32; 48], from: usize, n: usize) -> Label
     Label { len: n, atoms: out }
 }
 
-pub fn value_of(lens: &[usize; 6], atoms: &[u32; 48], v: usize) -> Label
+pub fn value_of(lens: &[usize; Room::VARIABLES], atoms: &[u32; Room::ATOMS], v: usize) -> Label
     requires { ⌜ Stored (now lens) (now atoms) ⌝ }
     ensures { λ r. ⌜ Holds (valuesOf (now (lens .entry)) (now (atoms .entry)) v) r ⌝ }
 {
-    if v >= 6 {
+    if v >= Room::VARIABLES {
         return labels::none();
     }
     copied(atoms, 8 * v, lens[v])
@@ -122,7 +123,11 @@ fn of_atom(a: Atom) -> Valued
     }
 }
 
-pub fn element_value(lens: &[usize; 6], atoms: &[u32; 48], e: Element) -> Valued
+pub fn element_value(
+    lens: &[usize; Room::VARIABLES],
+    atoms: &[u32; Room::ATOMS],
+    e: Element,
+) -> Valued
     requires { ⌜ Stored (now lens) (now atoms) ⌝ }
     ensures { λ r. ⌜ Kept 8 r × (valueIn r ≡ elementValue (valuesOf (now (lens .entry)) (now (atoms .entry))) e) ⌝ }
 {
@@ -173,7 +178,12 @@ pub fn joined(a: Label, b: Label, most: usize) -> Valued
 }
 
 // The value of a label of the right side.
-pub fn label_value(most: usize, lens: &[usize; 6], atoms: &[u32; 48], p: &[u8]) -> Valued
+pub fn label_value(
+    most: usize,
+    lens: &[usize; Room::VARIABLES],
+    atoms: &[u32; Room::ATOMS],
+    p: &[u8],
+) -> Valued
     requires { ⌜ Stored (now lens) (now atoms) × (most ≤ 8) ⌝ }
     ensures { λ r. ⌜ Kept most r × For (label (now (p .entry))) (λ l. valueIn r ≡ labelValue most (valuesOf (now (lens .entry)) (now (atoms .entry))) l) ⌝ }
 {
@@ -210,7 +220,13 @@ pub fn label_value(most: usize, lens: &[usize; 6], atoms: &[u32; 48], p: &[u8]) 
 }
 
 // The value of the label of a right node or edge, from its tag and payload.
-pub fn item_value(most: usize, lens: &[usize; 6], atoms: &[u32; 48], tag: u8, p: &[u8]) -> Valued
+pub fn item_value(
+    most: usize,
+    lens: &[usize; Room::VARIABLES],
+    atoms: &[u32; Room::ATOMS],
+    tag: u8,
+    p: &[u8],
+) -> Valued
     requires { ⌜ Stored (now lens) (now atoms) × (most ≤ 8) ⌝ }
     ensures { λ r. ⌜ Kept most r × For (graphItem tag (now (p .entry))) (λ i. valueIn r ≡ labelValue most (valuesOf (now (lens .entry)) (now (atoms .entry))) (itemLabel i)) ⌝ }
 {
@@ -218,7 +234,12 @@ pub fn item_value(most: usize, lens: &[usize; 6], atoms: &[u32; 48], tag: u8, p:
 }
 
 // Whether all labels of a right graph can be held.
-pub fn labels_held(most: usize, lens: &[usize; 6], atoms: &[u32; 48], right: &[u8]) -> bool
+pub fn labels_held(
+    most: usize,
+    lens: &[usize; Room::VARIABLES],
+    atoms: &[u32; Room::ATOMS],
+    right: &[u8],
+) -> bool
     requires { ⌜ Stored (now lens) (now atoms) × (most ≤ 8) ⌝ }
     ensures { λ r. ⌜ For (ruleGraph (now (right .entry))) (λ g. r ≡ allHeld most (valuesOf (now (lens .entry)) (now (atoms .entry))) g) ⌝ }
 {

@@ -5,6 +5,7 @@ use mathlib.Core.Path.{_≡_}
 use Prim.Native.Nat.{_+_, _-_, _≤_}
 use native.Mathlib.Omega.{arith}
 use lib.ListN.{length, length-set}
+use Rattle.meaning.specs.Image.{mostItems}
 use Rattle.meaning.specs.Layout.{recordLength}
 use Rattle.ledger.specs.Changes.{quotient-le}
 use Rattle.applying.specs.Loops.{Growing, growing-none, growing-next, growing-more, growing-all}
@@ -12,7 +13,7 @@ use Rattle.applying.proofs.new_nodes.Statement.{statement}
 use Rattle.applying.proofs.new_nodes.Tie as tie
 
 abbrev Inv-loop : tie.InvT-loop
-Inv-loop l nodes₀ edges journal₀ used right k lens atoms slots new places₀ i₀ nodes journal places i = (i ≤ new) × (length places ≡ 12) × Growing l nodes₀ edges journal₀ right lens atoms slots used k new i nodes journal places
+Inv-loop l nodes₀ edges journal₀ used right k lens atoms slots new places₀ i₀ nodes journal places i = (i ≤ new) × (length places ≡ mostItems) × Growing l nodes₀ edges journal₀ right lens atoms slots used k new i nodes journal places
 
 abbrev μ-loop : tie.MeasureT-loop
 μ-loop l nodes₀ edges journal₀ used right k lens atoms slots new places₀ i₀ nodes journal places i = new - i

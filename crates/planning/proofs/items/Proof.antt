@@ -4,7 +4,7 @@ use Prim.Native.Nat.{_+_, _-_, _<_, _≤_}
 use native.Mathlib.Omega.{arith}
 use borrow.Author.Needs.{needs}
 use lib.ListN.{length}
-use Rattle.meaning.specs.Image.{RuleGraph, ruleGraph}
+use Rattle.meaning.specs.Image.{RuleGraph, ruleGraph, mostItems}
 use Rattle.parts.proofs.Loops.{a-field, no-field, part-in, nearer}
 use Rattle.plan.specs.Plan.{Placed}
 use Rattle.planning.proofs.Filling.{Filling, filling-start, filling-cut, filling-done, filling-node, filling-edge, next-low, next-fits}
@@ -18,7 +18,7 @@ abbrev μ-loop : tie.MeasureT-loop
 μ-loop rule start end plan₀ graph at₀ j₀ nodes₀ plan at j nodes = length graph - at
 
 -- what a turn reads is an item of the graph
-low : (c : tie.After-known-told Inv-loop μ-loop) → c .before .before .before .before .before .loop .j < 12
+low : (c : tie.After-known-told Inv-loop μ-loop) → c .before .before .before .before .before .loop .j < mostItems
 low c = next-low (c .before .before .before .before .before .before .part .ensures) (c .before .before .before .before .before .before .before .before .pre .0 .placed) (c .before .before .before .before .before .loop .inv _ (c .before .before .before .before .before .before .before .before .pre .0 .placed)) (c .before .before .before .before .loop-test .taken) (a-field _ _ (c .before .before .before .read-field .ensures) (c .before .found .given .1))
 
 fits : (c : tie.After-known-told Inv-loop μ-loop) → c .before .before .before .before .before .before .before .before .args .start + c .before .found .given .0 .1 .1 .0 ≤ length (c .before .before .before .before .before .before .before .before .args .rule .now)

@@ -4,6 +4,7 @@ use mathlib.Core.Path.{_≡_, refl, sym, _∙_}
 use mathlib.Core.Bool.{true}
 use borrow.Author.Tests.{not-true, not-false}
 use lib.ListN.{take}
+use Rattle.meaning.specs.Image.{mostItems}
 use Rattle.meaning.specs.Basics.{every}
 use Rattle.meaning.specs.Matching.{testHolds}
 use Rattle.meaning.specs.Assigned.{assigned}
@@ -16,7 +17,7 @@ use Rattle.testing.proofs.all_tests.Statement.{statement}
 use Rattle.testing.proofs.all_tests.Tie as tie
 
 abbrev Inv-loop : tie.InvT-loop
-Inv-loop l nodes edges rule plan at n t₀ t = (t ≤ n) × ((w : Full (hostOf l nodes edges) rule plan at 12 0) → every (testHolds (hostOf l nodes edges) (w .trial .placed) (assigned (hostOf l nodes edges) (w .trial .rule) (w .trial .placed))) (take t (w .trial .rule .tests)) ≡ true)
+Inv-loop l nodes edges rule plan at n t₀ t = (t ≤ n) × ((w : Full (hostOf l nodes edges) rule plan at mostItems 0) → every (testHolds (hostOf l nodes edges) (w .trial .placed) (assigned (hostOf l nodes edges) (w .trial .rule) (w .trial .placed))) (take t (w .trial .rule .tests)) ≡ true)
 
 abbrev μ-loop : tie.MeasureT-loop
 μ-loop l nodes edges rule plan at n t₀ t = n - t
