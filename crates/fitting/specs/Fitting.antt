@@ -30,7 +30,7 @@ pub record Numbers (plan : List ℕ) (r : Rule) : Type 0 where
   pub interface : getD plan interfaceAt 0 ≡ r .interface
 
 -- there is room for a plan's numbers and for the slots of all its items
-pub record Room (plan at : List ℕ) : Type 0 where
+pub record HasRoom (plan at : List ℕ) : Type 0 where
   pub numbers : length plan ≡ planLength
   pub slots : length at ≡ mostItems
   pub items : getD plan nodesAt 0 + getD plan edgesAt 0 ≤ mostItems

@@ -13,7 +13,7 @@ ghost use Rattle.graph.specs.Graph.{Legal};
 ghost use Rattle.plan.specs.Plan.{For, IsLaid, HasEdge, edgesAt, interfaceAt, nodesAt, sortAt};
 ghost use Rattle.agreeing.specs.Placed.{Known, Inside, Tried};
 ghost use Rattle.agreeing.specs.Candidates.{Likely};
-ghost use Rattle.fitting.specs.Fitting.{TriedEdge, Numbers, Room, joinsAt, goneAt, NodeLike, NextLike};
+ghost use Rattle.fitting.specs.Fitting.{TriedEdge, Numbers, HasRoom, joinsAt, goneAt, NodeLike, NextLike};
 use agreeing::slot_of;
 use meaning::Layout;
 use meaning::Room;
@@ -323,7 +323,7 @@ pub fn edge_likely(
 
 // Whether slot s or slot t is that of a left node that goes.
 fn touches_gone(plan: &[usize; At::LENGTH], at: &[usize; Room::ITEMS], s: usize, t: usize) -> bool
-    requires { ⌜ Room (now plan) (now at) ⌝ }
+    requires { ⌜ HasRoom (now plan) (now at) ⌝ }
     ensures { λ r. ⌜ r ≡ any (goneAt (getD (now (plan .entry)) interfaceAt 0) (now (at .entry)) s t) (getD (now (plan .entry)) nodesAt 0) ⌝ }
 {
     let n = plan[At::NODES];
@@ -351,7 +351,7 @@ fn dangles(
     x: usize,
 ) -> bool
     requires { ⌜ Legal l (now nodes) (now edges) ⌝ }
-    requires { ⌜ Room (now plan) (now at) ⌝ }
+    requires { ⌜ HasRoom (now plan) (now at) ⌝ }
     requires { ⌜ x < length (hostOf l (now nodes) (now edges) .edges) ⌝ }
     ensures { λ b. ⌜ ((r : Rule) → Numbers (now (plan .entry)) r → b ≡ isDangling (hostOf l (now (nodes .entry)) (now (edges .entry))) r (take (total r) (now (at .entry))) x) ⌝ }
 {
@@ -376,7 +376,7 @@ pub fn any_dangles(
     at: &[usize; Room::ITEMS],
 ) -> bool
     requires { ⌜ Legal l (now nodes) (now edges) ⌝ }
-    requires { ⌜ Room (now plan) (now at) ⌝ }
+    requires { ⌜ HasRoom (now plan) (now at) ⌝ }
     ensures { λ b. ⌜ ((r : Rule) → Numbers (now (plan .entry)) r → b ≡ any (isDangling (hostOf l (now (nodes .entry)) (now (edges .entry))) r (take (total r) (now (at .entry)))) (length (hostOf l (now (nodes .entry)) (now (edges .entry)) .edges))) ⌝ }
 {
     let n = graph::edge_slots(l, edges);
