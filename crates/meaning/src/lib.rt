@@ -2,6 +2,8 @@
 ghost use mathlib.Core.Path.{_≡_};
 ghost use Rattle.meaning.specs.Layout.{base};
 
+pub mod tags;
+
 // A sum's, a difference's or a relation test's operand. An atom is held as its 32-bit word.
 pub enum Operand {
     Constant(u32),

@@ -17,6 +17,9 @@ use meaning::Condition;
 use meaning::Element;
 use meaning::Operand;
 use meaning::Test;
+use meaning::tags::Limit;
+use meaning::tags::Tag;
+use meaning::tags::VariableType;
 use parts::Counts;
 use parts::Front;
 
@@ -117,7 +120,7 @@ pub fn counts(plan: &[usize; 102], j: usize) -> Counts
 fn is_variable(tag: u8, p: &[u8], v: usize) -> bool
     ensures { λ b. ⌜ ((e : Element) → element tag (now (p .entry)) ≡ some e → b ≡ isVariable v e) ⌝ }
 {
-    if tag == 0x31 {
+    if tag == Tag::VARIABLE {
         if p.len() == 1 {
             return fields::wide(p[0]) == v;
         }
@@ -129,11 +132,11 @@ fn is_variable(tag: u8, p: &[u8], v: usize) -> bool
 fn is_list(types: &[u8], tag: u8, p: &[u8]) -> bool
     ensures { λ b. ⌜ ((r : Rule) → r .variables ≡ now (types .entry) → (e : Element) → element tag (now (p .entry)) ≡ some e → b ≡ takesList r e) ⌝ }
 {
-    if tag == 0x31 {
+    if tag == Tag::VARIABLE {
         if p.len() == 1 {
             let v = fields::wide(p[0]);
             if v < types.len() {
-                return types[v] == 2;
+                return types[v] == VariableType::LIST;
             }
         }
     }
@@ -260,7 +263,7 @@ fn items(rule: &[u8], start: usize, end: usize, plan: &mut [usize; 102])
         plan[16 + j] = start + e;
         j += 1;
         at = e;
-        if tag == 0x20 {
+        if tag == Tag::NODE {
             nodes += 1;
         }
     }
@@ -306,7 +309,7 @@ fn sort_of(types: &[u8], plan: &[usize; 102], j: usize, p: &[u8]) -> Sort
                 Element::Constant(x) => Sort::Constant(x),
                 Element::Variable(v) => {
                     if v < types.len() {
-                        if v < 6 {
+                        if v < Limit::VARIABLES {
                             if plan[28 + v] == j {
                                 return Sort::Length;
                             }

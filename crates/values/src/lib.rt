@@ -16,6 +16,7 @@ use fields::Found;
 use labels::Label;
 use meaning::Element;
 use meaning::Operand;
+use meaning::tags::Limit;
 use parts::Front;
 
 // A label's value, or that it can't be held.
@@ -70,7 +71,7 @@ pub fn first_atom(lens: &[usize; 6], atoms: &[u32; 48], v: usize) -> u32
     requires { ⌜ Stored (now lens) (now atoms) ⌝ }
     ensures { λ r. ⌜ r ≡ getD (valuesOf (now (lens .entry)) (now (atoms .entry)) v) 0 0 ⌝ }
 {
-    if v >= 6 {
+    if v >= Limit::VARIABLES {
         return 0;
     }
     if lens[v] == 0 {
@@ -107,7 +108,7 @@ pub fn value_of(lens: &[usize; 6], atoms: &[u32; 48], v: usize) -> Label
     requires { ⌜ Stored (now lens) (now atoms) ⌝ }
     ensures { λ r. ⌜ Holds (valuesOf (now (lens .entry)) (now (atoms .entry)) v) r ⌝ }
 {
-    if v >= 6 {
+    if v >= Limit::VARIABLES {
         return labels::none();
     }
     copied(atoms, 8 * v, lens[v])
