@@ -18,6 +18,8 @@ use ledger::Applied;
 use meaning::Layout;
 use meaning::Room;
 use meaning::Stop;
+use meaning::tags::Mark;
+use meaning::tags::Tag;
 
 // What an application came to, and the records used after it.
 pub struct After {
@@ -42,11 +44,11 @@ fn take_values(
     requires { ⌜ Takes l (now nodes) (now p) (now lens) (now atoms) x ⌝ }
     ensures { λ _. ⌜ ((w : Takes l (now (nodes .entry)) (now (p .entry)) (now (lens .entry)) (now (atoms .entry)) x) → Leads l (store (ofNode x (live (w .made .node))) (ledgerOf l (now (nodes .entry)) (now (edges .entry)) (now (journal .entry)) used)) (now (nodes .exit)) (now (edges .entry)) (now (journal .exit)) (used + 1)) ⌝ }
 {
-    let v = values::item_value(l.atoms, lens, atoms, 0x20, p);
+    let v = values::item_value(l.atoms, lens, atoms, Tag::NODE, p);
     let label = v.label;
     let len = label.len;
     let words = label.atoms;
-    if p[0] == 6 {
+    if p[0] == Mark::ANY {
         let mark = slots::node_mark(l, &nodes[..], x);
         ledger::store_node(l, nodes, edges, journal, used, x, mark, p[1], &words[..len]);
         return;
@@ -71,7 +73,7 @@ fn come_node(
     ensures { λ r. ⌜ (r ≡ lowestFree (readNodes l (now (nodes .entry)))) ⌝ }
     ensures { λ r. ⌜ ((w : Comes l (now (p .entry)) (now (lens .entry)) (now (atoms .entry))) → Leads l (store (ofNode r (live (w .made .node))) (ledgerOf l (now (nodes .entry)) (now (edges .entry)) (now (journal .entry)) used)) (now (nodes .exit)) (now (edges .entry)) (now (journal .exit)) (used + 1)) ⌝ }
 {
-    let v = values::item_value(l.atoms, lens, atoms, 0x20, p);
+    let v = values::item_value(l.atoms, lens, atoms, Tag::NODE, p);
     let label = v.label;
     let len = label.len;
     let words = label.atoms;
@@ -96,7 +98,7 @@ fn come_edge(
     ensures { λ r. ⌜ (r ≡ lowestFree (readEdges l (now (edges .entry)))) ⌝ }
     ensures { λ r. ⌜ ((w : Joins l (now (p .entry)) (now (lens .entry)) (now (atoms .entry)) (now (places .entry))) → Leads l (store (ofEdge r (live (between (now (places .entry)) (w .edge)))) (ledgerOf l (now (nodes .entry)) (now (edges .entry)) (now (journal .entry)) used)) (now (nodes .entry)) (now (edges .exit)) (now (journal .exit)) (used + 1)) ⌝ }
 {
-    let v = values::item_value(l.atoms, lens, atoms, 0x21, p);
+    let v = values::item_value(l.atoms, lens, atoms, Tag::EDGE, p);
     let label = v.label;
     let len = label.len;
     let words = label.atoms;

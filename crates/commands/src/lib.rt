@@ -12,6 +12,7 @@ use meaning::Layout;
 use meaning::Ran;
 use meaning::Stop;
 use meaning::Tally;
+use meaning::tags::Tag;
 
 // Enters and runs a command, from its tag and payload.
 fn run_command(
@@ -201,7 +202,7 @@ pub fn run_program(
 {
     let tag = parts::main_tag(image);
     let part = parts::main_part(image);
-    if tag == 0x50 {
+    if tag == Tag::RULE_SET {
         return run_set(l, image, part, nodes, edges, journal, t);
     }
     run_command(l, image, tag, part, nodes, edges, journal, t)

@@ -9,6 +9,7 @@ use meaning::End;
 use meaning::Layout;
 use meaning::Ran;
 use meaning::Tally;
+use meaning::tags::Tag;
 
 // How a command is run.
 pub enum Kind {
@@ -26,13 +27,13 @@ pub fn kind_of(tag: u8) -> Kind
     ensures { λ r. ⌜ (ruleSetTag ≤ tag → tag ≤ breakTag → Tagged tag r) ⌝ }
 {
     match tag {
-        0x50 => Kind::RuleSet,
-        0x51 => Kind::Sequence,
-        0x52 => Kind::Guarded(false),
-        0x53 => Kind::Guarded(true),
-        0x54 => Kind::Loop,
-        0x55 => Kind::Leaf(End::Done),
-        0x56 => Kind::Leaf(End::Failed),
+        Tag::RULE_SET => Kind::RuleSet,
+        Tag::SEQUENCE => Kind::Sequence,
+        Tag::IF => Kind::Guarded(false),
+        Tag::TRY => Kind::Guarded(true),
+        Tag::LOOP => Kind::Loop,
+        Tag::SKIP => Kind::Leaf(End::Done),
+        Tag::FAIL => Kind::Leaf(End::Failed),
         _ => Kind::Leaf(End::Broke),
     }
 }

@@ -17,6 +17,7 @@ ghost use Rattle.fitting.specs.Fitting.{TriedEdge, Numbers, HasRoom, joi
 use agreeing::slot_of;
 use meaning::Layout;
 use meaning::Room;
+use meaning::tags::Mark;
 use plan::At;
 
 // Marks, slots and edges.
@@ -24,7 +25,7 @@ use plan::At;
 pub fn marks_agree(left: u8, mark: u8) -> bool
     ensures { λ r. ⌜ r ≡ marksAgree left mark ⌝ }
 {
-    if left == 6 {
+    if left == Mark::ANY {
         return true;
     }
     left == mark

@@ -15,6 +15,7 @@ use crate::Front;
 use crate::reading;
 use fields::Found;
 use meaning::Element;
+use meaning::tags::VariableType;
 
 // Whether an element is a list variable.
 pub fn takes_list(types: &[u8], e: Element) -> bool
@@ -24,7 +25,7 @@ pub fn takes_list(types: &[u8], e: Element) -> bool
         Element::Constant(c) => false,
         Element::Variable(v) => {
             if v < types.len() {
-                return types[v] == 2;
+                return types[v] == VariableType::LIST;
             }
             false
         }

@@ -11,6 +11,7 @@ ghost use Rattle.parts.specs.Runs.{For, Run, nthPart, nthTag};
 ghost use Rattle.parts.specs.Rows.{tagItem, front, markAt, graphItem, itemLabel};
 use fields::Found;
 use meaning::Element;
+use meaning::tags::Tag;
 
 pub mod elements;
 pub mod reading;
@@ -29,13 +30,20 @@ pub struct Counts {
 }
 
 // The byte at a place, 0 if there is none.
-pub fn byte_at(p: &[u8], i: usize) -> usize
-    ensures { λ r. ⌜ (r ≡ getD (now (p .entry)) i 0) × (r < 256) ⌝ }
+pub fn byte_at(p: &[u8], i: usize) -> u8
+    ensures { λ r. ⌜ r ≡ getD (now (p .entry)) i 0 ⌝ }
 {
     if i < p.len() {
-        return fields::wide(p[i]);
+        return p[i];
     }
     0
+}
+
+// The same, as a number of a node or a variable.
+pub fn number_at(p: &[u8], i: usize) -> usize
+    ensures { λ r. ⌜ (r ≡ getD (now (p .entry)) i 0) × (r < 256) ⌝ }
+{
+    fields::wide(byte_at(p, i))
 }
 
 // The bytes behind the first n.
@@ -136,7 +144,7 @@ pub fn node_count(p: &[u8]) -> usize
     ensures { λ r. ⌜ For (ruleGraph (now (p .entry))) (λ g. r ≡ length (g .nodes)) ⌝ }
     ensures { λ r. ⌜ r ≤ length (now (p .entry)) ⌝ }
 {
-    count_front(p, 0x20)
+    count_front(p, Tag::NODE)
 }
 
 pub fn edge_count(p: &[u8]) -> usize
@@ -166,7 +174,7 @@ pub fn edge_part(p: &[u8], i: usize) -> &[u8]
 }
 
 // The mark of the node of number i, 0 if there is none.
-pub fn mark_at(p: &[u8], i: usize) -> usize
+pub fn mark_at(p: &[u8], i: usize) -> u8
     ensures { λ r. ⌜ For (ruleGraph (now (p .entry))) (λ g. r ≡ markAt g i) ⌝ }
 {
     if i < node_count(p) {
@@ -198,7 +206,7 @@ pub fn right_part(p: &[u8]) -> &[u8]
 pub fn interface_of(p: &[u8]) -> usize
     ensures { λ r. ⌜ For (rule (now (p .entry))) (λ x. r ≡ x .interface) ⌝ }
 {
-    byte_at(nth_part(p, 3), 0)
+    number_at(nth_part(p, 3), 0)
 }
 
 pub fn tests_part(p: &[u8]) -> &[u8]
@@ -226,7 +234,7 @@ pub fn test_count(p: &[u8]) -> usize
 pub fn rule_count(image: &[u8]) -> usize
     ensures { λ r. ⌜ For (program (now (image .entry))) (λ p. r ≡ length (p .rules)) ⌝ }
 {
-    count_front(image, 0x10)
+    count_front(image, Tag::RULE)
 }
 
 pub fn rule_part(image: &[u8], i: usize) -> &[u8]
@@ -251,7 +259,7 @@ pub fn main_part(image: &[u8]) -> &[u8]
 pub fn label_part(tag: u8, p: &[u8]) -> &[u8]
     ensures { λ r. ⌜ For (graphItem tag (now (p .entry))) (λ i. label (now r) ≡ some (itemLabel i)) ⌝ }
 {
-    if tag == 0x20 {
+    if tag == Tag::NODE {
         return behind(p, 2);
     }
     behind(p, 3)

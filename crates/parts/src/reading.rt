@@ -12,14 +12,16 @@ use meaning::Condition;
 use meaning::Element;
 use meaning::Operand;
 use meaning::Test;
+use meaning::tags::Relation;
+use meaning::tags::Tag;
 
 pub fn read_operand(tag: u8, p: &[u8]) -> Operand
     ensures { λ r. ⌜ For (operand tag (now (p .entry))) (λ o. r ≡ o) ⌝ }
 {
-    if tag == 0x30 {
+    if tag == Tag::CONSTANT {
         return Operand::Constant(crate::word_of(p));
     }
-    Operand::Variable(crate::byte_at(p, 0))
+    Operand::Variable(crate::number_at(p, 0))
 }
 
 // The operand of number n in a row of operands.
@@ -32,15 +34,15 @@ pub fn operand_at(p: &[u8], n: usize) -> Operand
 pub fn read_element(tag: u8, p: &[u8]) -> Element
     ensures { λ r. ⌜ For (element tag (now (p .entry))) (λ e. r ≡ e) ⌝ }
 {
-    if tag == 0x30 {
+    if tag == Tag::CONSTANT {
         return Element::Constant(crate::word_of(p));
     }
-    if tag == 0x31 {
-        return Element::Variable(crate::byte_at(p, 0));
+    if tag == Tag::VARIABLE {
+        return Element::Variable(crate::number_at(p, 0));
     }
     let a = operand_at(p, 0);
     let b = operand_at(p, 1);
-    if tag == 0x32 {
+    if tag == Tag::SUM {
         return Element::Sum(a, b);
     }
     Element::Difference(a, b)
@@ -60,7 +62,7 @@ pub fn read_relation(p: &[u8]) -> Condition
     let operands = crate::behind(p, 1);
     let a = operand_at(operands, 0);
     let b = operand_at(operands, 1);
-    if crate::byte_at(p, 0) == 1 {
+    if crate::byte_at(p, 0) == Relation::EQUAL {
         return Condition::Equal(a, b);
     }
     Condition::Less(a, b)
@@ -70,15 +72,15 @@ pub fn read_relation(p: &[u8]) -> Condition
 pub fn read_condition(tag: u8, p: &[u8]) -> Condition
     ensures { λ r. ⌜ For (condition tag (now (p .entry))) (λ c. r ≡ c) ⌝ }
 {
-    if tag == 0x43 {
+    if tag == Tag::RELATION {
         return read_relation(p);
     }
-    let a = crate::byte_at(p, 0);
-    if tag == 0x40 {
-        return Condition::Edge(a, crate::byte_at(p, 1));
+    let a = crate::number_at(p, 0);
+    if tag == Tag::EDGE_TEST {
+        return Condition::Edge(a, crate::number_at(p, 1));
     }
     let n = crate::degree_of(p);
-    if tag == 0x41 {
+    if tag == Tag::IN_DEGREE {
         return Condition::InDegree(a, n);
     }
     Condition::OutDegree(a, n)

@@ -15,6 +15,8 @@ use meaning::Condition;
 use meaning::Element;
 use meaning::Operand;
 use meaning::Room;
+use meaning::tags::Tag;
+use meaning::tags::VariableType;
 use parts::Counts;
 use parts::Front;
 use plan::At;
@@ -24,7 +26,7 @@ use plan::Sorted;
 fn is_variable(tag: u8, p: &[u8], v: usize) -> bool
     ensures { λ b. ⌜ ((e : Element) → element tag (now (p .entry)) ≡ some e → b ≡ isVariable v e) ⌝ }
 {
-    if tag == 0x31 {
+    if tag == Tag::VARIABLE {
         if p.len() == 1 {
             return fields::wide(p[0]) == v;
         }
@@ -36,11 +38,11 @@ fn is_variable(tag: u8, p: &[u8], v: usize) -> bool
 fn is_list(types: &[u8], tag: u8, p: &[u8]) -> bool
     ensures { λ b. ⌜ ((r : Rule) → r .variables ≡ now (types .entry) → (e : Element) → element tag (now (p .entry)) ≡ some e → b ≡ takesList r e) ⌝ }
 {
-    if tag == 0x31 {
+    if tag == Tag::VARIABLE {
         if p.len() == 1 {
             let v = fields::wide(p[0]);
             if v < types.len() {
-                return types[v] == 2;
+                return types[v] == VariableType::LIST;
             }
         }
     }
@@ -158,7 +160,7 @@ fn items(rule: &[u8], start: usize, end: usize, plan: &mut [usize; At::LENGTH])
         plan[At::END + j] = start + e;
         j += 1;
         at = e;
-        if tag == 0x20 {
+        if tag == Tag::NODE {
             nodes += 1;
         }
     }

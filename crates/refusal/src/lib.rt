@@ -8,6 +8,7 @@ ghost use Rattle.refusal.specs.Checks.{sizeChecks, imageChecks, contentC
 use answers::Checked;
 use meaning::Layout;
 use meaning::Refusal;
+use meaning::tags::Limit;
 
 // Form, references and placement of an image: 16, 17, 18.
 pub fn image_check(image: &[u8]) -> Checked
@@ -45,7 +46,7 @@ pub fn length_check(
             if fuel > 1000000 {
                 return Checked::Refused(Refusal::TooMuchFuel);
             }
-            if image.len() > 8192 {
+            if image.len() > Limit::BYTES {
                 return Checked::Refused(Refusal::ImageTooLong);
             }
             Checked::Fine

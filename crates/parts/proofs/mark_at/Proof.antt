@@ -15,7 +15,7 @@ byte-at-requires : tie.Need-byte-at-requires
 byte-at-requires c κs = search needs
 
 returns : tie.Need-returns
-returns c = mark-there _ _ _ _ (c .before .before .before .node-count .ensures .0) _ (c .before .before .if1 .taken) (c .before .nth-part .ensures) (c .byte-at .ensures .0)
+returns c = mark-there _ _ _ _ (c .before .before .before .node-count .ensures .0) _ (c .before .before .if1 .taken) (c .before .nth-part .ensures) (c .byte-at .ensures)
 
 returns-2 : tie.Need-returns-2
 returns-2 c = mark-none _ [] _ _ (c .before .node-count .ensures .0) (c .if1 .left)

@@ -10,11 +10,11 @@ word-of-requires c κs = search needs
 returns : tie.Need-returns
 returns c = element-constant-is _ _ _ (c .before .if1 .taken) (c .word-of .ensures)
 
-byte-at-requires : tie.Need-byte-at-requires
-byte-at-requires c κs = search needs
+number-at-requires : tie.Need-number-at-requires
+number-at-requires c κs = search needs
 
 returns-2 : tie.Need-returns-2
-returns-2 c = element-variable-is _ _ _ (c .before .if2 .taken) (c .byte-at .ensures .0)
+returns-2 c = element-variable-is _ _ _ (c .before .if2 .taken) (c .number-at .ensures .0)
 
 operand-at-requires : tie.Need-operand-at-requires
 operand-at-requires c κs = search needs
@@ -34,7 +34,7 @@ read-element-spec =
     (tie.spec
     word-of-requires
     returns
-    byte-at-requires
+    number-at-requires
     returns-2
     operand-at-requires
     operand-at-requires-2

@@ -10,11 +10,11 @@ word-of-requires c κs = search needs
 returns : tie.Need-returns
 returns c = operand-first _ _ _ (c .before .if1 .taken) (c .word-of .ensures)
 
-byte-at-requires : tie.Need-byte-at-requires
-byte-at-requires c κs = search needs
+number-at-requires : tie.Need-number-at-requires
+number-at-requires c κs = search needs
 
 returns-2 : tie.Need-returns-2
-returns-2 c = operand-second _ _ _ (c .before .if1 .left) (c .byte-at .ensures .0)
+returns-2 c = operand-second _ _ _ (c .before .if1 .left) (c .number-at .ensures .0)
 
 pub read-operand-spec : {M : Type 1} → statement M
-read-operand-spec = tie.close (tie.spec word-of-requires returns byte-at-requires returns-2)
+read-operand-spec = tie.close (tie.spec word-of-requires returns number-at-requires returns-2)

@@ -17,10 +17,10 @@ byte-at-requires : tie.Need-byte-at-requires
 byte-at-requires c κs = search needs
 
 returns : tie.Need-returns
-returns c = equal-is _ _ _ _ _ (c .before .byte-at .ensures .0) (c .before .before .before .before .behind .ensures) (c .before .before .before .operand-at .ensures) (c .before .before .operand-at2 .ensures) (c .if1 .taken)
+returns c = equal-is _ _ _ _ _ (c .before .byte-at .ensures) (c .before .before .before .before .behind .ensures) (c .before .before .before .operand-at .ensures) (c .before .before .operand-at2 .ensures) (c .if1 .taken)
 
 returns-2 : tie.Need-returns-2
-returns-2 c = less-is _ _ _ _ _ (c .before .byte-at .ensures .0) (c .before .before .before .before .behind .ensures) (c .before .before .before .operand-at .ensures) (c .before .before .operand-at2 .ensures) (c .if1 .left)
+returns-2 c = less-is _ _ _ _ _ (c .before .byte-at .ensures) (c .before .before .before .before .behind .ensures) (c .before .before .before .operand-at .ensures) (c .before .before .operand-at2 .ensures) (c .if1 .left)
 
 pub read-relation-spec : {M : Type 1} → statement M
 read-relation-spec =

@@ -14,7 +14,7 @@ byte-at-requires : tie.Need-byte-at-requires
 byte-at-requires c κs = search needs
 
 returns : tie.Need-returns
-returns c = test-read _ _ _ _ _ (c .byte-at .ensures .0) (c .before .before .behind .ensures) (c .before .read-condition .ensures)
+returns c = test-read _ _ _ _ _ (c .byte-at .ensures) (c .before .before .behind .ensures) (c .before .read-condition .ensures)
 
 pub read-test-spec : {M : Type 1} → statement M
 read-test-spec =
