@@ -14,4 +14,5 @@ pub mod Commands
 pub mod Calls
 pub mod Computing
 pub mod ProvedSet
+pub mod Examples
 pub mod Laws

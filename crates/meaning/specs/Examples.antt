@@ -1,0 +1,92 @@
+-- Further worked cases, computed from bytes to bytes: at each of them a likely mistake in the definitions would give another
+-- outcome. Rests on Calls and on the proved set's words.
+use mathlib.Core.Path.{_≡_, refl}
+use mathlib.Core.List.{List, [], _∷_, _++_, map}
+use Prim.Native.Nat.{ℕ, _*_}
+use lib.ListN.{replicate}
+use Rattle.meaning.specs.Layout.{base, edgeLength, recordLength}
+use Rattle.meaning.specs.Tags.{ruleTag, variablesTag, leftTag, rightTag, interfaceTag, testsTag, constantTag, sumTag, outDegreeTag, ifTag, loopTag}
+use Rattle.meaning.specs.Calls.{Left, run, undo, reportOf, lending, lendingBack}
+use Rattle.meaning.specs.ProvedSet.{Case, given, nodeSlot, freeNode, edgeSlot, nodeRecord, edgeRecord, plainNode, redNode, field, ruleField, nodeField, edgeField, variable, calls, skipField, breakField, results, onPlainNode}
+use Rattle.meaning.specs.Computing.{computing}
+use Rattle.meaning.specs.declared.Answer.the-variants.{Result}
+
+abbrev freeEdge : List ℕ
+freeEdge = replicate (edgeLength base) 0
+
+-- a node goes together with its loop
+abbrev deletesLooped : List ℕ
+deletesLooped = ruleField [] (nodeField 0 [] ++ edgeField 0 0) [] 0
+
+-- M, where no edge leaves the node
+abbrev marksLone : List ℕ
+marksLone =
+    field ruleTag
+    (field variablesTag []
+    ++ field leftTag (nodeField 0 [])
+    ++ field rightTag (nodeField 1 [])
+    ++ field interfaceTag (1 ∷ [])
+    ++ field testsTag (field outDegreeTag (0 ∷ 0 ∷ 0 ∷ 0 ∷ [])))
+
+-- x becomes x + 1
+abbrev adds : List ℕ
+adds =
+    ruleField (1 ∷ []) (nodeField 0 (variable 0))
+    (nodeField 0 (field sumTag (variable 0 ++ field constantTag (0 ∷ 0 ∷ 0 ∷ 1 ∷ []))))
+    1
+
+-- the largest atom
+abbrev largest : List ℕ
+largest = nodeSlot 0 0 (1 ∷ 127 ∷ 255 ∷ 255 ∷ 255 ∷ [])
+
+abbrev examples : List Case
+examples =
+    -- no break stands in a guard, whatever stands around it
+    onPlainNode 100 (field loopTag (field ifTag (breakField ++ skipField ++ skipField)))
+    (record { answer = 18; nodes = plainNode; edges = []; journal = replicate (8 * recordLength base) 1; report = reportOf 0 0 })
+    -- a label that can't be held is answered before records that don't fit
+    ∷ record {
+      nodes = largest;
+      edges = [];
+      records = 0;
+      image = adds ++ calls 0;
+      fuel = 100;
+      expected = record { answer = 6; nodes = largest; edges = []; journal = []; report = reportOf 1 0 };
+    }
+    -- a free edge slot leaves no node
+    ∷ record {
+      nodes = plainNode;
+      edges = freeEdge;
+      records = 8;
+      image = marksLone ++ calls 0;
+      fuel = 100;
+      expected = results 1 1 redNode freeEdge (nodeRecord 0 plainNode);
+    }
+    -- a loop is one edge at its node
+    ∷ record {
+      nodes = plainNode;
+      edges = edgeSlot 0 0;
+      records = 8;
+      image = deletesLooped ++ calls 0;
+      fuel = 100;
+      expected = results 1 2 freeNode freeEdge (edgeRecord 0 (edgeSlot 0 0) ++ nodeRecord 0 plainNode);
+    }
+    ∷ []
+
+pub as-expected : map given examples ≡ map (λ c. c .expected) examples
+unfolding computing
+as-expected = refl
+
+-- a report of another length than 8 is left as it came
+pub short-report : run base (lending plainNode [] [] skipField 1 (7 ∷ [])) .report ≡ 7 ∷ []
+unfolding computing
+short-report = refl
+
+-- undo puts the counted records back and zeros them
+abbrev restored : Left
+restored =
+    record { answer = Result; nodes = plainNode; edges = []; journal = replicate (recordLength base) 0; report = reportOf 0 1 }
+
+pub record-zeroed : undo base (lendingBack freeNode [] (nodeRecord 0 plainNode) 1 (replicate 8 7)) ≡ restored
+unfolding computing
+record-zeroed = refl
