@@ -17,9 +17,9 @@ use Rattle.meaning.specs.References.{labels, takesList, lists, ruleHolds}
 use Rattle.meaning.specs.Matching.{leftNodes, leftEdges, total}
 use Rattle.meaning.specs.Assigned.{isVariable, share, spare, taken, orElse}
 use Rattle.meaning.specs.FirstMatch.{has, firstWith}
-use Rattle.meaning.specs.Laws.References.{label-simple}
-use Rattle.meaning.specs.Laws.Assignment.{labels-length, label-node, label-edge}
-use Rattle.meaning.specs.Laws.Image.Parsed.{label-few, ruleNode-is, ruleEdge-is}
+use Rattle.laws.specs.References.{label-simple}
+use Rattle.laws.specs.Assignment.{labels-length, label-node, label-edge}
+use Rattle.fields.specs.Parsed.{label-few, ruleNode-is, ruleEdge-is}
 use Rattle.meaning.specs.declared.Element.{Element}
 use Rattle.meaning.specs.declared.Element.the-variants.{Constant, Variable, Sum, Difference}
 use Rattle.parts.specs.Elements.{Counted}

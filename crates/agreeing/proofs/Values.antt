@@ -17,7 +17,7 @@ use Rattle.meaning.specs.Assigned.{isVariable, assigned}
 use Rattle.meaning.specs.FirstMatch.{has, firstWith}
 use Rattle.meaning.specs.Laws.Tests.{either-left, either-right}
 use Rattle.meaning.specs.Laws.Every.{Every}
-use Rattle.meaning.specs.Laws.References.{label-plain, label-variables}
+use Rattle.laws.specs.References.{label-plain, label-variables}
 use Rattle.meaning.specs.declared.Element.{Element}
 use Rattle.meaning.specs.declared.Element.the-variants.{Constant, Variable, Sum, Difference}
 use Rattle.agreeing.specs.Placed.{slots, slotOf, labelAt}

@@ -15,8 +15,8 @@ use Rattle.meaning.specs.Matching.{nodeAt, edgeAt, leftNodes, total}
 use Rattle.meaning.specs.Assigned.{spare, taken, paired, hostLabels, orElse, valueFrom, assigned}
 use Rattle.meaning.specs.FirstMatch.{has, firstWith}
 use Rattle.meaning.specs.Laws.Tests.{choose-lt, choose-le}
-use Rattle.meaning.specs.Laws.Labels.{taken-has, taken-not}
-use Rattle.meaning.specs.Laws.Assignment.{labels-length}
+use Rattle.laws.specs.Labels.{taken-has, taken-not}
+use Rattle.laws.specs.Assignment.{labels-length}
 use Rattle.meaning.specs.declared.Element.{Element}
 use Rattle.agreeing.specs.Placed.{labelAt}
 

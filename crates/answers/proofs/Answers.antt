@@ -14,7 +14,7 @@ use Rattle.meaning.specs.Numbers.{bytes}
 use Rattle.meaning.specs.Layout.{Sized, fitsTable}
 use Rattle.meaning.specs.Calls.{reportOf, lengthChecks}
 use Rattle.meaning.specs.Laws.Checks.{first-no, first-yes, first-none}
-use Rattle.meaning.specs.Laws.Numbers.{length-bytes}
+use Rattle.laws.specs.Numbers.{length-bytes}
 use Rattle.meaning.specs.declared.Layout.{Layout}
 use Rattle.meaning.specs.declared.Refusal.{Refusal}
 use Rattle.meaning.specs.declared.Refusal.the-variants.{ReportLength, NodeTableLength, EdgeTableLength, JournalLength}

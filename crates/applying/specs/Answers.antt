@@ -12,7 +12,7 @@ use Rattle.meaning.specs.Layout.{recordLength, readNodes, readEdges}
 use Rattle.meaning.specs.Image.{Rule}
 use Rattle.meaning.specs.Applying.{Right, Ledger, rightSide, changed, hindrance, onFreeNode, Applied, applied, hindered, tested, apply}
 use Rattle.meaning.specs.Laws.Tests.{some-inj, choose-true}
-use Rattle.meaning.specs.Laws.Legality.{tested-legal}
+use Rattle.laws.specs.Legality.{tested-legal}
 use Rattle.meaning.specs.declared.Layout.{Layout}
 use Rattle.meaning.specs.declared.Stop.{Stop}
 use Rattle.meaning.specs.declared.Stop.the-variants.{EdgeOnFreeNode}

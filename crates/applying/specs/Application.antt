@@ -13,7 +13,7 @@ use Rattle.meaning.specs.References.{names}
 use Rattle.meaning.specs.Assigned.{assigned}
 use Rattle.meaning.specs.FirstMatch.{firstMatch}
 use Rattle.meaning.specs.Applying.{Ledger, Applied, applied, hindered, apply}
-use Rattle.meaning.specs.Laws.Values.{LegalRule}
+use Rattle.laws.specs.Values.{LegalRule}
 use Rattle.meaning.specs.declared.Layout.{Layout}
 use Rattle.meaning.specs.declared.Stop.{Stop}
 use Rattle.meaning.specs.Matching.{total}

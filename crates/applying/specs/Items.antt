@@ -15,9 +15,9 @@ use Rattle.meaning.specs.Assigned.{assigned}
 use Rattle.meaning.specs.Applying.{labelValue, Ledger, store, between}
 use Rattle.meaning.specs.Laws.Tests.{choose-eq, choose-ne, choose-false}
 use Rattle.meaning.specs.Laws.Every.{Every-in}
-use Rattle.meaning.specs.Laws.Hosts.{LegalNode, LegalEdge}
-use Rattle.meaning.specs.Laws.Values.{LegalValue}
-use Rattle.meaning.specs.Laws.Image.Parsed.{ruleNode-is, IsEdge, ruleEdge-is}
+use Rattle.laws.specs.Hosts.{LegalNode, LegalEdge}
+use Rattle.laws.specs.Values.{LegalValue}
+use Rattle.fields.specs.Parsed.{ruleNode-is, IsEdge, ruleEdge-is}
 use Rattle.meaning.specs.declared.Layout.{Layout}
 use Rattle.labels.specs.Labels.{atomsIn}
 use Rattle.parts.specs.Runs.{For}

@@ -15,9 +15,9 @@ use Rattle.meaning.specs.References.{names}
 use Rattle.meaning.specs.Matching.{leftNodes, leftEdges, nodeIn, nodeAt, nodeSlot, total}
 use Rattle.meaning.specs.Assigned.{assigned}
 use Rattle.meaning.specs.Applying.{labelValue, Right, rightSide, freeSlots, addNodes, between, changed, hindrance}
-use Rattle.meaning.specs.Laws.Hosts.{LegalNode, LegalEdge}
-use Rattle.meaning.specs.Laws.Room.{afterLeft}
-use Rattle.meaning.specs.Laws.Values.{LegalRight}
+use Rattle.laws.specs.Hosts.{LegalNode, LegalEdge}
+use Rattle.laws.specs.Room.{afterLeft}
+use Rattle.laws.specs.Values.{LegalRight}
 use Rattle.meaning.specs.declared.Layout.{Layout}
 use Rattle.values.specs.Values.{valuesOf, Stored, Agree}
 use Rattle.ledger.specs.Running.{ledgerOf, Running, Leads}

@@ -14,16 +14,16 @@ use Rattle.meaning.specs.Matching.{leftNodes, leftEdges, Match, total}
 use Rattle.meaning.specs.Applying.{Right, rightSide, Ledger, Added, stores, freeSlots, edgesGo, nodesChange, addNodes, between, addEdges, changed, recordsOf, hindrance}
 use Rattle.meaning.specs.Laws.Tests.{isSome-true}
 use Rattle.meaning.specs.Laws.Every.{Every-in}
-use Rattle.meaning.specs.Laws.Hosts.{LegalEdge}
-use Rattle.meaning.specs.Laws.Pieces.{length-read}
-use Rattle.meaning.specs.Laws.Applying.{stores-append, rightSide-some}
+use Rattle.laws.specs.Hosts.{LegalEdge}
+use Rattle.laws.specs.Pieces.{length-read}
+use Rattle.laws.specs.Applying.{stores-append, rightSide-some}
 use Rattle.meaning.specs.Laws.Checks.{firstFailing-none}
-use Rattle.meaning.specs.Laws.Room.{afterNew, changed-is, afterLeft-nodes, afterLeft-edges}
-use Rattle.meaning.specs.Laws.Attached.{rightSlots}
-use Rattle.meaning.specs.Laws.Values.{LegalRight, interface-left, interface-right, new-marked, rightSide-legal}
-use Rattle.meaning.specs.Laws.FirstMatch.{found-match, node-inside, edge-inside}
-use Rattle.meaning.specs.Laws.Image.Parsed.{Few, rule-few}
-use Rattle.meaning.specs.Laws.Legality.{Ready, between-legal}
+use Rattle.laws.specs.Room.{afterNew, changed-is, afterLeft-nodes, afterLeft-edges}
+use Rattle.laws.specs.Attached.{rightSlots}
+use Rattle.laws.specs.Values.{LegalRight, interface-left, interface-right, new-marked, rightSide-legal}
+use Rattle.laws.specs.FirstMatch.{found-match, node-inside, edge-inside}
+use Rattle.fields.specs.Parsed.{Few, rule-few}
+use Rattle.laws.specs.Legality.{Ready, between-legal}
 use Rattle.meaning.specs.declared.Layout.{Layout}
 use Rattle.ledger.specs.Running.{journalOf, ledgerOf, Held, Leads}
 use Rattle.ledger.specs.Changes.{Went, Below, goes, quotient-le}

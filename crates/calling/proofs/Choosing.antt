@@ -15,7 +15,7 @@ use Rattle.meaning.specs.Image.{Rule, Program, rule, program}
 use Rattle.meaning.specs.FirstMatch.{firstMatch}
 use Rattle.meaning.specs.Commands.{orLater, ruleAt, firstRule}
 use Rattle.meaning.specs.Laws.Tests.{some-inj, every-true}
-use Rattle.meaning.specs.Laws.LegalCommands.{legal-rule}
+use Rattle.laws.specs.LegalCommands.{legal-rule}
 use Rattle.meaning.specs.declared.Layout.{Layout}
 use Rattle.parts.specs.Runs.{For}
 use Rattle.plan.specs.Plan.{IsRule}

@@ -9,8 +9,8 @@ use Rattle.meaning.specs.Image.{Rule, rule, program}
 use Rattle.meaning.specs.Applying.{Ledger, apply}
 use Rattle.meaning.specs.Commands.{ends, afterApplying, Chosen, ruleAt, firstRule, call, stateAt}
 use Rattle.meaning.specs.Calls.{journalRoom}
-use Rattle.meaning.specs.Laws.Commands.{firstRule-some}
-use Rattle.meaning.specs.Laws.LegalCommands.{legal-rule}
+use Rattle.laws.specs.Commands.{firstRule-some}
+use Rattle.laws.specs.LegalCommands.{legal-rule}
 use Rattle.meaning.specs.declared.Layout.{Layout}
 use Rattle.meaning.specs.declared.Tally.{Tally}
 use Rattle.meaning.specs.declared.Stop.{Stop}

@@ -11,7 +11,7 @@ use Rattle.meaning.specs.Basics.{every}
 use Rattle.meaning.specs.Image.{Program, program}
 use Rattle.meaning.specs.Commands.{Out, firstRule, call}
 use Rattle.meaning.specs.Calls.{journalRoom}
-use Rattle.meaning.specs.Laws.LegalCommands.{LegalRules}
+use Rattle.laws.specs.LegalCommands.{LegalRules}
 use Rattle.meaning.specs.declared.Layout.{Layout}
 use Rattle.meaning.specs.declared.Tally.{Tally}
 use Rattle.meaning.specs.Layout.{hostOf}

@@ -11,8 +11,8 @@ use Rattle.meaning.specs.Image.{Command, guarded, loop, skip, inOrder, command}
 use Rattle.meaning.specs.References.{rulesExist}
 use Rattle.meaning.specs.Commands.{State, Out, ends, back, work, works, exec}
 use Rattle.meaning.specs.Calls.{journalRoom}
-use Rattle.meaning.specs.Laws.Hosts.{LegalHost}
-use Rattle.meaning.specs.Laws.Restoring.{From}
+use Rattle.laws.specs.Hosts.{LegalHost}
+use Rattle.laws.specs.Restoring.{From}
 use Rattle.meaning.specs.declared.Layout.{Layout}
 use Rattle.meaning.specs.declared.Tally.{Tally}
 use Rattle.meaning.specs.declared.End.{End}

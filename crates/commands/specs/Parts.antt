@@ -11,8 +11,8 @@ use Rattle.meaning.specs.Basics.{choose, both, every}
 use Rattle.meaning.specs.Image.{Command, ruleSet, sequence, guarded, loop, skip, fail, break, only, anyTag, inOrder, command}
 use Rattle.meaning.specs.References.{rulesExist, allRulesExist, references}
 use Rattle.meaning.specs.Laws.Tests.{both-true, every-true}
-use Rattle.meaning.specs.Laws.Image.{field-is}
-use Rattle.meaning.specs.Laws.Image.Parsed.{command-tag, command-50, command-51, command-52, command-53, command-54, command-55, command-56, command-57}
+use Rattle.fields.specs.Image.{field-is}
+use Rattle.fields.specs.Parsed.{command-tag, command-50, command-51, command-52, command-53, command-54, command-55, command-56, command-57}
 use Rattle.meaning.specs.declared.End.{End}
 use Rattle.meaning.specs.declared.End.the-variants.{Done, Failed, Broke, Stopped}
 use Rattle.fields.specs.Fields.{fieldAt, onward, nthField}

@@ -10,8 +10,8 @@ use lib.ListN.{getD}
 use Rattle.meaning.specs.Basics.{choose}
 use Rattle.meaning.specs.Image.{Rule, Command, guarded, loop, skip, Commands, inOrder}
 use Rattle.meaning.specs.Commands.{State, Out, ends, next, decide, again, rounds, work, works, exec, stateAt}
-use Rattle.meaning.specs.Laws.Commands.{exec-entered}
-use Rattle.meaning.specs.Laws.Fuel.{exec-spending, rounds-bound}
+use Rattle.laws.specs.Commands.{exec-entered}
+use Rattle.laws.specs.Fuel.{exec-spending, rounds-bound}
 use Rattle.meaning.specs.declared.Stop.the-variants.{OutOfFuel}
 use Rattle.meaning.specs.declared.End.{End}
 use Rattle.meaning.specs.declared.End.the-variants.{Done, Failed, Broke, Stopped}

@@ -14,9 +14,9 @@ use Rattle.meaning.specs.References.{rulesExist}
 use Rattle.meaning.specs.Commands.{State, Out, work, works, exec}
 use Rattle.meaning.specs.Calls.{journalRoom}
 use Rattle.meaning.specs.Laws.Tests.{both-true, some-inj}
-use Rattle.meaning.specs.Laws.Restoring.{From, from-count}
-use Rattle.meaning.specs.Laws.Commands.{exec-from}
-use Rattle.meaning.specs.Laws.Fuel.{Counted, exec-counted, exec-spending}
+use Rattle.laws.specs.Restoring.{From, from-count}
+use Rattle.laws.specs.Commands.{exec-from}
+use Rattle.laws.specs.Fuel.{Counted, exec-counted, exec-spending}
 use Rattle.meaning.specs.declared.Layout.{Layout}
 use Rattle.meaning.specs.declared.Tally.{Tally}
 use Rattle.meaning.specs.declared.Stop.the-variants.{OutOfFuel}

@@ -18,11 +18,11 @@ use Rattle.meaning.specs.ProvedSet.{Expected, Case, given, cases, proved-set, p
 use Rattle.demands.specs.Demands.{Outcome, Interpreter, In, Bytewise, start, Demand2, Demand3}
 use Rattle.demands.specs.Ours.{outcome, ours}
 use Rattle.demands.specs.First.{run-settled}
-use Rattle.meaning.specs.Laws.Undoing.{base-numbered}
+use Rattle.laws.specs.Undoing.{base-numbered}
 use Rattle.demands.specs.Second.{one-outcome}
 use Rattle.demands.specs.Third.{one-count}
 use Rattle.meaning.specs.Laws.Tests.{both-true}
-use Rattle.meaning.specs.Laws.Numbers.{Bytes}
+use Rattle.laws.specs.Numbers.{Bytes}
 use Rattle.meaning.specs.declared.Refusal.{Refusal}
 use Rattle.meaning.specs.declared.Refusal.the-variants.{BadForm}
 

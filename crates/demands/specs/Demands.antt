@@ -16,7 +16,7 @@ use Rattle.meaning.specs.Image.{Program, limits, program}
 use Rattle.meaning.specs.Commands.{State, beginning}
 use Rattle.demands.specs.Inference.{Runs}
 use Rattle.meaning.specs.Calls.{Lent, LentBack, mostFuel, referencesHold, placementHolds, keepsRecords}
-use Rattle.meaning.specs.Laws.Numbers.{Bytes}
+use Rattle.laws.specs.Numbers.{Bytes}
 use Rattle.meaning.specs.declared.Layout.{Layout}
 use Rattle.meaning.specs.declared.Stop.{Stop}
 use Rattle.meaning.specs.declared.Stop.the-variants.{OutOfFuel, NoNodeRoom, NoEdgeRoom, NoRecordRoom, LabelTooLarge, EdgeOnFreeNode}

@@ -1,4 +1,4 @@
--- Our two calls meet demand 1. Rests on Demands/Ours.
+-- Our two calls meet demand 1. Rests on Ours.
 use Prim.Native.Nat.{ℕ, _≤_}
 use mathlib.Core.Path.{_≡_, refl, sym, _∙_, ap}
 use mathlib.Core.Logic.{_⊎_, inl, inr}
@@ -16,7 +16,7 @@ use Rattle.demands.specs.Ours.{outcome, ours, refusing-some, end, ours-l
 use Rattle.meaning.specs.Laws.Tests.{some-inj}
 use Rattle.meaning.specs.Laws.Every.{Every}
 use Rattle.meaning.specs.Laws.Checks.{failing-of}
-use Rattle.meaning.specs.Laws.Calls.{refused-report}
+use Rattle.laws.specs.Calls.{refused-report}
 use Rattle.meaning.specs.declared.Layout.{Layout}
 use Rattle.meaning.specs.declared.Stop.{Stop}
 use Rattle.meaning.specs.declared.Stop.the-variants.{OutOfFuel, NoNodeRoom, NoEdgeRoom, NoRecordRoom, LabelTooLarge, EdgeOnFreeNode}

@@ -1,9 +1,9 @@
--- Our two calls, laid out as document 01 says, meet all three demands. Rests on Demands/First, Demands/Second and Demands/Third.
+-- Our two calls, laid out as document 01 says, meet all three demands. Rests on First, Demands/Second and Demands/Third.
 use Rattle.meaning.specs.Layout.{base}
 use Rattle.demands.specs.Demands.{Demand1, Demand2, Demand3}
 use Rattle.demands.specs.Ours.{ours}
 use Rattle.demands.specs.First.{demand1}
-use Rattle.meaning.specs.Laws.Undoing.{base-numbered}
+use Rattle.laws.specs.Undoing.{base-numbered}
 use Rattle.demands.specs.Second.{demand2}
 use Rattle.demands.specs.Third.{demand3}
 

@@ -1,5 +1,5 @@
 -- Demands 1 and 2 leave one outcome of run for each input: every interpreter that meets both leaves what ours leaves.
--- Rests on Demands/First and Demands/Second.
+-- Rests on First and Demands/Second.
 use Prim.Native.Nat.{ℕ}
 use mathlib.Core.Path.{_≡_, refl, sym, _∙_}
 use mathlib.Core.Option.{Option, some, none}
@@ -9,7 +9,7 @@ use Rattle.meaning.specs.Calls.{Lent}
 use Rattle.demands.specs.Demands.{Outcome, Interpreter, Bytewise, Untouched, refusal, Demand1, Demand2}
 use Rattle.demands.specs.Ours.{ours}
 use Rattle.demands.specs.First.{refusal-answer, demand1}
-use Rattle.meaning.specs.Laws.Undoing.{Numbered}
+use Rattle.laws.specs.Undoing.{Numbered}
 use Rattle.demands.specs.Second.{one-outcome}
 use Rattle.meaning.specs.declared.Layout.{Layout}
 

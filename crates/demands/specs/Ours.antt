@@ -1,4 +1,4 @@
--- Our two calls as an interpreter, and what it leaves by whether its input is refused. Rests on Demands and Laws/Calls.
+-- Our two calls as an interpreter, and what it leaves by whether its input is refused. Rests on Demands and laws' Calls.
 use Prim.Native.Nat.{ℕ}
 use mathlib.Core.Path.{_≡_, refl, sym, _∙_, ap}
 use mathlib.Core.Bool.{Bool, true, false}
@@ -10,7 +10,7 @@ use Rattle.meaning.specs.Image.{Program, program}
 use Rattle.meaning.specs.Commands.{Out}
 use Rattle.meaning.specs.Calls.{Left, stopNumber, answerNumber, refusalNumber, refused, runRefusal, finished, run, undoRefusal as undoRefused, undoOn, undo, Lent, LentBack}
 use Rattle.demands.specs.Demands.{Outcome, Interpreter, stopAnswer, refusal, undoRefusal, back, leaves}
-use Rattle.meaning.specs.Laws.Calls.{Accepted, accepted, accepts, run-refused, ending, run-started, undo-refused}
+use Rattle.laws.specs.Calls.{Accepted, accepted, accepts, run-refused, ending, run-started, undo-refused}
 use Rattle.meaning.specs.declared.Layout.{Layout}
 use Rattle.meaning.specs.declared.Refusal.{Refusal}
 use Rattle.meaning.specs.declared.Stop.{Stop}

@@ -1,5 +1,5 @@
--- Our two calls meet demand 2, and demand 2 leaves one outcome of run where it starts. Rests on Demands/Started and
--- Laws/Undoing.
+-- Our two calls meet demand 2, and demand 2 leaves one outcome of run where it starts. Rests on Started and
+-- laws' Undoing.
 use Prim.Native.Nat.{ℕ, _/_}
 use mathlib.Core.Path.{_≡_, refl, sym, _∙_, ap}
 use mathlib.Core.Option.{some, none}
@@ -16,8 +16,8 @@ use Rattle.demands.specs.First.{stop-answer, run-settled}
 use Rattle.demands.specs.Started.{rules-sound, last, last-means}
 use Rattle.meaning.specs.Laws.Tests.{some-inj}
 use Rattle.demands.specs.Laws.Inference.{runs-one}
-use Rattle.meaning.specs.Laws.Calls.{run-started}
-use Rattle.meaning.specs.Laws.Undoing.{Numbered, run-undo}
+use Rattle.laws.specs.Calls.{run-started}
+use Rattle.laws.specs.Undoing.{Numbered, run-undo}
 use Rattle.meaning.specs.declared.Layout.{Layout}
 use Rattle.meaning.specs.declared.Answer.the-variants.{Result}
 use Rattle.meaning.specs.declared.End.{End}

@@ -1,5 +1,5 @@
 -- What is known of a run of ours that starts: its rules are legal, what it ends at is legal and its records fit the journal,
--- and it ends as the rules of inference say. Rests on Demands/Ours, Laws/Undoing, Laws/LegalImage and Laws/Inference.
+-- and it ends as the rules of inference say. Rests on Ours, laws' Undoing, laws' LegalImage and Laws/Inference.
 use Prim.Native.Nat.{ℕ, _/_, _≤_}
 use mathlib.Core.List.{List, map, reverse}
 use native.Mathlib.Omega.{arith}
@@ -12,13 +12,13 @@ use Rattle.meaning.specs.Placement.{placement}
 use Rattle.meaning.specs.Calls.{Lent}
 use Rattle.demands.specs.Demands.{Bytewise, start, Means}
 use Rattle.demands.specs.Ours.{end, Good}
-use Rattle.meaning.specs.Laws.Records.{length-written}
-use Rattle.meaning.specs.Laws.Commands.{exec-room}
-use Rattle.meaning.specs.Laws.Legality.{LegalLedger}
-use Rattle.meaning.specs.Laws.LegalCommands.{LegalRules, legal-sound}
-use Rattle.meaning.specs.Laws.LegalImage.{program-legal}
-use Rattle.meaning.specs.Laws.Undoing.{Numbered, out-legal}
-use Rattle.meaning.specs.Laws.References.{Sound}
+use Rattle.laws.specs.Records.{length-written}
+use Rattle.laws.specs.Commands.{exec-room}
+use Rattle.laws.specs.Legality.{LegalLedger}
+use Rattle.laws.specs.LegalCommands.{LegalRules, legal-sound}
+use Rattle.laws.specs.LegalImage.{program-legal}
+use Rattle.laws.specs.Undoing.{Numbered, out-legal}
+use Rattle.laws.specs.References.{Sound}
 use Rattle.demands.specs.Laws.Inference.{exec-runs}
 use Rattle.meaning.specs.declared.Layout.{Layout}
 

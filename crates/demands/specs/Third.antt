@@ -1,4 +1,4 @@
--- Our run meets demand 3. Rests on Demands/Started, Laws/FurtherTables, Laws/FurtherCommands and Laws/Shortage.
+-- Our run meets demand 3. Rests on Started, Laws/FurtherTables, Laws/FurtherCommands and Laws/Shortage.
 use Prim.Native.Nat.{ℕ, zero, suc, _+_, _-_, _/_, _%_, _<_, _≤_}
 use mathlib.Core.Path.{_≡_, refl, sym, _∙_, ap, subst}
 use mathlib.Core.Option.{some, none}
@@ -17,12 +17,12 @@ use Rattle.demands.specs.Demands.{Outcome, Interpreter, stopAnswer, In, 
 use Rattle.demands.specs.Ours.{ours, end, ours-leaves, Good, good, good-starts}
 use Rattle.demands.specs.First.{run-settled}
 use Rattle.demands.specs.Started.{rules-sound, written-fits, last-means}
-use Rattle.meaning.specs.Laws.Undoing.{Numbered}
+use Rattle.laws.specs.Undoing.{Numbered}
 use Rattle.meaning.specs.Laws.Tests.{absent-false, some-inj}
-use Rattle.meaning.specs.Laws.Numbers.{length-bytes}
+use Rattle.laws.specs.Numbers.{length-bytes}
 use Rattle.demands.specs.Laws.Inference.{runs-one}
-use Rattle.meaning.specs.Laws.Pieces.{fits-length}
-use Rattle.meaning.specs.Laws.Fuel.{exec-counted}
+use Rattle.laws.specs.Pieces.{fits-length}
+use Rattle.laws.specs.Fuel.{exec-counted}
 use Rattle.demands.specs.Laws.Shortage.{fuelled, endsWith, exec-fuel, exec-shortage}
 use Rattle.demands.specs.Laws.FurtherCommands.{EndsWithRoom, roomierState, roomierOut, exec-roomier}
 use Rattle.demands.specs.Laws.FurtherTables.{readNodes-further, readEdges-further, writeNodes-further, writeEdges-further, keepsLayout-further, padded-longer}

@@ -17,7 +17,7 @@ use Rattle.demands.specs.Demands.{Outcome, Interpreter, stating, Roomier
 use Rattle.demands.specs.Ours.{ours}
 use Rattle.demands.specs.First.{run-settled}
 use Rattle.demands.specs.Cases.{lent, caseAt, lentBytes, running, runsOn, by, breaks2, atCase, breaks3}
-use Rattle.meaning.specs.Laws.Undoing.{base-numbered}
+use Rattle.laws.specs.Undoing.{base-numbered}
 use Rattle.demands.specs.Third.{entered-is}
 use Rattle.meaning.specs.declared.Stop.the-variants.{OutOfFuel, NoNodeRoom, NoEdgeRoom, NoRecordRoom, LabelTooLarge, EdgeOnFreeNode}
 use Rattle.meaning.specs.declared.End.{End}

@@ -8,8 +8,8 @@ use lib.ListN.{length}
 use Rattle.meaning.specs.Basics.{choose}
 use Rattle.meaning.specs.Tags.{ruleSetTag, sequenceTag, ifTag, tryTag, loopTag, skipTag, failTag, breakTag}
 use Rattle.meaning.specs.Commands.{State, Out, ends, back}
-use Rattle.meaning.specs.Laws.Hosts.{LegalHost}
-use Rattle.meaning.specs.Laws.Restoring.{From}
+use Rattle.laws.specs.Hosts.{LegalHost}
+use Rattle.laws.specs.Restoring.{From}
 use Rattle.meaning.specs.declared.Layout.{Layout}
 use Rattle.meaning.specs.declared.Tally.{Tally}
 use Rattle.meaning.specs.declared.Ran.{Ran}

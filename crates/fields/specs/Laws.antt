@@ -13,8 +13,8 @@ use lib.Seq.{drop-drop, drop-cons}
 use Rattle.meaning.specs.Numbers.{number}
 use Rattle.meaning.specs.Image.{field, stated, leading, Field as Whole}
 use Rattle.meaning.specs.Laws.Tests.{choose-true, choose-false}
-use Rattle.meaning.specs.Laws.Image.Parsed.{Head, leading-head}
-use Rattle.meaning.specs.Laws.Image.{first-at, field-is, field-of, field-small, field-cut}
+use Rattle.fields.specs.Parsed.{Head, leading-head}
+use Rattle.fields.specs.Image.{first-at, field-is, field-of, field-small, field-cut}
 use Rattle.fields.specs.Fields.{placed, fieldAt, onward, nthField}
 use Rattle.fields.specs.declared.Found.{Found}
 use Rattle.fields.specs.declared.Found.the-variants.{Field, Short, End}

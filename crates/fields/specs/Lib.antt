@@ -1,2 +1,4 @@
+pub mod Image
+pub mod Parsed
 pub mod Fields
 pub mod Laws

@@ -15,7 +15,7 @@ use Rattle.meaning.specs.FirstMatch.{marksAgree, labelAgrees, testsSoFar, joins
 use Rattle.meaning.specs.Assigned.{assigned}
 use Rattle.meaning.specs.Laws.Tests.{choose-lt, choose-le}
 use Rattle.meaning.specs.Laws.Loops.{clauses-fail, first-of, of-first, of-second}
-use Rattle.meaning.specs.Laws.Assignment.{label-node, label-edge}
+use Rattle.laws.specs.Assignment.{label-node, label-edge}
 use Rattle.plan.specs.Plan.{labelOf, edgesAt, nodesAt}
 use Rattle.agreeing.specs.Placed.{Known, labelAt}
 use Rattle.agreeing.specs.Candidates.{Candidate, Guessed, Likely}

@@ -13,8 +13,8 @@ use lib.Seq.{getD-drop}
 use Rattle.meaning.specs.Numbers.{number}
 use Rattle.meaning.specs.Layout.{Slot, free, isLive, Node, Edge, Sized, nodeLength, edgeLength, pieces, cut, atoms, readNode, readEdge, readNodes, readEdges, keepsNode, keepsEdge}
 use Rattle.meaning.specs.Matching.{nodeIn, edgeIn}
-use Rattle.meaning.specs.Laws.Pieces.{getD-map, length-pieces, length-read}
-use Rattle.meaning.specs.Laws.Layout.{getD-zeros, length-atoms, readNode-free, readNode-live, isLive-readNode, keepsNode-free, keepsNode-live, readEdge-free, readEdge-live, isLive-readEdge, keepsEdge-free, keepsEdge-live, kept-node, kept-edge}
+use Rattle.laws.specs.Pieces.{getD-map, length-pieces, length-read}
+use Rattle.laws.specs.Layout.{getD-zeros, length-atoms, readNode-free, readNode-live, isLive-readNode, keepsNode-free, keepsNode-live, readEdge-free, readEdge-live, isLive-readEdge, keepsEdge-free, keepsEdge-live, kept-node, kept-edge}
 use Rattle.meaning.specs.declared.Layout.{Layout}
 use Rattle.graph.specs.Graph.{Legal}
 

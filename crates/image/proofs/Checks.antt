@@ -16,7 +16,7 @@ use Rattle.meaning.specs.Layout.{isNodeMark, isEdgeMark}
 use Rattle.meaning.specs.Image.{anyTag, leading, only, operand, twoOperands, element, label, ruleNode, ruleEdge, ruleGraph, condition, test, isType, types}
 use Rattle.meaning.specs.Tags.{anyMark}
 use Rattle.meaning.specs.Laws.Tests.{both-no, both-yes, either-left, either-right}
-use Rattle.meaning.specs.Laws.Image.{Reading, isSome-of, isSome-no, isSome-after, only-none, only-end, only-full, twoOperands-no, twoOperands-ok, ruleNode-ok, ruleEdge-ok, ruleGraph-no, ruleGraph-ok, related-ok, test-ok, types-ok}
+use Rattle.fields.specs.Image.{Reading, isSome-of, isSome-no, isSome-after, only-none, only-end, only-full, twoOperands-no, twoOperands-ok, ruleNode-ok, ruleEdge-ok, ruleGraph-no, ruleGraph-ok, related-ok, test-ok, types-ok}
 use Rattle.image.specs.Form.{nodesOf, edgesOf, endOfNodes, relationOf}
 use Rattle.image.specs.declared.Ended.the-variants.{At, Bad}
 use Rattle.image.proofs.Loops.{EndsAt, tail-part, run-none, ends-at}

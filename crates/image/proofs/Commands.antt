@@ -14,7 +14,7 @@ use Rattle.meaning.specs.Basics.{choose, isEmpty, isSome, _>>=_}
 use Rattle.meaning.specs.Image.{Command, anyTag, leading, only, asRuleSet, asSequence, asGuarded, asLoop, leaf, command}
 use Rattle.meaning.specs.Image.Command.{skip, fail, break}
 use Rattle.meaning.specs.Laws.Tests.{both-no, both-yes, choose-ne}
-use Rattle.meaning.specs.Laws.Image.{Reading, bind-none, bind-yes, only-none, only-end, only-full, asRuleSet-ok, asSequence-ok, asGuarded-ok, asLoop-ok, leaf-ok, command-no-depth, command-ruleSet, command-sequence, command-if, command-try, command-loop, command-skip, command-fail, command-break, command-other}
+use Rattle.fields.specs.Image.{Reading, bind-none, bind-yes, only-none, only-end, only-full, asRuleSet-ok, asSequence-ok, asGuarded-ok, asLoop-ok, leaf-ok, command-no-depth, command-ruleSet, command-sequence, command-if, command-try, command-loop, command-skip, command-fail, command-break, command-other}
 use Rattle.image.specs.Form.{takesParts, countOf, partsOf}
 use Rattle.image.specs.declared.Parts.the-variants.{Count, Bad}
 use Rattle.image.proofs.Checks.{failed}

@@ -10,7 +10,7 @@ use lib.ListN.{length, take, drop, getD, length-drop}
 use Rattle.meaning.specs.Basics.{isSome}
 use Rattle.meaning.specs.Image.{Read, leading}
 use Rattle.meaning.specs.Laws.Tests.{isSome-true}
-use Rattle.meaning.specs.Laws.Image.{Reading, stopped, leading-led, reading-cut, reading-bad, reading-next, isSome-false}
+use Rattle.fields.specs.Image.{Reading, stopped, leading-led, reading-cut, reading-bad, reading-next, isSome-false}
 use Rattle.fields.specs.declared.Found.{Found}
 use Rattle.fields.specs.Fields.{fieldAt}
 use Rattle.fields.specs.Laws.{Lies}

@@ -13,7 +13,7 @@ use lib.Seq.{drop-cons, drop-drop}
 use Rattle.meaning.specs.Basics.{both, isEmpty, isSome}
 use Rattle.meaning.specs.Image.{Field, field, expect, types, ruleGraph, rule, command, program}
 use Rattle.meaning.specs.Laws.Tests.{both-no, both-yes}
-use Rattle.meaning.specs.Laws.Image.{expect-yes, expect-other, expect-no, expect-is, oneByte-ok, rule-no-1, rule-no-2, rule-no-3, rule-no-4, rule-no-5, rule-ok, program-no-rules, program-no-field, program-ok}
+use Rattle.fields.specs.Image.{expect-yes, expect-other, expect-no, expect-is, oneByte-ok, rule-no-1, rule-no-2, rule-no-3, rule-no-4, rule-no-5, rule-ok, program-no-rules, program-no-field, program-ok}
 use Rattle.fields.specs.declared.Found.{Found}
 use Rattle.fields.specs.Fields.{fieldAt}
 use Rattle.fields.specs.Laws.{Lies}

@@ -13,11 +13,11 @@ use Rattle.meaning.specs.Layout.{recordLength, fitsTable, pieces, readNodes, re
 use Rattle.meaning.specs.Applying.{Ledger}
 use Rattle.meaning.specs.Commands.{Out, exec}
 use Rattle.meaning.specs.Calls.{answerNumber, refusalNumber, reportOf, refused, runRefusal, journalRoom, givenBack, finished, run, lending, Leaves}
-use Rattle.meaning.specs.Laws.Numbers.{Bytes}
-use Rattle.meaning.specs.Laws.Calls.{Accepted, accepted, run-refused, run-started, starting, ending}
-use Rattle.meaning.specs.Laws.Commands.{exec-from}
-use Rattle.meaning.specs.Laws.LegalImage.{program-legal}
-use Rattle.meaning.specs.Laws.Restoring.{From}
+use Rattle.laws.specs.Numbers.{Bytes}
+use Rattle.laws.specs.Calls.{Accepted, accepted, run-refused, run-started, starting, ending}
+use Rattle.laws.specs.Commands.{exec-from}
+use Rattle.laws.specs.LegalImage.{program-legal}
+use Rattle.laws.specs.Restoring.{From}
 use Rattle.meaning.specs.declared.Layout.{Layout}
 use Rattle.meaning.specs.declared.Tally.{Tally}
 use Rattle.meaning.specs.declared.Refusal.{Refusal}

@@ -1,10 +1,10 @@
--- The layouts that programs run in. Rests on the meaning's Layout and Laws/Undoing.
+-- The layouts that programs run in. Rests on the meaning's Layout and laws' Undoing.
 use Prim.Native.Nat.{_≤_}
 use native.Mathlib.Omega.{arith}
 use Rattle.meaning.specs.Layout.{Sized, base, mostAtoms}
-use Rattle.meaning.specs.Laws.Undoing.{Numbered, base-numbered}
+use Rattle.laws.specs.Undoing.{Numbered, base-numbered}
 use Rattle.meaning.specs.declared.Layout.{Layout}
-use Rattle.meaning.specs.Laws.Layout.{base-sized}
+use Rattle.laws.specs.Layout.{base-sized}
 
 -- the sizes are those of atoms and width, code has room for a label's atoms, and slot numbers and counts fit their bytes
 pub record RunLayout (L : Layout) : Type 0 where

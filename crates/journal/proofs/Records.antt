@@ -16,9 +16,9 @@ use Rattle.meaning.specs.Numbers.{number, bytes}
 use Rattle.meaning.specs.Layout.{Sized, Tables, ofNode, ofEdge, put, undone, nodeLength, edgeLength, recordLength, pieces, cut, slotOf, readRecord, keepsRecord}
 use Rattle.meaning.specs.Calls.{keepsRecords}
 use Rattle.meaning.specs.Laws.Tests.{both-yes, both-no, both-last, every-true, choose-eq, choose-ne}
-use Rattle.meaning.specs.Laws.Numbers.{length-bytes}
-use Rattle.meaning.specs.Laws.Pieces.{length-pieces, getD-pieces, pieces-suc}
-use Rattle.meaning.specs.Laws.Records.{keepsRecord-true}
+use Rattle.laws.specs.Numbers.{length-bytes}
+use Rattle.laws.specs.Pieces.{length-pieces, getD-pieces, pieces-suc}
+use Rattle.laws.specs.Records.{keepsRecord-true}
 use Rattle.meaning.specs.declared.Layout.{Layout}
 use Rattle.slots.specs.Parts.{put-mid, zeros-split}
 use Rattle.journal.specs.Journal.{tablesOf, recordsFrom, putBack}

@@ -1,6 +1,6 @@
 -- Putting recorded stores back restores what was there, at the level of slots and of bytes: a journal that holds the records
 -- of some changes, put back from its end to an earlier count, gives the tables of the host that the later changes were made to.
--- Rests on Host and the meaning's Laws/Records.
+-- Rests on Journal and laws' Records.
 use Prim.Native.Nat.{ℕ, zero, suc, _-_, _%_, _<_, _≤_}
 use mathlib.Core.Path.{_≡_, refl, sym, _∙_, ap}
 use mathlib.Core.List.{List, [], _∷_, map, reverse, reverse-append, reverse-reverse}
@@ -11,9 +11,9 @@ use Rattle.meaning.specs.Basics.{concat, padded}
 use Rattle.meaning.specs.Layout.{Slot, Node, Edge, Tables, Host, Change, undone, nodeLength, edgeLength, recordLength, writeNode, writeEdge, writeNodes, writeEdges, writeRecord, readRecord}
 use Rattle.meaning.specs.Calls.{counted}
 use Rattle.meaning.specs.Laws.Every.{Every}
-use Rattle.meaning.specs.Laws.Pieces.{pieces-drop, concat-cut}
-use Rattle.meaning.specs.Laws.Hosts.{LegalHost, cut-nodes, cut-edges}
-use Rattle.meaning.specs.Laws.Records.{mapChange, mapTables, undone-map, LegalChange, records-written}
+use Rattle.laws.specs.Pieces.{pieces-drop, concat-cut}
+use Rattle.laws.specs.Hosts.{LegalHost, cut-nodes, cut-edges}
+use Rattle.laws.specs.Records.{mapChange, mapTables, undone-map, LegalChange, records-written}
 use Rattle.meaning.specs.declared.Layout.{Layout}
 use Rattle.journal.specs.Journal.{tablesOf, recordsFrom, putBack}
 

@@ -6,7 +6,7 @@ ghost use lib.ListN.{length, take, drop};
 ghost use Rattle.meaning.specs.Basics.{every, zeros};
 ghost use Rattle.meaning.specs.Layout.{Sized, nodeLength, edgeLength, recordLength, recordBytes, put, readRecord, keepsRecord};
 ghost use Rattle.meaning.specs.Calls.{keepsRecords};
-ghost use Rattle.meaning.specs.Laws.Pieces.{stored};
+ghost use Rattle.laws.specs.Pieces.{stored};
 ghost use Rattle.journal.specs.Journal.{tablesOf, recordsFrom, putBack, clearedFrom};
 use meaning::Layout;
 

@@ -15,7 +15,7 @@ use Rattle.meaning.specs.Basics.{both, same}
 use Rattle.meaning.specs.Numbers.{number, whole}
 use Rattle.meaning.specs.Layout.{atoms}
 use Rattle.meaning.specs.Laws.Tests.{same-true, same-of, zero-at}
-use Rattle.meaning.specs.Laws.Layout.{length-atoms, getD-atoms}
+use Rattle.laws.specs.Layout.{length-atoms, getD-atoms}
 use Rattle.labels.specs.Labels.{atomsIn, Held, Holds}
 use Rattle.labels.specs.declared.Label.{Label}
 

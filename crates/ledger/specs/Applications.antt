@@ -10,10 +10,10 @@ use Rattle.meaning.specs.Layout.{nodeLength, edgeLength, recordLength}
 use Rattle.meaning.specs.Image.{Rule}
 use Rattle.meaning.specs.Matching.{leftNodes, Match}
 use Rattle.meaning.specs.Applying.{Right, rightSide, Ledger, stores, edgesGo, nodesChange, Added, addNodes, addEdges, changed, hindrance, applied, hindered, unhindered, apply}
-use Rattle.meaning.specs.Laws.Applying.{stores-append}
+use Rattle.laws.specs.Applying.{stores-append}
 use Rattle.meaning.specs.Laws.Checks.{firstFailing-none}
-use Rattle.meaning.specs.Laws.Values.{LegalRule}
-use Rattle.meaning.specs.Laws.Legality.{LegalLedger, Ready, changed-legal, tested-legal}
+use Rattle.laws.specs.Values.{LegalRule}
+use Rattle.laws.specs.Legality.{LegalLedger, Ready, changed-legal, tested-legal}
 use Rattle.meaning.specs.declared.Layout.{Layout}
 use Rattle.meaning.specs.declared.Stop.{Stop}
 use Rattle.ledger.specs.Running.{ledgerOf, Running, Leads}

@@ -12,8 +12,8 @@ use Rattle.meaning.specs.Layout.{Host, Sized, nodeLength, edgeLength, liveAt, r
 use Rattle.meaning.specs.Matching.{edgeAt}
 use Rattle.meaning.specs.Applying.{lowestFree, freeSlots, onFreeNode}
 use Rattle.meaning.specs.Laws.Tests.{both-yes, both-no, any-of}
-use Rattle.meaning.specs.Laws.Slots.{lowestFree-lt}
-use Rattle.meaning.specs.Laws.Pieces.{length-read}
+use Rattle.laws.specs.Slots.{lowestFree-lt}
+use Rattle.laws.specs.Pieces.{length-read}
 use Rattle.meaning.specs.declared.Layout.{Layout}
 use Rattle.slots.specs.Slots.{states}
 use Rattle.slots.specs.States.{live-nodes, live-edges, lowest-nodes, lowest-edges}

@@ -11,10 +11,10 @@ use Rattle.meaning.specs.Basics.{concat, padded}
 use Rattle.meaning.specs.Layout.{Slot, Node, Edge, free, Change, ofNode, ofEdge, put, Sized, nodeLength, edgeLength, recordLength, pieces, cut, readNode, readEdge, readNodes, readEdges, writeNode, writeEdge, writeNodes, writeEdges, nodeBytes, edgeBytes, recordBytes, writeRecord}
 use Rattle.meaning.specs.Applying.{standing, store}
 use Rattle.meaning.specs.Laws.Every.{Every}
-use Rattle.meaning.specs.Laws.Pieces.{getD-map, map-set, stored, length-stored, pieces-suc, pieces-stored, length-pieces, cut-write, read-stored, concat-append, concat-set, length-read, Wide, fits-length, fits-same, slot-within}
-use Rattle.meaning.specs.Laws.Hosts.{LegalNode, LegalEdge, OnLive, length-writeNode, length-writeEdge, read-write-node, read-write-edge}
-use Rattle.meaning.specs.Laws.Records.{mapChange, LegalChange, Within, length-writeRecord, read-write-record, length-written}
-use Rattle.meaning.specs.Laws.Attached.{OnLive-set}
+use Rattle.laws.specs.Pieces.{getD-map, map-set, stored, length-stored, pieces-suc, pieces-stored, length-pieces, cut-write, read-stored, concat-append, concat-set, length-read, Wide, fits-length, fits-same, slot-within}
+use Rattle.laws.specs.Hosts.{LegalNode, LegalEdge, OnLive, length-writeNode, length-writeEdge, read-write-node, read-write-edge}
+use Rattle.laws.specs.Records.{mapChange, LegalChange, Within, length-writeRecord, read-write-record, length-written}
+use Rattle.laws.specs.Attached.{OnLive-set}
 use Rattle.meaning.specs.declared.Layout.{Layout}
 use Rattle.ledger.specs.Running.{changeOf, journalOf, ledgerOf, Held, Leads}
 

@@ -9,11 +9,11 @@ use lib.ListN.{length, replicate}
 use Rattle.meaning.specs.Basics.{concat}
 use Rattle.meaning.specs.Layout.{Sized, nodeLength, edgeLength, recordLength, fitsTable, pieces, readNode, readEdge, keepsLayout}
 use Rattle.meaning.specs.Applying.{Ledger}
-use Rattle.meaning.specs.Laws.Numbers.{Bytes}
-use Rattle.meaning.specs.Laws.Pieces.{length-read, fits-length}
-use Rattle.meaning.specs.Laws.Layout.{write-read-nodes, write-read-edges}
-use Rattle.meaning.specs.Laws.Hosts.{LegalHost, legal-host, keepsLayout-write}
-use Rattle.meaning.specs.Laws.Legality.{LegalLedger}
+use Rattle.laws.specs.Numbers.{Bytes}
+use Rattle.laws.specs.Pieces.{length-read, fits-length}
+use Rattle.laws.specs.Layout.{write-read-nodes, write-read-edges}
+use Rattle.laws.specs.Hosts.{LegalHost, legal-host, keepsLayout-write}
+use Rattle.laws.specs.Legality.{LegalLedger}
 use Rattle.meaning.specs.declared.Layout.{Layout}
 use Rattle.ledger.specs.Running.{journalOf, ledgerOf, Running, Leads}
 use Rattle.ledger.specs.Steps.{length-journalOf}

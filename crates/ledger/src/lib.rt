@@ -6,7 +6,7 @@ ghost use lib.ListN.{length, take, drop};
 ghost use Rattle.meaning.specs.Basics.{any};
 ghost use Rattle.meaning.specs.Layout.{Sized, free, live, ofNode, ofEdge, nodeLength, edgeLength, recordLength, readNodes, readEdges};
 ghost use Rattle.meaning.specs.Applying.{store, stores, lowestFree, freeSlots, onFreeNode};
-ghost use Rattle.meaning.specs.Laws.Hosts.{LegalNode, LegalEdge};
+ghost use Rattle.laws.specs.Hosts.{LegalNode, LegalEdge};
 ghost use Rattle.ledger.specs.Running.{ledgerOf, Held, Leads};
 ghost use Rattle.ledger.specs.Changes.{Went, goes, Below};
 ghost use Rattle.ledger.specs.Rooms.{stopOf, lacking};

@@ -12,13 +12,13 @@ use Rattle.meaning.specs.Numbers.{number}
 use Rattle.meaning.specs.declared.Layout.{Layout}
 use Rattle.meaning.specs.Image.{program}
 use Rattle.meaning.specs.Calls.{Left, run, runOn, runRefusal, refused, answerNumber, refusalNumber, lending, Leaves}
-use Rattle.meaning.specs.Laws.Numbers.{Bytes}
-use Rattle.meaning.specs.Laws.Pieces.{fits-length, fits-same, length-read}
-use Rattle.meaning.specs.Laws.Calls.{Accepted, accepted}
-use Rattle.meaning.specs.Laws.Undoing.{base-numbered, run-keeps}
+use Rattle.laws.specs.Numbers.{Bytes}
+use Rattle.laws.specs.Pieces.{fits-length, fits-same, length-read}
+use Rattle.laws.specs.Calls.{Accepted, accepted}
+use Rattle.laws.specs.Undoing.{base-numbered, run-keeps}
 use Rattle.meaning.specs.declared.Refusal.{Refusal}
 use Rattle.meaning.specs.declared.Refusal.the-variants.{ReportLength, NodeTableLength, EdgeTableLength, JournalLength, TooMuchFuel, ImageTooLong, BadHost, BadForm, BadReferences, BadPlacement, BadRecords}
-use Rattle.meaning.specs.Laws.Layout.{base-sized}
+use Rattle.laws.specs.Layout.{base-sized}
 use Rattle.listing.specs.Listing.{letters, outcome, runOutcome, listed, listing}
 use Rattle.listing.specs.Text.{Adds, Lists, Ready}
 use Rattle.listing.specs.Reading.{Inside, Reading, inputIn}

@@ -6,7 +6,7 @@ use native.Mathlib.Omega.{arith}
 use lib.ListN.{length, take, getD}
 use lib.Seq.{getD-take}
 use Rattle.meaning.specs.Matching.{leftNodes, leftEdges, total, leftEdge, nodeSlot}
-use Rattle.meaning.specs.Laws.References.{ends}
+use Rattle.laws.specs.References.{ends}
 use Rattle.meaning.specs.declared.Layout.{Layout}
 use Rattle.plan.specs.Plan.{HasItem, HasEdge, edgesAt, nodesAt}
 use Rattle.agreeing.specs.Placed.{Known}

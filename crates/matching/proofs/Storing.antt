@@ -18,9 +18,9 @@ use Rattle.meaning.specs.References.{labels, names, testNames, variablesExist, 
 use Rattle.meaning.specs.FirstMatch.{firstWith}
 use Rattle.meaning.specs.Assigned.{assigned}
 use Rattle.meaning.specs.Laws.Tests.{both-true, absent-false, every-true, every-append}
-use Rattle.meaning.specs.Laws.References.{clauses-true, left-plain}
-use Rattle.meaning.specs.Laws.Assignment.{labels-length}
-use Rattle.meaning.specs.Laws.Decided.{first-with}
+use Rattle.laws.specs.References.{clauses-true, left-plain}
+use Rattle.laws.specs.Assignment.{labels-length}
+use Rattle.laws.specs.Decided.{first-with}
 use Rattle.labels.specs.Labels.{atomsIn, Held}
 use Rattle.labels.specs.declared.Label.{Label}
 use Rattle.agreeing.specs.Placed.{Known, Inside, Full}

@@ -1,34 +1,5 @@
--- Laws of the definitions, one file a topic: what callers and proofs use instead of unfolding a definition.
+-- Laws of the words that definitions are written in: what proofs use instead of unfolding one.
 pub mod Tests
-pub mod Numbers
-pub mod Pieces
-pub mod Layout
-pub mod Hosts
-pub mod Records
-pub mod Image
-pub mod Search
 pub mod Every
 pub mod Loops
 pub mod Checks
-pub mod References
-pub mod Counting
-pub mod Edges
-pub mod Labels
-pub mod Assignment
-pub mod Decided
-pub mod Levels
-pub mod FirstMatch
-pub mod Slots
-pub mod Applying
-pub mod Room
-pub mod Restoring
-pub mod Commands
-pub mod Fuel
-pub mod Values
-pub mod Attached
-pub mod Legality
-pub mod Stops
-pub mod LegalCommands
-pub mod LegalImage
-pub mod Undoing
-pub mod Calls

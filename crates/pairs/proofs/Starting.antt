@@ -12,11 +12,11 @@ use Rattle.meaning.specs.Image.{Rule, Program, rule, program}
 use Rattle.meaning.specs.References.{ruleHolds, references}
 use Rattle.meaning.specs.Calls.{runRefusal, reportOf, lending}
 use Rattle.meaning.specs.Laws.Tests.{both-true, every-true}
-use Rattle.meaning.specs.Laws.Calls.{Accepted, accepted}
+use Rattle.laws.specs.Calls.{Accepted, accepted}
 use Rattle.meaning.specs.declared.Layout.{Layout}
 use Rattle.meaning.specs.declared.Refusal.{Refusal}
 use Rattle.answers.specs.Answers.{refusalOf}
-use Rattle.meaning.specs.Laws.Layout.{base-sized}
+use Rattle.laws.specs.Layout.{base-sized}
 use Rattle.answers.specs.declared.Checked.{Checked}
 use Rattle.answers.specs.declared.Checked.the-variants.{Fine, Refused}
 use Rattle.parts.specs.Runs.{For}

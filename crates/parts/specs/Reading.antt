@@ -14,8 +14,8 @@ use Rattle.meaning.specs.Basics.{ensure, _>>_, _>>=_}
 use Rattle.meaning.specs.Numbers.{number}
 use Rattle.meaning.specs.Image.{only, anyTag, constant, operand, twoOperands, element, relation, condition, test}
 use Rattle.meaning.specs.Laws.Tests.{some-inj, bind-some, ensure-some, ensure-yes}
-use Rattle.meaning.specs.Laws.Image.{operand-other, element-other, condition-relation, condition-other}
-use Rattle.meaning.specs.Laws.Image.Parsed.{constant-is, twoOperands-is, operand-30, operand-31, element-30, element-31, element-32, element-33, test-is, condition-40, condition-41, condition-42, relation-1, relation-2, relation-kind}
+use Rattle.fields.specs.Image.{operand-other, element-other, condition-relation, condition-other}
+use Rattle.fields.specs.Parsed.{constant-is, twoOperands-is, operand-30, operand-31, element-30, element-31, element-32, element-33, test-is, condition-40, condition-41, condition-42, relation-1, relation-2, relation-kind}
 use Rattle.meaning.specs.declared.Operand.{Operand}
 use Rattle.meaning.specs.declared.Operand.the-variants.{Constant as constantOperand, Variable as variableOperand}
 use Rattle.meaning.specs.declared.Element.the-variants.{Constant, Variable, Sum, Difference}

@@ -14,8 +14,8 @@ use lib.Seq.{getD-append-add, getD-at}
 use Rattle.meaning.specs.Basics.{choose, isEmpty, _>>=_}
 use Rattle.meaning.specs.Image.{RuleNode, RuleEdge, RuleGraph, Rule, Command, Program, Field, field, expect, leading, only, anyTag, oneByte, label, ruleNode, ruleEdge, ruleGraph, test, types, rule, command, program}
 use Rattle.meaning.specs.Laws.Tests.{choose-true, choose-eq, choose-ne, some-inj, bind-some, ensure-some, empty-true}
-use Rattle.meaning.specs.Laws.Image.{field-is, bind-yes}
-use Rattle.meaning.specs.Laws.Image.Parsed.{oneByte-is, ruleNode-is, ruleEdge-is, ruleGraph-is, types-is, rule-is, command-tag}
+use Rattle.fields.specs.Image.{field-is, bind-yes}
+use Rattle.fields.specs.Parsed.{oneByte-is, ruleNode-is, ruleEdge-is, ruleGraph-is, types-is, rule-is, command-tag}
 use Rattle.meaning.specs.declared.Element.{Element}
 use Rattle.fields.specs.Laws.{Lies}
 use Rattle.parts.specs.Runs.{Run, For, run-none, run-some, run-there, leading-run, only-run, run-append, run-map, nthPart, nthTag, nth-item}

@@ -8,10 +8,9 @@ use Prim.Native.Nat.{ℕ, zero, suc, _+_, _-_, _<_, _≤_}
 use native.Mathlib.Omega.{arith}
 use lib.ListN.{length, getD, take, drop, length-drop}
 use Rattle.meaning.specs.Basics.{every}
-use Rattle.meaning.specs.Image.{field, leading, only, Read}
-use Rattle.meaning.specs.Image.{Field as Whole}
+use Rattle.meaning.specs.Image.{field, leading, only, Read, Field as Whole}
 use Rattle.meaning.specs.Laws.Tests.{both-yes, both-no, bind-some, ensure-some, choose-true, choose-false, some-inj, empty-true}
-use Rattle.meaning.specs.Laws.Image.{field-is}
+use Rattle.fields.specs.Image.{field-is}
 use Rattle.fields.specs.Fields.{fieldAt, onward, nthField}
 use Rattle.fields.specs.Laws.{Lies, found-field, at-field}
 use Rattle.fields.specs.declared.Found.{Found}

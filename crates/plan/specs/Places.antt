@@ -11,8 +11,8 @@ use lib.Seq.{length-take-le, take-nil, take-take, drop-drop, drop-cons, getD-tak
 use Rattle.meaning.specs.Image.{RuleNode, RuleEdge, Rule, only, anyTag, label, ruleNode, ruleEdge, test}
 use Rattle.meaning.specs.References.{labels}
 use Rattle.meaning.specs.Matching.{leftNode, leftEdge, leftNodes, leftEdges}
-use Rattle.meaning.specs.Laws.Image.Parsed.{ruleNode-is, ruleEdge-is, test-is}
-use Rattle.meaning.specs.Laws.Assignment.{label-node, label-edge}
+use Rattle.fields.specs.Parsed.{ruleNode-is, ruleEdge-is, test-is}
+use Rattle.laws.specs.Assignment.{label-node, label-edge}
 use Rattle.meaning.specs.declared.Test.{Test}
 use Rattle.fields.specs.Fields.{nthField}
 use Rattle.fields.specs.declared.Found.{Found}

@@ -13,8 +13,8 @@ use Rattle.meaning.specs.References.{operandNames, conditionOperands, condition
 use Rattle.meaning.specs.Matching.{leftNodes}
 use Rattle.meaning.specs.FirstMatch.{firstWith, highest, decidedAt}
 use Rattle.meaning.specs.Laws.Every.{Every, Every-in, Every-then}
-use Rattle.meaning.specs.Laws.References.{OfVariables}
-use Rattle.meaning.specs.Laws.Assignment.{labels-length}
+use Rattle.laws.specs.References.{OfVariables}
+use Rattle.laws.specs.Assignment.{labels-length}
 use Rattle.meaning.specs.declared.Operand.{Operand}
 use Rattle.meaning.specs.declared.Operand.the-variants.{Constant as constantOperand, Variable as variableOperand}
 use Rattle.meaning.specs.declared.Condition.{Condition}

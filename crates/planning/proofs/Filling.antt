@@ -12,7 +12,7 @@ use lib.Seq.{getD-append-add}
 use Rattle.meaning.specs.Image.{RuleNode, RuleEdge, RuleGraph, Rule, field, ruleNode, ruleEdge, ruleGraph, types, rule, mostItems}
 use Rattle.meaning.specs.References.{ruleHolds}
 use Rattle.meaning.specs.Laws.Tests.{some-inj}
-use Rattle.meaning.specs.Laws.Image.Parsed.{oneByte-is, ruleGraph-is, rule-few}
+use Rattle.fields.specs.Parsed.{oneByte-is, ruleGraph-is, rule-few}
 use Rattle.fields.specs.Laws.{Lies}
 use Rattle.parts.specs.Runs.{Run, nthPart, run-none, run-some, run-there}
 use Rattle.parts.specs.Rows.{Item, node as nodeItem, edge as edgeItem, items as itemsOf, graphItem, item-is, graph-run, rule-parted}

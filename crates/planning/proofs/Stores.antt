@@ -7,7 +7,7 @@ use native.Mathlib.Decide.{ℕ-discrete}
 use lib.ListN.{length, getD, set, length-set}
 use lib.Seq.{getD-set-same, getD-set-other}
 use Rattle.meaning.specs.Image.{RuleGraph, Rule}
-use Rattle.meaning.specs.Laws.Image.Parsed.{types-is}
+use Rattle.fields.specs.Parsed.{types-is}
 use Rattle.plan.specs.Plan.{Items, Laid, FirstAt, Labelled, constantAt, elementsAt, listsAt, planLength, sortAt, typesEndAt, typesStartAt, beforeAt, endAt, firstAt, singlesAt, startAt}
 use Rattle.planning.specs.Planning.{Named, AllLabelled}
 use Rattle.plan.specs.Places.{part-length}

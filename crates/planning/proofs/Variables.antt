@@ -15,8 +15,8 @@ use Rattle.meaning.specs.References.{isList, takesList}
 use Rattle.meaning.specs.Assigned.{isVariable}
 use Rattle.meaning.specs.FirstMatch.{has, firstWith}
 use Rattle.meaning.specs.Laws.Tests.{choose-true, choose-false}
-use Rattle.meaning.specs.Laws.Image.{element-other}
-use Rattle.meaning.specs.Laws.Image.Parsed.{element-30, element-31, element-32, element-33}
+use Rattle.fields.specs.Image.{element-other}
+use Rattle.fields.specs.Parsed.{element-30, element-31, element-32, element-33}
 use Rattle.meaning.specs.declared.Element.{Element}
 use Rattle.meaning.specs.declared.Element.the-variants.{Constant, Sum, Difference}
 use Rattle.meaning.specs.declared.Operand.{Operand}

@@ -13,10 +13,10 @@ use Rattle.demands.specs.Met.{met}
 use Rattle.demands.specs.Ours.{ours}
 use Rattle.meaning.specs.Calls.{Lent}
 use Rattle.demands.specs.Demands.{Interpreter, Bytewise, Demand1, Demand2}
-use Rattle.meaning.specs.Laws.Hosts.{LegalHost}
-use Rattle.meaning.specs.Laws.Legality.{LegalLedger}
-use Rattle.meaning.specs.Laws.LegalCommands.{LegalRules, legal-rule, legal-sound}
-use Rattle.meaning.specs.Laws.Undoing.{Numbered, base-numbered}
+use Rattle.laws.specs.Hosts.{LegalHost}
+use Rattle.laws.specs.Legality.{LegalLedger}
+use Rattle.laws.specs.LegalCommands.{LegalRules, legal-rule, legal-sound}
+use Rattle.laws.specs.Undoing.{Numbered, base-numbered}
 use Rattle.meaning.specs.declared.Layout.{Layout}
 use Rattle.published.specs.Graphs.{Graph, HostGraph, graphOf, Iso}
 use Rattle.published.specs.RuleApplication.{Applied}

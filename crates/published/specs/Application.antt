@@ -20,10 +20,10 @@ use Rattle.meaning.specs.Applying.{Ledger, applied, apply}
 use Rattle.meaning.specs.Commands.{State, Chosen, ruleAt, firstRule}
 use Rattle.demands.specs.Inference
 use Rattle.demands.specs.Inference.{NoMatch, FirstCalled, Does}
-use Rattle.meaning.specs.Laws.Layout.{Words}
-use Rattle.meaning.specs.Laws.Hosts.{LegalNode, LegalEdge, Attached, OnLive, LegalHost, liveAt-lt}
-use Rattle.meaning.specs.Laws.Pieces.{getD-map}
-use Rattle.meaning.specs.Laws.References.{Sound}
+use Rattle.laws.specs.Layout.{Words}
+use Rattle.laws.specs.Hosts.{LegalNode, LegalEdge, Attached, OnLive, LegalHost, liveAt-lt}
+use Rattle.laws.specs.Pieces.{getD-map}
+use Rattle.laws.specs.References.{Sound}
 use Rattle.demands.specs.Laws.Inference.{called-none, none-called, called-some}
 use Rattle.meaning.specs.declared.Layout.{Layout}
 use Rattle.meaning.specs.declared.End.{End}

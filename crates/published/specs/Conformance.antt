@@ -13,8 +13,8 @@ use Rattle.meaning.specs.Calls.{Left, answerNumber, run, lending, Lent}
 use Rattle.demands.specs.Demands.{Bytewise}
 use Rattle.demands.specs.Ours.{ours}
 use Rattle.demands.specs.Met.{met}
-use Rattle.meaning.specs.Laws.Numbers.{Bytes}
-use Rattle.meaning.specs.Laws.Undoing.{base-numbered}
+use Rattle.laws.specs.Numbers.{Bytes}
+use Rattle.laws.specs.Undoing.{base-numbered}
 use Rattle.meaning.specs.declared.Answer.the-variants.{Result, Fail}
 use Rattle.published.specs.Graphs.{Graph, HostGraph, graphOf}
 use Rattle.published.specs.RuleApplication.{Applied}

@@ -6,7 +6,7 @@ use mathlib.Core.List.{List}
 use Prim.Native.Nat.{ℕ, _<_, _≤_}
 use Rattle.meaning.specs.Layout.{Host, liveAt, isNodeMark, isEdgeMark}
 use Rattle.meaning.specs.Matching.{nodeAt, edgeAt}
-use Rattle.meaning.specs.Laws.Layout.{Words}
+use Rattle.laws.specs.Layout.{Words}
 
 -- Labels. A list of atoms with a mark, and for a node whether it is a root (1) or not (0). Marks are numbered as in document
 -- 01: 0 none, 1 red, 2 green, 3 blue, 4 grey (nodes only), 5 dashed (edges only). An atom is an integer of 32 bits, written as

@@ -16,9 +16,9 @@ use Rattle.meaning.specs.Tags.{anyMark}
 use Rattle.meaning.specs.References.{ruleHolds}
 use Rattle.meaning.specs.Laws.Tests.{choose-lt, choose-le, either-not}
 use Rattle.meaning.specs.Laws.Every.{Every, Every-at}
-use Rattle.meaning.specs.Laws.Numbers.{sum-some, difference-some}
-use Rattle.meaning.specs.Laws.Layout.{Words}
-use Rattle.meaning.specs.Laws.Values.{LegalElement, LegalRuleNode, LegalRuleEdge, LegalRule, Words-one, Words-append, interface-left, right-marked, new-marked, node-mark}
+use Rattle.laws.specs.Numbers.{sum-some, difference-some}
+use Rattle.laws.specs.Layout.{Words}
+use Rattle.laws.specs.Values.{LegalElement, LegalRuleNode, LegalRuleEdge, LegalRule, Words-one, Words-append, interface-left, right-marked, new-marked, node-mark}
 use Rattle.meaning.specs.declared.Element.{Element}
 use Rattle.meaning.specs.declared.Element.the-variants.{Constant, Variable, Sum, Difference}
 use Rattle.published.specs.Graphs.{NodeLabel, EdgeLabel, Graph, Node, Edge, HostGraph}

@@ -16,9 +16,9 @@ use Rattle.meaning.specs.References.{conditionNodes, testNodesExist, ruleHolds}
 use Rattle.meaning.specs.Commands.{ruleAt}
 use Rattle.meaning.specs.Laws.Tests.{choose-le}
 use Rattle.meaning.specs.Laws.Every.{Every, Every-true, Every-with}
-use Rattle.meaning.specs.Laws.Pieces.{getD-map}
-use Rattle.meaning.specs.Laws.References.{clauses-true}
-use Rattle.meaning.specs.Laws.Values.{interface-left}
+use Rattle.laws.specs.Pieces.{getD-map}
+use Rattle.laws.specs.References.{clauses-true}
+use Rattle.laws.specs.Values.{interface-left}
 use Rattle.meaning.specs.declared.Condition.{Condition}
 use Rattle.meaning.specs.declared.Condition.the-variants.{Edge as edgeBetween, InDegree, OutDegree, Equal, Less}
 use Rattle.published.specs.Graphs.{Graph, Node, Edge, HostGraph, Iso}

@@ -17,10 +17,10 @@ use Rattle.meaning.specs.Calls.{Left, answerNumber, run, lending, Lent}
 use Rattle.demands.specs.Ours.{ours, good}
 use Rattle.demands.specs.First.{run-settled}
 use Rattle.meaning.specs.Laws.Tests.{some-inj}
-use Rattle.meaning.specs.Laws.Numbers.{Bytes}
-use Rattle.meaning.specs.Laws.Values.{LegalRule}
-use Rattle.meaning.specs.Laws.LegalCommands.{LegalRules, legal-rule}
-use Rattle.meaning.specs.Laws.LegalImage.{program-legal}
+use Rattle.laws.specs.Numbers.{Bytes}
+use Rattle.laws.specs.Values.{LegalRule}
+use Rattle.laws.specs.LegalCommands.{LegalRules, legal-rule}
+use Rattle.laws.specs.LegalImage.{program-legal}
 use Rattle.meaning.specs.declared.Answer.the-variants.{Result, Fail}
 use Rattle.published.specs.Graphs.{Graph, HostGraph, Iso}
 use Rattle.published.specs.RuleApplication.{Matches, Applies, Applied}

@@ -18,15 +18,15 @@ use Rattle.meaning.specs.Calls.{Lent}
 use Rattle.demands.specs.Demands.{Outcome, Interpreter, Bytewise, stopAnswer, refusal, start, Means, leaves, Demand1, Demand2}
 use Rattle.demands.specs.Ours.{Good, good}
 use Rattle.demands.specs.First.{refusal-answer}
-use Rattle.meaning.specs.Laws.Pieces.{fits-length}
-use Rattle.meaning.specs.Laws.Hosts.{LegalHost, read-write-nodes, read-write-edges}
-use Rattle.meaning.specs.Laws.Commands.{exec-unbroken}
-use Rattle.meaning.specs.Laws.Values.{LegalRule}
-use Rattle.meaning.specs.Laws.Legality.{LegalLedger, apply-legal}
-use Rattle.meaning.specs.Laws.LegalCommands.{LegalRules, legal-rule, legal-sound}
-use Rattle.meaning.specs.Laws.LegalImage.{program-legal}
+use Rattle.laws.specs.Pieces.{fits-length}
+use Rattle.laws.specs.Hosts.{LegalHost, read-write-nodes, read-write-edges}
+use Rattle.laws.specs.Commands.{exec-unbroken}
+use Rattle.laws.specs.Values.{LegalRule}
+use Rattle.laws.specs.Legality.{LegalLedger, apply-legal}
+use Rattle.laws.specs.LegalCommands.{LegalRules, legal-rule, legal-sound}
+use Rattle.laws.specs.LegalImage.{program-legal}
 use Rattle.demands.specs.Laws.Inference.{exec-runs, runs-exec}
-use Rattle.meaning.specs.Laws.Undoing.{Numbered, start-legal}
+use Rattle.laws.specs.Undoing.{Numbered, start-legal}
 use Rattle.meaning.specs.declared.Layout.{Layout}
 use Rattle.meaning.specs.declared.Stop.{Stop}
 use Rattle.meaning.specs.declared.Stop.the-variants.{OutOfFuel, NoNodeRoom, NoEdgeRoom, NoRecordRoom, LabelTooLarge, EdgeOnFreeNode}

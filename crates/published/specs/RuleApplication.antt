@@ -20,7 +20,7 @@ use Rattle.meaning.specs.Tags.{anyMark}
 use Rattle.meaning.specs.References.{isInt}
 use Rattle.meaning.specs.Commands.{ruleAt}
 use Rattle.meaning.specs.Laws.Every.{Every}
-use Rattle.meaning.specs.Laws.Layout.{Words}
+use Rattle.laws.specs.Layout.{Words}
 use Rattle.meaning.specs.declared.Operand.{Operand}
 use Rattle.meaning.specs.declared.Operand.the-variants.{Constant as constantOperand, Variable as variableOperand}
 use Rattle.meaning.specs.declared.Element.{Element}

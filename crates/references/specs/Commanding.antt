@@ -16,7 +16,7 @@ use Rattle.meaning.specs.Image.{Command, ruleSet, sequence, guarded, loop, skip
 use Rattle.meaning.specs.References.{ruleHolds, rulesExist, allRulesExist, references}
 use Rattle.meaning.specs.Placement.{breaksLie, allBreaksLie, placement}
 use Rattle.meaning.specs.Laws.Tests.{both-yes, both-no, both-last, choose-eq, choose-ne}
-use Rattle.meaning.specs.Laws.Image.Parsed.{command-tag, command-50, command-51, command-52, command-53, command-54, command-55, command-56, command-57}
+use Rattle.fields.specs.Parsed.{command-tag, command-50, command-51, command-52, command-53, command-54, command-55, command-56, command-57}
 use Rattle.fields.specs.Laws.{Lies, past}
 use Rattle.references.specs.declared.Demand.{Demand}
 use Rattle.references.specs.declared.Demand.the-variants.{Rules, Breaks}

@@ -13,9 +13,9 @@ use Rattle.meaning.specs.Basics.{concat, padded}
 use Rattle.meaning.specs.Numbers.{number, bytes}
 use Rattle.meaning.specs.Layout.{Slot, Node, Edge, free, live, isLive, liveAt, nodeLength, edgeLength, cut, atoms, readNode, readEdge, readNodes, readEdges, atomBytes, nodeBytes}
 use Rattle.meaning.specs.Matching.{nodeIn, edgeIn}
-use Rattle.meaning.specs.Laws.Numbers.{length-bytes}
-use Rattle.meaning.specs.Laws.Pieces.{getD-map, length-pieces, length-read, stored}
-use Rattle.meaning.specs.Laws.Layout.{nodeOf, edgeOf, readNode-free, readNode-live, readEdge-free, readEdge-live, length-atoms, getD-atoms, length-atomBytes}
+use Rattle.laws.specs.Numbers.{length-bytes}
+use Rattle.laws.specs.Pieces.{getD-map, length-pieces, length-read, stored}
+use Rattle.laws.specs.Layout.{nodeOf, edgeOf, readNode-free, readNode-live, readEdge-free, readEdge-live, length-atoms, getD-atoms, length-atomBytes}
 use Rattle.meaning.specs.declared.Layout.{Layout}
 use Rattle.slots.specs.Slots.{nodeHeld, edgeHeld}
 use Rattle.slots.specs.Parts.{put-mid, zeros-split}

@@ -10,7 +10,7 @@ use lib.ListN.{length, getD, take, drop, List·getD-eq-default, length-map, drop
 use lib.Seq.{drop-cons, drop-drop, getD-drop, getD-take}
 use Rattle.meaning.specs.Layout.{Slot, free, live, isLive, liveAt, cut}
 use Rattle.meaning.specs.Applying.{lowestFree, freeSlots}
-use Rattle.meaning.specs.Laws.Pieces.{getD-map, length-pieces, getD-pieces, stored}
+use Rattle.laws.specs.Pieces.{getD-map, length-pieces, getD-pieces, stored}
 use Rattle.slots.specs.Slots.{stateOf, states}
 use Rattle.slots.specs.States.{state-byte}
 

@@ -8,7 +8,7 @@ use borrow.Rule.Slice.PartMut.{putMid}
 use lib.ListN.{length, getD, take, drop, replicate, length-drop, replicate-append-replicate}
 use lib.Seq.{take-at, drop-at, drop-drop, length-take-le}
 use Rattle.meaning.specs.Layout.{cut}
-use Rattle.meaning.specs.Laws.Pieces.{getD-pieces, stored}
+use Rattle.laws.specs.Pieces.{getD-pieces, stored}
 
 -- the part from a slot's start to its end
 abbrev pub slotPart : ℕ → ℕ → List ℕ → List ℕ

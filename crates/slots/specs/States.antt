@@ -10,7 +10,7 @@ use lib.Dec.{eqb}
 use Rattle.meaning.specs.Layout.{Slot, free, live, isLive, liveAt, nodeLength, edgeLength, cut, readNode, readEdge, readNodes, readEdges}
 use Rattle.meaning.specs.Applying.{lowestFree, freeSlots}
 use Rattle.meaning.specs.declared.Layout.{Layout}
-use Rattle.meaning.specs.Laws.Layout.{isLive-choose, isLive-readNode, isLive-readEdge}
+use Rattle.laws.specs.Layout.{isLive-choose, isLive-readNode, isLive-readEdge}
 use Rattle.slots.specs.Slots.{stateOf, states}
 
 -- Two tables whose slots are free in the same places.

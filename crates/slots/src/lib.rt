@@ -9,7 +9,7 @@ ghost use Rattle.meaning.specs.Basics.{zeros};
 ghost use Rattle.meaning.specs.Numbers.{number, bytes};
 ghost use Rattle.meaning.specs.Layout.{Sized, fitsTable, live, readNodes, readEdges, atomBytes, writeNode, writeEdge, liveAt, nodeLength, edgeLength, cut};
 ghost use Rattle.meaning.specs.Applying.{lowestFree, freeSlots};
-ghost use Rattle.meaning.specs.Laws.Pieces.{stored};
+ghost use Rattle.laws.specs.Pieces.{stored};
 ghost use Rattle.slots.specs.Slots.{states, nodeHeld, edgeHeld};
 use meaning::Layout;
 

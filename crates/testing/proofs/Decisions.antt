@@ -16,9 +16,9 @@ use Rattle.meaning.specs.Assigned.{assigned}
 use Rattle.meaning.specs.FirstMatch.{firstWith, decidedAt}
 use Rattle.meaning.specs.Laws.Tests.{choose-eq, choose-ne}
 use Rattle.meaning.specs.Laws.Every.{Every, Every-in, Every-parts, Every-concat, Every-map, Every-then}
-use Rattle.meaning.specs.Laws.References.{OfVariables, variables-with, left-plain, tests-left}
-use Rattle.meaning.specs.Laws.Assignment.{labels-length}
-use Rattle.meaning.specs.Laws.Decided.{first-with, highest-each}
+use Rattle.laws.specs.References.{OfVariables, variables-with, left-plain, tests-left}
+use Rattle.laws.specs.Assignment.{labels-length}
+use Rattle.laws.specs.Decided.{first-with, highest-each}
 use Rattle.meaning.specs.declared.Condition.the-variants.{Edge}
 use Rattle.meaning.specs.declared.Test.{Test}
 use Rattle.plan.specs.Plan.{testOf, decidesAt}

@@ -17,8 +17,8 @@ use Rattle.meaning.specs.Matching.{leftNodes, total, atomsOf, instance}
 use Rattle.meaning.specs.FirstMatch.{lengthFits, labelAgrees, firstWith, testsSoFar, fits}
 use Rattle.meaning.specs.Assigned.{isVariable, share, spare, taken, orElse, assigned}
 use Rattle.meaning.specs.Laws.Tests.{both-yes, both-no, both-of, same-of}
-use Rattle.meaning.specs.Laws.References.{label-simple}
-use Rattle.meaning.specs.Laws.Labels.{need, fits-need}
+use Rattle.laws.specs.References.{label-simple}
+use Rattle.laws.specs.Labels.{need, fits-need}
 use Rattle.meaning.specs.declared.Element.the-variants.{Variable}
 use Rattle.plan.specs.Plan.{labelOf, Alone}
 use Rattle.agreeing.specs.Placed.{labelAt}

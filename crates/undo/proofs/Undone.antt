@@ -13,7 +13,7 @@ use Rattle.meaning.specs.Layout.{Tables, nodeLength, edgeLength, recordLength, 
 use Rattle.meaning.specs.Calls.{reportOf, lengthChecks, refused, keepsRecords, undoRefusal, tablesUndone, undoOn, undo, answerNumber, refusalNumber, lendingBack, Leaves}
 use Rattle.meaning.specs.Laws.Checks.{first-no, first-yes, firstFailing-none, behind-fine, behind-refused}
 use Rattle.meaning.specs.Laws.Tests.{both-true}
-use Rattle.meaning.specs.Laws.Pieces.{concat-cut, fits-length}
+use Rattle.laws.specs.Pieces.{concat-cut, fits-length}
 use Rattle.meaning.specs.declared.Layout.{Layout}
 use Rattle.meaning.specs.declared.Refusal.{Refusal}
 use Rattle.meaning.specs.declared.Refusal.the-variants.{BadRecords}

@@ -12,8 +12,8 @@ use Rattle.meaning.specs.Basics.{every, concat, padded}
 use Rattle.meaning.specs.Layout.{Slot, Node, Edge, Change, recordLength, writeRecord, keepsRecord}
 use Rattle.meaning.specs.Laws.Tests.{every-drop}
 use Rattle.meaning.specs.Laws.Every.{Every, Every-parts}
-use Rattle.meaning.specs.Laws.Pieces.{pieces-drop, concat-append}
-use Rattle.meaning.specs.Laws.Records.{LegalChange, Within, Every-reverse, keeps-records, length-written, counted-written}
+use Rattle.laws.specs.Pieces.{pieces-drop, concat-append}
+use Rattle.laws.specs.Records.{LegalChange, Within, Every-reverse, keeps-records, length-written, counted-written}
 use Rattle.meaning.specs.declared.Layout.{Layout}
 use Rattle.journal.specs.Journal.{recordsFrom, clearedFrom}
 use Rattle.ledger.specs.Running.{changeOf, journalOf}

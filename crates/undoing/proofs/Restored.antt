@@ -11,11 +11,11 @@ use Rattle.meaning.specs.Basics.{every, concat, padded}
 use Rattle.meaning.specs.Layout.{Slot, Node, Edge, Host, Change, undone, nodeLength, edgeLength, recordLength, fitsTable, readNodes, readEdges, writeNodes, writeEdges, writeRecord, keepsRecord}
 use Rattle.meaning.specs.Applying.{Ledger}
 use Rattle.meaning.specs.Laws.Every.{Every, Every-parts}
-use Rattle.meaning.specs.Laws.Pieces.{fits-length, fits-same}
-use Rattle.meaning.specs.Laws.Layout.{length-padded}
-use Rattle.meaning.specs.Laws.Hosts.{LegalHost, read-write-nodes, read-write-edges}
-use Rattle.meaning.specs.Laws.Records.{LegalChange, Within, length-written}
-use Rattle.meaning.specs.Laws.Restoring.{From, from-host}
+use Rattle.laws.specs.Pieces.{fits-length, fits-same}
+use Rattle.laws.specs.Layout.{length-padded}
+use Rattle.laws.specs.Hosts.{LegalHost, read-write-nodes, read-write-edges}
+use Rattle.laws.specs.Records.{LegalChange, Within, length-written}
+use Rattle.laws.specs.Restoring.{From, from-host}
 use Rattle.meaning.specs.declared.Layout.{Layout}
 use Rattle.journal.specs.Journal.{tablesOf, recordsFrom, putBack, clearedFrom}
 use Rattle.journal.specs.Restores.{restores-bytes}

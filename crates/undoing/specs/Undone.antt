@@ -5,8 +5,8 @@ use mathlib.Core.List.{List}
 use Prim.Native.Nat.{ℕ}
 use lib.ListN.{length}
 use Rattle.meaning.specs.Applying.{Ledger}
-use Rattle.meaning.specs.Laws.Hosts.{LegalHost}
-use Rattle.meaning.specs.Laws.Restoring.{From}
+use Rattle.laws.specs.Hosts.{LegalHost}
+use Rattle.laws.specs.Restoring.{From}
 use Rattle.meaning.specs.declared.Layout.{Layout}
 use Rattle.ledger.specs.Running.{ledgerOf, Running}
 

@@ -17,9 +17,9 @@ use Rattle.meaning.specs.Image.{label}
 use Rattle.meaning.specs.Matching.{Assignment, atomOf}
 use Rattle.meaning.specs.Applying.{elementValue, labelValue}
 use Rattle.meaning.specs.Laws.Tests.{both-of, both-no, both-yes, choose-true, choose-false, ensure-some, ensure-yes, ensure-no, some-inj}
-use Rattle.meaning.specs.Laws.Numbers.{height-lt}
-use Rattle.meaning.specs.Laws.Image.{first-at}
-use Rattle.meaning.specs.Laws.Layout.{Words}
+use Rattle.laws.specs.Numbers.{height-lt}
+use Rattle.fields.specs.Image.{first-at}
+use Rattle.laws.specs.Layout.{Words}
 use Rattle.meaning.specs.declared.Operand.{Operand}
 use Rattle.meaning.specs.declared.Operand.the-variants.{Constant as constantOperand, Variable as variableOperand}
 use Rattle.meaning.specs.declared.Element.{Element}

@@ -16,8 +16,8 @@ use Rattle.meaning.specs.Assigned.{assigned}
 use Rattle.meaning.specs.Applying.{elementValue, labelValue, rightNode, rightNodes, rightEdge, rightSide}
 use Rattle.meaning.specs.Laws.Tests.{every-append, every-map}
 use Rattle.meaning.specs.Laws.Every.{Every, Every-in, Every-parts, Every-map}
-use Rattle.meaning.specs.Laws.Records.{Every-append}
-use Rattle.meaning.specs.Laws.Image.{isSome-map, isSome-then, bind-yes}
+use Rattle.laws.specs.Records.{Every-append}
+use Rattle.fields.specs.Image.{isSome-map, isSome-then, bind-yes}
 use Rattle.meaning.specs.declared.Operand.{Operand}
 use Rattle.meaning.specs.declared.Operand.the-variants.{Constant as constantOperand, Variable as variableOperand}
 use Rattle.meaning.specs.declared.Element.{Element}

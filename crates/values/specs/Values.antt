@@ -15,7 +15,7 @@ use Rattle.meaning.specs.References.{elementNames, labels}
 use Rattle.meaning.specs.Matching.{Assignment}
 use Rattle.meaning.specs.Applying.{labelValue}
 use Rattle.meaning.specs.Laws.Every.{Every}
-use Rattle.meaning.specs.Laws.Layout.{Words}
+use Rattle.laws.specs.Layout.{Words}
 use Rattle.meaning.specs.declared.Element.{Element}
 use Rattle.labels.specs.Labels.{atomsIn, Held}
 use Rattle.values.specs.declared.Atom.{Atom}

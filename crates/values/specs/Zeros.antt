@@ -3,7 +3,7 @@ use mathlib.Core.Path.{refl}
 use native.Mathlib.Omega.{arith}
 use lib.ListN.{replicate}
 use Rattle.meaning.specs.Laws.Tests.{zeros-of}
-use Rattle.meaning.specs.Laws.Layout.{getD-zeros}
+use Rattle.laws.specs.Layout.{getD-zeros}
 use Rattle.values.specs.Values.{Stored, valuesRoom}
 
 pub stored-none : Stored (replicate 6 0) (replicate valuesRoom 0)

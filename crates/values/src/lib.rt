@@ -7,7 +7,7 @@ ghost use Rattle.meaning.specs.Numbers.{sum, difference};
 ghost use Rattle.meaning.specs.Image.{label, ruleGraph};
 ghost use Rattle.meaning.specs.Matching.{atomOf};
 ghost use Rattle.meaning.specs.Applying.{elementValue, labelValue};
-ghost use Rattle.meaning.specs.Laws.Layout.{Words};
+ghost use Rattle.laws.specs.Layout.{Words};
 ghost use Rattle.labels.specs.Labels.{atomsIn, Held, Holds};
 ghost use Rattle.parts.specs.Runs.{For};
 ghost use Rattle.parts.specs.Rows.{graphItem, itemLabel};

@@ -3,7 +3,7 @@ use borrow.Author.Needs.{needs}
 use mathlib.Core.Path.{sym}
 use native.Mathlib.Omega.{arith}
 use lib.Seq.{length-take-le}
-use Rattle.meaning.specs.Laws.Image.Parsed.{ruleEdge-is}
+use Rattle.fields.specs.Parsed.{ruleEdge-is}
 use Rattle.applying.specs.Items.{source-is, target-is, edge-fine, edge-stored}
 use Rattle.applying.proofs.come_edge.Statement.{statement}
 use Rattle.applying.proofs.come_edge.Tie as tie

@@ -3,7 +3,7 @@ use borrow.Author.Needs.{needs}
 use mathlib.Core.Path.{sym}
 use native.Mathlib.Omega.{arith}
 use lib.Seq.{length-take-le}
-use Rattle.meaning.specs.Laws.Image.Parsed.{ruleNode-is}
+use Rattle.fields.specs.Parsed.{ruleNode-is}
 use Rattle.applying.specs.Items.{node-fine, node-stored, come-mark}
 use Rattle.applying.proofs.come_node.Statement.{statement}
 use Rattle.applying.proofs.come_node.Tie as tie

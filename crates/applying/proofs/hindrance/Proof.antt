@@ -1,8 +1,8 @@
 -- `applying::hindrance` meets its contract.
 use borrow.Author.Needs.{needs}
 use native.Mathlib.Omega.{arith}
-use Rattle.meaning.specs.Laws.Values.{interface-left, interface-right}
-use Rattle.meaning.specs.Laws.Image.Parsed.{rule-few}
+use Rattle.laws.specs.Values.{interface-left, interface-right}
+use Rattle.fields.specs.Parsed.{rule-few}
 use Rattle.applying.specs.Checks.{records-half, too-large, lacks}
 use Rattle.applying.proofs.hindrance.Statement.{statement}
 use Rattle.applying.proofs.hindrance.Tie as tie

@@ -1,6 +1,6 @@
 -- Hosts that have the same at each slot number, whatever the length of their tables: a free slot behind a table is as good as
 -- none. They have the same matches, the same first match, the same values of a right side, and the same edges on free nodes.
--- Rests on Laws/FirstMatch.
+-- Rests on laws' FirstMatch.
 use Prim.Native.Nat.{ℕ, zero, suc, _≤_}
 use mathlib.Core.Path.{_≡_, refl, sym, _∙_, ap, fun-ext}
 use mathlib.Core.Bool.{Bool, true, false, not}
@@ -19,8 +19,8 @@ use Rattle.meaning.specs.Assigned.{paired, valueFrom, assigned}
 use Rattle.meaning.specs.FirstMatch.{firstMatch}
 use Rattle.meaning.specs.Applying.{rightNode, rightNodes, rightSide, onFreeNode}
 use Rattle.meaning.specs.Laws.Tests.{both-no}
-use Rattle.meaning.specs.Laws.Edges.{runs-free, leaves-free, arrives-free}
-use Rattle.meaning.specs.Laws.FirstMatch.{First, first-one, first-match}
+use Rattle.laws.specs.Edges.{runs-free, leaves-free, arrives-free}
+use Rattle.laws.specs.FirstMatch.{First, first-one, first-match}
 use Rattle.meaning.specs.declared.Condition.{Condition}
 use Rattle.meaning.specs.declared.Condition.the-variants.{Edge as edgeBetween, InDegree, OutDegree, Equal, Less}
 use Rattle.meaning.specs.declared.Test.{Test}

@@ -1,5 +1,5 @@
 -- The allowance of fuel: a command that did not run out of fuel does the same with more of it, and leaves so much more.
--- Rests on Laws/Fuel.
+-- Rests on laws' Fuel.
 use Prim.Native.Nat.{ℕ, zero, suc, _+_}
 use mathlib.Core.Path.{_≡_, refl}
 use mathlib.Core.List.{List}
@@ -10,8 +10,8 @@ use Rattle.meaning.specs.Basics.{choose}
 use Rattle.meaning.specs.Image.{Rule, Command, ruleSet, sequence, guarded, loop, skip, fail, break, Commands, stop, then}
 use Rattle.meaning.specs.Applying.{Applied, applied, hindered}
 use Rattle.meaning.specs.Commands.{State, Out, ends, back, enterAt, Chosen, afterApplying, next, decide, again, rounds, call, work, works, exec, stateAt}
-use Rattle.meaning.specs.Laws.Commands.{entered}
-use Rattle.meaning.specs.Laws.Fuel.{AtOut, atOut-of}
+use Rattle.laws.specs.Commands.{entered}
+use Rattle.laws.specs.Fuel.{AtOut, atOut-of}
 use Rattle.meaning.specs.declared.Stop.the-variants.{OutOfFuel}
 use Rattle.meaning.specs.declared.End.{End}
 use Rattle.meaning.specs.declared.End.the-variants.{Done, Failed, Broke, Stopped}

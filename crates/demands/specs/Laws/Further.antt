@@ -1,5 +1,5 @@
 -- Further free slots behind both tables: stores inside the tables, new nodes and right edges, and so an application at a
--- match, do the same, and the further slots stay free behind. Rests on Laws/Alike and Laws/Room.
+-- match, do the same, and the further slots stay free behind. Rests on Laws/Alike and laws' Room.
 use Prim.Native.Nat.{ℕ, zero, suc, _+_, _<_, _≤_}
 use mathlib.Core.Path.{_≡_, refl, sym, _∙_, ap}
 use mathlib.Core.Bool.{Bool, true, false}
@@ -15,12 +15,12 @@ use Rattle.meaning.specs.Image.{Rule}
 use Rattle.meaning.specs.Matching.{leftNodes, leftEdges, Match}
 use Rattle.meaning.specs.Applying.{Right, rightSide, Ledger, standing, store, stores, lowestFree, freeSlots, edgesGo, nodesChange, Added, addNodes, between, addEdges, changed, newNodes, goneNodes, recordsOf, hindrance, onFreeNode, Applied, applied, hindered, tested, unhindered, apply, ledgerAt}
 use Rattle.meaning.specs.Laws.Every.{Every, Every-then}
-use Rattle.meaning.specs.Laws.Records.{Every-append}
-use Rattle.meaning.specs.Laws.Slots.{lowestFree-lt, freeSlots-append, come-free, put-nodes, put-edges}
-use Rattle.meaning.specs.Laws.Hosts.{liveAt-lt}
+use Rattle.laws.specs.Records.{Every-append}
+use Rattle.laws.specs.Slots.{lowestFree-lt, freeSlots-append, come-free, put-nodes, put-edges}
+use Rattle.laws.specs.Hosts.{liveAt-lt}
 use Rattle.demands.specs.Laws.Hindrance.{labels-first, nodes-second, edges-third, records-last, unhindered-of}
-use Rattle.meaning.specs.Laws.Applying.{store-host, rightSide-some}
-use Rattle.meaning.specs.Laws.Room.{Placed, match-nodes, match-edges, afterLeft, afterNew, afterLeft-nodes, afterLeft-edges, addNodes-edges}
+use Rattle.laws.specs.Applying.{store-host, rightSide-some}
+use Rattle.laws.specs.Room.{Placed, match-nodes, match-edges, afterLeft, afterNew, afterLeft-nodes, afterLeft-edges, addNodes-edges}
 use Rattle.demands.specs.Laws.Alike.{Alike, rightSide-alike, onFree-alike}
 use Rattle.meaning.specs.declared.Stop.{Stop}
 use Rattle.meaning.specs.declared.Stop.the-variants.{OutOfFuel, NoNodeRoom, NoEdgeRoom, NoRecordRoom, LabelTooLarge, EdgeOnFreeNode}

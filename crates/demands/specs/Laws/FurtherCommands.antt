@@ -13,9 +13,9 @@ use Rattle.meaning.specs.References.{ruleHolds}
 use Rattle.meaning.specs.Matching.{Match}
 use Rattle.meaning.specs.Applying.{Applied, applied, hindered, apply}
 use Rattle.meaning.specs.Commands.{State, Out, ends, back, enterAt, Chosen, ruleAt, firstRule, afterApplying, next, decide, again, rounds, call, work, works, exec, stateAt}
-use Rattle.meaning.specs.Laws.FirstMatch.{found-match}
-use Rattle.meaning.specs.Laws.Commands.{firstRule-some, entered}
-use Rattle.meaning.specs.Laws.References.{Sound}
+use Rattle.laws.specs.FirstMatch.{found-match}
+use Rattle.laws.specs.Commands.{firstRule-some, entered}
+use Rattle.laws.specs.References.{Sound}
 use Rattle.demands.specs.Laws.Alike.{firstMatch-alike}
 use Rattle.demands.specs.Laws.Further.{roomier, roomierLedger, roomier-alike, roomierApplied, HasRoom, AppliedWithRoom, apply-roomier}
 use Rattle.meaning.specs.declared.End.{End}

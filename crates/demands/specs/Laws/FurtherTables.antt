@@ -1,5 +1,5 @@
 -- Further free slots as bytes: zeros behind a table are read and written as free slots, and the layout is kept with them.
--- Rests on Laws/Pieces, Laws/Layout and Laws/Further.
+-- Rests on laws' Pieces, laws' Layout and Laws/Further.
 use Prim.Native.Nat.{ℕ, zero, suc, _+_, _-_, _*_, _/_, _%_, _<_, _≤_}
 use mathlib.Core.Path.{_≡_, refl, sym, _∙_, ap, fun-ext}
 use mathlib.Core.Bool.{Bool, true}
@@ -10,8 +10,8 @@ use lib.ListN.{length, getD, replicate, length-replicate, replicate-append-repli
 use Rattle.meaning.specs.Basics.{every, concat, padded}
 use Rattle.meaning.specs.Layout.{Slot, free, Node, Edge, nodeLength, edgeLength, cut, readNode, readEdge, readNodes, readEdges, nodeBytes, edgeBytes, writeNode, writeEdge, writeNodes, writeEdges, keepsNode, keepsEdge, keepsLayout}
 use Rattle.meaning.specs.Laws.Tests.{both-true, both-of, every-append, zeros-of}
-use Rattle.meaning.specs.Laws.Pieces.{Wide, Wide-pieces, concat-append, concat-cut, cut-concat}
-use Rattle.meaning.specs.Laws.Layout.{readNode-free, edgeOf, readEdge-free, keepsNode-free, keepsEdge-free}
+use Rattle.laws.specs.Pieces.{Wide, Wide-pieces, concat-append, concat-cut, cut-concat}
+use Rattle.laws.specs.Layout.{readNode-free, edgeOf, readEdge-free, keepsNode-free, keepsEdge-free}
 use Rattle.demands.specs.Laws.Further.{further, further-at}
 use Rattle.meaning.specs.declared.Layout.{Layout}
 

@@ -1,5 +1,5 @@
 -- The rules of inference and the definitions of commands say the same: what a command is computed to do follows by the rules,
--- and nothing else does. Rests on Inference, Laws/FirstMatch and Laws/Fuel.
+-- and nothing else does. Rests on Inference, laws' FirstMatch and laws' Fuel.
 use Prim.Native.Nat.{ℕ, zero, suc, _-_, _<_, _≤_}
 use mathlib.Core.Path.{_≡_, refl, sym, _∙_, ap}
 use mathlib.Core.Logic.{_↔_}
@@ -20,10 +20,10 @@ use Rattle.meaning.specs.Placement.{breaksLie, allBreaksLie}
 use Rattle.demands.specs.Inference
 use Rattle.demands.specs.Inference.{NoMatch, FirstCalled, stepped, Runs, Does, Follows}
 use Rattle.meaning.specs.Laws.Tests.{both-true}
-use Rattle.meaning.specs.Laws.FirstMatch as Found
-use Rattle.meaning.specs.Laws.Commands.{firstRule-some, firstRule-none, exec-entered, guard-unbroken}
-use Rattle.meaning.specs.Laws.Fuel.{exec-spending, again-same, rounds-bound}
-use Rattle.meaning.specs.Laws.References.{Sound}
+use Rattle.laws.specs.FirstMatch as Found
+use Rattle.laws.specs.Commands.{firstRule-some, firstRule-none, exec-entered, guard-unbroken}
+use Rattle.laws.specs.Fuel.{exec-spending, again-same, rounds-bound}
+use Rattle.laws.specs.References.{Sound}
 use Rattle.meaning.specs.declared.Stop.the-variants.{OutOfFuel}
 use Rattle.meaning.specs.declared.End.{End}
 use Rattle.meaning.specs.declared.End.the-variants.{Done, Failed, Broke, Stopped}

@@ -10,9 +10,9 @@ use native.Mathlib.Decide.{decLe}
 use Rattle.meaning.specs.Basics.{choose}
 use Rattle.meaning.specs.Image.{Rule, Command, ruleSet, sequence, guarded, loop, skip, fail, break, Commands, stop, then}
 use Rattle.meaning.specs.Commands.{State, Out, ends, back, enterAt, next, decide, again, rounds, work, works, exec, stateAt}
-use Rattle.meaning.specs.Laws.Commands.{entered}
+use Rattle.laws.specs.Commands.{entered}
 use Rattle.demands.specs.Laws.Allowance.{more, moreLeft, Enough, More, exec-grows}
-use Rattle.meaning.specs.Laws.Fuel.{exec-counted, work-counted, works-counted, Spending, enterAt-spends, exec-spending, IfOut, AtOut, atOut-of, call-enough}
+use Rattle.laws.specs.Fuel.{exec-counted, work-counted, works-counted, Spending, enterAt-spends, exec-spending, IfOut, AtOut, atOut-of, call-enough}
 use Rattle.meaning.specs.declared.Stop.{Stop}
 use Rattle.meaning.specs.declared.Stop.the-variants.{OutOfFuel, NoNodeRoom, NoEdgeRoom, NoRecordRoom, LabelTooLarge, EdgeOnFreeNode}
 use Rattle.meaning.specs.declared.End.{End}

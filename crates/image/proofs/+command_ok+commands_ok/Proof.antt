@@ -7,7 +7,7 @@ use borrow.Author.Needs.{needs}
 use borrow.Fn.Kinds.{In}
 use borrow.Fn.PlainCycle.{Measures, is, falls, and}
 use lib.ListN.{length}
-use Rattle.meaning.specs.Laws.Image.{Reading, reading-start}
+use Rattle.fields.specs.Image.{Reading, reading-start}
 use Rattle.meaning.specs.Image.{anyTag, command}
 use Rattle.fields.specs.Laws.{Lies}
 use Rattle.fields.proofs.part.Reads as part-reads

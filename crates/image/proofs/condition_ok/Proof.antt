@@ -1,7 +1,7 @@
 -- `condition_ok` meets its contract, tag by tag.
 use mathlib.Core.Path.{sym, ap, _∙_}
 use borrow.Author.Needs.{needs}
-use Rattle.meaning.specs.Laws.Image.{condition-edge, condition-in, condition-out, condition-relation, condition-other}
+use Rattle.fields.specs.Image.{condition-edge, condition-in, condition-out, condition-relation, condition-other}
 use Rattle.meaning.specs.Basics.{isSome}
 use Rattle.image.proofs.Checks.{failed}
 use Rattle.image.proofs.condition_ok.Statement.{statement}

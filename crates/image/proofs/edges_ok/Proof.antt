@@ -7,7 +7,7 @@ use borrow.Author.Tests.{eq-eqb, ne-eqb}
 use borrow.Author.Needs.{needs}
 use lib.Dec.{eqb}
 use lib.ListN.{length}
-use Rattle.meaning.specs.Laws.Image.{Reading, reading-start, only-other}
+use Rattle.fields.specs.Image.{Reading, reading-start, only-other}
 use Rattle.meaning.specs.Image.{ruleEdge}
 use Rattle.fields.specs.Laws.{Lies}
 use Rattle.image.proofs.Checks.{failed, too-many, not-read, all-read}

@@ -1,7 +1,7 @@
 -- `element_ok` meets its contract, tag by tag.
 use mathlib.Core.Path.{sym, _∙_}
 use borrow.Author.Needs.{needs}
-use Rattle.meaning.specs.Laws.Image.{element-constant, element-variable, element-sum, element-difference, element-other}
+use Rattle.fields.specs.Image.{element-constant, element-variable, element-sum, element-difference, element-other}
 use Rattle.image.proofs.Checks.{failed}
 use Rattle.image.proofs.element_ok.Statement.{statement}
 use Rattle.image.proofs.element_ok.Tie as tie

@@ -6,7 +6,7 @@ use native.Mathlib.Omega.{arith}
 use borrow.Author.Needs.{needs}
 use lib.ListN.{length}
 use Rattle.meaning.specs.Image.{anyTag, element}
-use Rattle.meaning.specs.Laws.Image.{Reading, reading-start}
+use Rattle.fields.specs.Image.{Reading, reading-start}
 use Rattle.fields.specs.Laws.{Lies}
 use Rattle.image.proofs.Checks.{too-many, not-read, all-read, label-is}
 use Rattle.image.proofs.Loops.{a-field, part-in, nearer, turn-cut, turn-bad, turn-next}

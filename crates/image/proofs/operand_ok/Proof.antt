@@ -1,6 +1,6 @@
 -- `operand_ok` meets its contract, tag by tag.
 use mathlib.Core.Path.{sym}
-use Rattle.meaning.specs.Laws.Image.{operand-constant, operand-variable, operand-other}
+use Rattle.fields.specs.Image.{operand-constant, operand-variable, operand-other}
 use Rattle.image.proofs.Checks.{failed}
 use Rattle.image.proofs.operand_ok.Statement.{statement}
 use Rattle.image.proofs.operand_ok.Tie as tie

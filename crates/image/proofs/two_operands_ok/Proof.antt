@@ -5,7 +5,7 @@ use Prim.Native.Nat.{_-_}
 use native.Mathlib.Omega.{arith}
 use borrow.Author.Needs.{needs}
 use lib.ListN.{length}
-use Rattle.meaning.specs.Laws.Image.{Reading, reading-start}
+use Rattle.fields.specs.Image.{Reading, reading-start}
 use Rattle.meaning.specs.Image.{anyTag, operand}
 use Rattle.fields.specs.Laws.{Lies}
 use Rattle.image.proofs.Checks.{pair-full, pair-no, pair-read}

@@ -1,6 +1,6 @@
 -- `interpreter::nhiemavut_undo` meets its contract: the layout of document 01 is a layout, and the call leaves what the definition says.
 use borrow.Author.Needs.{needs}
-use Rattle.meaning.specs.Laws.Layout.{base-sized}
+use Rattle.laws.specs.Layout.{base-sized}
 use Rattle.interpreter.proofs.nhiemavut_undo.Statement.{statement}
 use Rattle.interpreter.proofs.nhiemavut_undo.Tie as tie
 

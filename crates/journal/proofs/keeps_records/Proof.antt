@@ -6,7 +6,7 @@ use mathlib.Core.Path.{_≡_, refl, sym, ap, _∙_}
 use native.Mathlib.Omega.{arith}
 use borrow.Author.Needs.{needs}
 use lib.ListN.{length, drop}
-use Rattle.meaning.specs.Laws.Pieces.{length-pieces}
+use Rattle.laws.specs.Pieces.{length-pieces}
 use Rattle.meaning.specs.Layout.{keepsRecord, pieces}
 use Rattle.meaning.specs.Basics.{every}
 use Rattle.journal.proofs.Records.{counted-at, records-over, records-kept}

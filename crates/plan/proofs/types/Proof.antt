@@ -1,7 +1,7 @@
 -- `types` meets its contract: the types are the bytes themselves.
 use mathlib.Core.Path.{sym, _∙_}
 use borrow.Author.Needs.{needs}
-use Rattle.meaning.specs.Laws.Image.Parsed.{types-is}
+use Rattle.fields.specs.Parsed.{types-is}
 use Rattle.plan.proofs.types.Statement.{statement}
 use Rattle.plan.proofs.types.Tie as tie
 

@@ -7,7 +7,7 @@ use native.Mathlib.Omega.{arith}
 use borrow.Author.Needs.{needs}
 use lib.ListN.{getD}
 use Rattle.meaning.specs.FirstMatch.{has}
-use Rattle.meaning.specs.Laws.Assignment.{labels-length}
+use Rattle.laws.specs.Assignment.{labels-length}
 use Rattle.meaning.specs.References.{labels}
 use Rattle.plan.specs.Plan.{For}
 use Rattle.planning.proofs.Variables.{occurs-behind, occurs-nowhere, first-at, first-none, none-more}

@@ -16,8 +16,8 @@ use Rattle.meaning.specs.References.{conditionNodes, isPlain}
 use Rattle.meaning.specs.Matching.{nodeSlot, Assignment, atomsOf, instance, atomOf, runs, leaves, arrives, outDegree, inDegree, conditionHolds, testHolds}
 use Rattle.meaning.specs.Laws.Tests.{both-true, both-of, any-of, any-true}
 use Rattle.meaning.specs.Laws.Every.{Every}
-use Rattle.meaning.specs.Laws.Counting.{count-from}
-use Rattle.meaning.specs.Laws.Hosts.{liveAt-lt}
+use Rattle.laws.specs.Counting.{count-from}
+use Rattle.laws.specs.Hosts.{liveAt-lt}
 use Rattle.meaning.specs.declared.Operand.{Operand}
 use Rattle.meaning.specs.declared.Operand.the-variants.{Constant as constantOperand, Variable as variableOperand}
 use Rattle.meaning.specs.declared.Element.{Element}

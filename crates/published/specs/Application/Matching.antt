@@ -18,12 +18,12 @@ use Rattle.meaning.specs.References.{conditionNodes, isPlain, testNodesExist, r
 use Rattle.meaning.specs.Matching.{edgeAt, leftNode, leftEdge, leftNodes, leftEdges, nodeSlot, edgeSlot, testHolds, MarksAgree, Match}
 use Rattle.meaning.specs.Assigned.{assigned}
 use Rattle.meaning.specs.Laws.Every.{Every, Every-true, Every-of, Every-all, Every-then, Every-with}
-use Rattle.meaning.specs.Laws.References.{clauses-true, label-plain, ends}
-use Rattle.meaning.specs.Laws.Assignment.{label-node, label-edge, Labelled, labelled, agreed}
-use Rattle.meaning.specs.Laws.Decided.{tests-same}
-use Rattle.meaning.specs.Laws.Levels.{apart-same}
-use Rattle.meaning.specs.Laws.Hosts.{LegalHost}
-use Rattle.meaning.specs.Laws.Values.{assigned-words}
+use Rattle.laws.specs.References.{clauses-true, label-plain, ends}
+use Rattle.laws.specs.Assignment.{label-node, label-edge, Labelled, labelled, agreed}
+use Rattle.laws.specs.Decided.{tests-same}
+use Rattle.laws.specs.Levels.{apart-same}
+use Rattle.laws.specs.Hosts.{LegalHost}
+use Rattle.laws.specs.Values.{assigned-words}
 use Rattle.meaning.specs.declared.Layout.{Layout}
 use Rattle.published.specs.Graphs.{Graph, graphOf}
 use Rattle.published.specs.RuleApplication.{Premorphism, Constructed, Matches, Applies}

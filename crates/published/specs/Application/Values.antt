@@ -14,7 +14,7 @@ use Rattle.meaning.specs.Matching.{nodeAt, nodeSlot, Assignment, atomOf}
 use Rattle.meaning.specs.Assigned.{assigned}
 use Rattle.meaning.specs.Applying.{elementValue, labelValue, rightNode, rightNodes, rightEdge, Right, rightSide}
 use Rattle.meaning.specs.Laws.Tests.{some-inj, bind-some, ensure-some}
-use Rattle.meaning.specs.Laws.Applying.{each-at, nodes-at}
+use Rattle.laws.specs.Applying.{each-at, nodes-at}
 use Rattle.meaning.specs.declared.Element.{Element}
 use Rattle.meaning.specs.declared.Element.the-variants.{Constant, Variable, Sum, Difference}
 use Rattle.published.specs.Graphs.{NodeLabel, EdgeLabel}

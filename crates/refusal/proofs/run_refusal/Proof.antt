@@ -1,6 +1,6 @@
 -- `refusal::run_refusal` meets its contract: document 01's layout is a layout.
 use borrow.Author.Needs.{needs}
-use Rattle.meaning.specs.Laws.Layout.{base-sized}
+use Rattle.laws.specs.Layout.{base-sized}
 use Rattle.refusal.proofs.run_refusal.Statement.{statement}
 use Rattle.refusal.proofs.run_refusal.Tie as tie
 

@@ -5,7 +5,7 @@ use native.Mathlib.Omega.{arith}
 use borrow.Rule.Slice.PartMut.{putMid}
 use borrow.Author.Needs.{needs}
 use lib.ListN.{length, replicate}
-use Rattle.meaning.specs.Laws.Pieces.{length-slot, slot-within}
+use Rattle.laws.specs.Pieces.{length-slot, slot-within}
 use Rattle.slots.specs.Parts.{slot-back, slot-part}
 use Rattle.slots.proofs.free_slot.Statement.{statement}
 use Rattle.slots.proofs.free_slot.Tie as tie

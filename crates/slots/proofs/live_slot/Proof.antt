@@ -3,7 +3,7 @@ use mathlib.Core.Path.{sym}
 use native.Mathlib.Omega.{arith}
 use borrow.Author.Needs.{needs}
 use lib.ListN.{length}
-use Rattle.meaning.specs.Laws.Pieces.{slot-within}
+use Rattle.laws.specs.Pieces.{slot-within}
 use Rattle.slots.proofs.Slots.{live-there, live-outside}
 use Rattle.slots.proofs.live_slot.Statement.{statement}
 use Rattle.slots.proofs.live_slot.Tie as tie

@@ -6,7 +6,7 @@ use borrow.Rule.Slice.PartMut.{putMid}
 use borrow.Author.Needs.{needs}
 use lib.ListN.{length, getD, take, drop}
 use Rattle.meaning.specs.Basics.{concat}
-use Rattle.meaning.specs.Laws.Pieces.{stored}
+use Rattle.laws.specs.Pieces.{stored}
 use Rattle.meaning.specs.Numbers.{bytes}
 use Rattle.slots.specs.Parts.{part-length, slot-back}
 use Rattle.slots.proofs.Held.{labelling, labelling-more, labelling-all, length-labelling}

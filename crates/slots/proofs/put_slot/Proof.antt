@@ -6,7 +6,7 @@ use borrow.Rule.Slice.PartMut.{putMid}
 use borrow.Author.Needs.{needs}
 use lib.ListN.{length}
 use Rattle.meaning.specs.Layout.{cut}
-use Rattle.meaning.specs.Laws.Pieces.{cut-stored, stored, slot-within}
+use Rattle.laws.specs.Pieces.{cut-stored, stored, slot-within}
 use Rattle.slots.specs.Parts.{slot-back}
 use Rattle.slots.proofs.put_slot.Statement.{statement}
 use Rattle.slots.proofs.put_slot.Tie as tie

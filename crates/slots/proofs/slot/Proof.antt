@@ -3,7 +3,7 @@ use mathlib.Core.Path.{ap, _∙_}
 use native.Mathlib.Omega.{arith}
 use borrow.Author.Needs.{needs}
 use lib.ListN.{length}
-use Rattle.meaning.specs.Laws.Pieces.{length-slot, slot-within}
+use Rattle.laws.specs.Pieces.{length-slot, slot-within}
 use Rattle.slots.specs.Parts.{slot-part}
 use Rattle.slots.proofs.slot.Statement.{statement}
 use Rattle.slots.proofs.slot.Tie as tie

@@ -7,7 +7,7 @@ use lib.ListN.{getD}
 use mir.Syntax.{w8}
 use mir.Val.{Fits}
 use borrow.Author.Needs.{needs}
-use Rattle.meaning.specs.Laws.Numbers.{Bytes}
+use Rattle.laws.specs.Numbers.{Bytes}
 use Rattle.interpreter.proofs.Started.{report-size, start-running, runnable, fuel-fits, leaves-finished}
 use Rattle.interpreter.proofs.running.start.Statement.{statement}
 use Rattle.interpreter.proofs.running.start.Tie as tie

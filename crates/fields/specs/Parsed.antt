@@ -1,0 +1,509 @@
+-- What a reader of the image that succeeds has read: its inversions, part by part and by tag, with the limits that
+-- hold of what was read. Rests on the meaning's Image and on Image.
+use mathlib.Core.Path.{_≡_, refl, sym, _∙_, ap}
+use mathlib.Core.List.{List, [], _∷_}
+use mathlib.Core.Bool.{Bool, true, false}
+use mathlib.Core.Option.{Option, some, none}
+use Prim.Native.Nat.{ℕ, zero, suc, _-_, _<_, _≤_, max}
+use native.Mathlib.Omega.{arith}
+use native.Mathlib.Decide.{decLt, ℕ-discrete}
+use borrow.Author.Tests.{eqb-true, leb-true}
+use lib.Dec.{eqb, leb}
+use lib.ListN.{length, getD, drop}
+use Rattle.meaning.specs.Basics.{either, every, isEmpty, _>>=_}
+use Rattle.meaning.specs.Numbers.{number}
+use Rattle.meaning.specs.Layout.{isNodeMark, isEdgeMark}
+use Rattle.meaning.specs.Image.{RuleEdge, RuleGraph, Program, Commands, stop, then, inOrder, RuleNode, Rule, Command, Field, Read, Pair, field, expect, leading, only, anyTag, constant, oneByte, operand, asPair, twoOperands, element, label, ruleNode, ruleEdge, ruleGraph, relation, condition, test, isType, types, rule, leaf, asRuleSet, asSequence, asGuarded, asLoop, command, program}
+use Rattle.meaning.specs.Tags.{anyMark}
+use Rattle.meaning.specs.Image.Command.{ruleSet, sequence, guarded, loop, skip, fail, break}
+use Rattle.meaning.specs.declared.Operand.{Operand}
+use Rattle.meaning.specs.declared.Operand.the-variants.{Constant as constantOperand, Variable as variableOperand}
+use Rattle.meaning.specs.declared.Element.{Element}
+use Rattle.meaning.specs.declared.Element.the-variants.{Constant, Variable, Sum, Difference}
+use Rattle.meaning.specs.declared.Test.{Test}
+use Rattle.meaning.specs.declared.Condition.{Condition}
+use Rattle.meaning.specs.declared.Condition.the-variants.{Edge, InDegree, OutDegree, Equal, Less}
+use Rattle.meaning.specs.Laws.Every.{Every}
+use Rattle.meaning.specs.Laws.Tests.{both-true, empty-true, choose-eq, choose-true, choose-false, choose-ne, some-inj, bind-some, ensure-some}
+use Rattle.fields.specs.Image.{leading-led, condition-relation, command-no-depth, command-ruleSet, command-sequence, command-if, command-try, command-loop, command-skip, command-fail, command-break, command-other}
+
+-- Runs of fields.
+
+same-read : {A : Type 0} (r : Read A) (l : List A) (bs : List ℕ) → r .items ≡ l → r .rest ≡ bs → r ≡ record { items = l; rest = bs }
+same-read r l bs e f = rw (← e, ← f)
+
+module _ {A : Type 0} (passes : ℕ → Bool) (item : ℕ → List ℕ → Option A) where
+  pub only-is : (n : ℕ) (bs : List ℕ) (l : List A) → only passes item n bs ≡ some l → leading passes item n bs ≡ some (record { items = l; rest = [] })
+  unfolding only
+  only-is n bs l e =
+      let t = bind-some (leading passes item n bs) _ l e in
+      let u = ensure-some (isEmpty (t .0 .rest)) _ l (t .2) in
+      t .1 ∙ ap some (same-read (t .0) l [] (some-inj _ l (u .1)) (empty-true (t .0 .rest) (u .0)))
+
+  pub only-few : (n : ℕ) (bs : List ℕ) (l : List A) → only passes item n bs ≡ some l → length l ≤ n
+  only-few n bs l e = leading-led passes item n bs _ (only-is n bs l e) .few
+
+-- the first item of a run that has one
+pub record Head {A : Type 0} (passes : ℕ → Bool) (item : ℕ → List ℕ → Option A) (n : ℕ) (bs : List ℕ) (a : A) (l : List A) (behind : List ℕ) : Type 0 where
+  pub whole : Field
+  pub is : field bs ≡ some whole
+  pub passed : passes (getD bs 0 0) ≡ true
+  pub first : item (whole .tag) (whole .payload) ≡ some a
+  pub bounded : 0 < n
+  pub next : leading passes item (n - 1) (whole .rest) ≡ some (record { items = l; rest = behind })
+
+no-head : {A : Type 0} {B : Type 0} (a : A) (l : List A) (bs behind : List ℕ) → _≡_ {A = Option (Read A)} (some (record { items = []; rest = bs })) (some (record { items = a ∷ l; rest = behind })) → B
+no-head a l bs behind e =
+    let q = ap (λ (r : Read _). length (r .items)) (some-inj (record { items = []; rest = bs }) (record { items = a ∷ l; rest = behind }) e) in
+    absurd (omega arith)
+
+pub leading-head : {A : Type 0} (passes : ℕ → Bool) (item : ℕ → List ℕ → Option A) (n : ℕ) (bs : List ℕ) (a : A) (l : List A) (behind : List ℕ)
+    → leading passes item n bs ≡ some (record { items = a ∷ l; rest = behind }) → Head passes item n bs a l behind
+unfolding leading
+leading-head passes item zero bs a l behind e = no-head a l bs behind e
+leading-head passes item (suc n) [] a l behind e = no-head a l [] behind e
+leading-head {A} passes item (suc n) (t ∷ bs) a l behind e = at (passes t) refl
+  where
+    at : (b : Bool) → passes t ≡ b → Head passes item (suc n) (t ∷ bs) a l behind
+    at false q = no-head a l (t ∷ bs) behind (sym (choose-false _ _ _ q) ∙ e)
+    at true q =
+        let u = bind-some (field (t ∷ bs)) _ _ (sym (choose-true _ _ _ q) ∙ e) in
+        let v = bind-some (item (u .0 .tag) (u .0 .payload)) _ _ (u .2) in
+        let w = bind-some (leading passes item n (u .0 .rest)) _ _ (v .2) in
+        let r = some-inj (record { items = v .0 ∷ w .0 .items; rest = w .0 .rest }) (record { items = a ∷ l; rest = behind }) (w .2) in
+        let i : v .0 ∷ w .0 .items ≡ a ∷ l = ap (λ (x : Read A). x .items) r in
+        let f : v .0 ≡ a = cc in
+        let g : w .0 .items ≡ l = cc in
+        let z : suc n - 1 ≡ n = omega arith in
+        record {
+          whole = u .0;
+          is = u .1;
+          passed = q;
+          first = v .1 ∙ ap some f;
+          bounded = omega arith;
+          next = rw z (w .1 ∙ ap some (same-read (w .0) l behind g (ap (λ (x : Read A). x .rest) r)));
+        }
+
+-- what holds of each item that can be read holds of all that are
+module _ {A : Type 0} (passes : ℕ → Bool) (item : ℕ → List ℕ → Option A) (P : A → Type 0) (h : (tag : ℕ) (bs : List ℕ) (a : A) → item tag bs ≡ some a → P a) where
+  pub leading-every : (l : List A) (n : ℕ) (bs behind : List ℕ) → leading passes item n bs ≡ some (record { items = l; rest = behind }) → Every P l
+  leading-every [] n bs behind e = tt
+  leading-every (a ∷ l) n bs behind e =
+      let i = leading-head passes item n bs a l behind e in
+      (h (i .whole .tag) (i .whole .payload) a (i .first), leading-every l (n - 1) (i .whole .rest) behind (i .next))
+
+-- Operands and elements, by tag.
+
+pair-is : (l : List Operand) (p : Pair) → asPair l ≡ some p → l ≡ p .first ∷ p .second ∷ []
+unfolding asPair
+pair-is [] p e = let z : _≡_ {A = ℕ} 0 1 = cc in absurd (omega arith)
+pair-is (a ∷ []) p e = let z : _≡_ {A = ℕ} 0 1 = cc in absurd (omega arith)
+pair-is (a ∷ b ∷ []) p e = rw (← (some-inj _ p e))
+pair-is (a ∷ b ∷ c ∷ l) p e = let z : _≡_ {A = ℕ} 0 1 = cc in absurd (omega arith)
+
+module _ (bs : List ℕ) where
+  pub constant-is : (c : ℕ) → constant bs ≡ some c → (length bs ≡ 4) × (c ≡ number bs)
+  unfolding constant
+  constant-is c e = let t = ensure-some _ _ c e in (eqb-true _ _ (t .0), sym (some-inj _ c (t .1)))
+
+  pub oneByte-is : (v : ℕ) → oneByte bs ≡ some v → (length bs ≡ 1) × (v ≡ getD bs 0 0)
+  unfolding oneByte
+  oneByte-is v e = let t = ensure-some _ _ v e in (eqb-true _ _ (t .0), sym (some-inj _ v (t .1)))
+
+  pub label-few : (l : List Element) → label bs ≡ some l → length l ≤ 4
+  unfolding label
+  label-few l e = only-few anyTag element 4 bs l e
+
+  pub twoOperands-is : (p : Pair) → twoOperands bs ≡ some p → only anyTag operand 2 bs ≡ some (p .first ∷ p .second ∷ [])
+  unfolding twoOperands
+  twoOperands-is p e =
+      let t = bind-some (only anyTag operand 2 bs) asPair p e in
+      t .1 ∙ ap some (pair-is (t .0) p (t .2))
+
+module _ (tag : ℕ) (bs : List ℕ) where
+  pub operand-30 : (x : Operand) → tag ≡ 0x30 → operand tag bs ≡ some x → (length bs ≡ 4) × (x ≡ constantOperand (number bs))
+  unfolding operand
+  operand-30 x h e =
+      let t = bind-some (constant bs) _ x (sym (choose-eq tag 0x30 _ _ h) ∙ e) in
+      let c = constant-is bs (t .0) (t .1) in
+      (c .0, sym (some-inj _ x (t .2)) ∙ ap constantOperand (c .1))
+
+  pub operand-31 : (x : Operand) → tag ≡ 0x31 → operand tag bs ≡ some x → (length bs ≡ 1) × (x ≡ variableOperand (getD bs 0 0))
+  unfolding operand
+  operand-31 x h e =
+      let t = bind-some (oneByte bs) _ x (sym (choose-ne tag 0x30 _ _ (λ q. omega arith) ∙ choose-eq tag 0x31 _ _ h) ∙ e) in
+      let c = oneByte-is bs (t .0) (t .1) in
+      (c .0, sym (some-inj _ x (t .2)) ∙ ap variableOperand (c .1))
+
+  pub element-30 : (x : Element) → tag ≡ 0x30 → element tag bs ≡ some x → (length bs ≡ 4) × (x ≡ Constant (number bs))
+  unfolding element
+  element-30 x h e =
+      let t = bind-some (constant bs) _ x (sym (choose-eq tag 0x30 _ _ h) ∙ e) in
+      let c = constant-is bs (t .0) (t .1) in
+      (c .0, sym (some-inj _ x (t .2)) ∙ ap Constant (c .1))
+
+  pub element-31 : (x : Element) → tag ≡ 0x31 → element tag bs ≡ some x → (length bs ≡ 1) × (x ≡ Variable (getD bs 0 0))
+  unfolding element
+  element-31 x h e =
+      let t = bind-some (oneByte bs) _ x (sym (choose-ne tag 0x30 _ _ (λ q. omega arith) ∙ choose-eq tag 0x31 _ _ h) ∙ e) in
+      let c = oneByte-is bs (t .0) (t .1) in
+      (c .0, sym (some-inj _ x (t .2)) ∙ ap Variable (c .1))
+
+  pub element-32 : (x : Element) → tag ≡ 0x32 → element tag bs ≡ some x → (p : Pair) × (twoOperands bs ≡ some p) × (x ≡ Sum (p .first) (p .second))
+  unfolding element
+  element-32 x h e =
+      let t = bind-some (twoOperands bs) _ x (sym (choose-ne tag 0x30 _ _ (λ q. omega arith) ∙ choose-ne tag 0x31 _ _ (λ q. omega arith) ∙ choose-eq tag 0x32 _ _ h) ∙ e) in
+      (t .0, t .1, sym (some-inj _ x (t .2)))
+
+  pub element-33 : (x : Element) → tag ≡ 0x33 → element tag bs ≡ some x → (p : Pair) × (twoOperands bs ≡ some p) × (x ≡ Difference (p .first) (p .second))
+  unfolding element
+  element-33 x h e =
+      let t = bind-some (twoOperands bs) _ x (sym (choose-ne tag 0x30 _ _ (λ q. omega arith) ∙ choose-ne tag 0x31 _ _ (λ q. omega arith) ∙ choose-ne tag 0x32 _ _ (λ q. omega arith) ∙ choose-eq tag 0x33 _ _ h) ∙ e) in
+      (t .0, t .1, sym (some-inj _ x (t .2)))
+
+-- Graphs.
+
+pub record IsNode (bs : List ℕ) (x : RuleNode) : Type 0 where
+  pub long : 2 ≤ length bs
+  pub mark : x .mark ≡ getD bs 0 0
+  pub root : x .root ≡ getD bs 1 0
+  pub marked : either (isNodeMark (x .mark)) (eqb (x .mark) anyMark) ≡ true
+  pub rooted : x .root ≤ 1
+  pub label : label (drop 2 bs) ≡ some (x .label)
+
+pub ruleNode-is : (bs : List ℕ) (x : RuleNode) → ruleNode bs ≡ some x → IsNode bs x
+unfolding ruleNode
+ruleNode-is bs x e =
+    let t = ensure-some _ _ x e in
+    let u = ensure-some _ _ x (t .1) in
+    let v = ensure-some _ _ x (u .1) in
+    let w = bind-some (label (drop 2 bs)) _ x (v .1) in
+    rw (← (some-inj _ x (w .2))) (record { long = leb-true _ _ (t .0); mark = refl; root = refl; marked = u .0; rooted = leb-true _ _ (v .0); label = w .1 })
+
+pub record IsEdge (bs : List ℕ) (x : RuleEdge) : Type 0 where
+  pub long : 3 ≤ length bs
+  pub mark : x .mark ≡ getD bs 0 0
+  pub source : x .source ≡ getD bs 1 0
+  pub target : x .target ≡ getD bs 2 0
+  pub marked : either (isEdgeMark (x .mark)) (eqb (x .mark) anyMark) ≡ true
+  pub label : label (drop 3 bs) ≡ some (x .label)
+
+pub ruleEdge-is : (bs : List ℕ) (x : RuleEdge) → ruleEdge bs ≡ some x → IsEdge bs x
+unfolding ruleEdge
+ruleEdge-is bs x e =
+    let t = ensure-some _ _ x e in
+    let u = ensure-some _ _ x (t .1) in
+    let w = bind-some (label (drop 3 bs)) _ x (u .1) in
+    rw (← (some-inj _ x (w .2))) (record { long = leb-true _ _ (t .0); mark = refl; source = refl; target = refl; marked = u .0; label = w .1 })
+
+pub record IsGraph (bs : List ℕ) (x : RuleGraph) : Type 0 where
+  pub behind : List ℕ
+  pub nodes : leading (eqb 0x20) (λ tag. ruleNode) 6 bs ≡ some (record { items = x .nodes; rest = behind })
+  pub edges : only (eqb 0x21) (λ tag. ruleEdge) 6 behind ≡ some (x .edges)
+  pub fewNodes : length (x .nodes) ≤ 6
+  pub fewEdges : length (x .edges) ≤ 6
+
+pub ruleGraph-is : (bs : List ℕ) (x : RuleGraph) → ruleGraph bs ≡ some x → IsGraph bs x
+unfolding ruleGraph
+ruleGraph-is bs x e =
+    let t = bind-some (leading (eqb 0x20) (λ tag. ruleNode) 6 bs) _ x e in
+    let u = bind-some (only (eqb 0x21) (λ tag. ruleEdge) 6 (t .0 .rest)) _ x (t .2) in
+    rw (← (some-inj _ x (u .2))) (record { behind = t .0 .rest; nodes = t .1; edges = u .1; fewNodes = leading-led _ _ 6 bs (t .0) (t .1) .few; fewEdges = only-few _ _ 6 (t .0 .rest) (u .0) (u .1) })
+
+-- Tests.
+
+pub record IsTest (tag : ℕ) (bs : List ℕ) (x : Test) : Type 0 where
+  pub long : 1 ≤ length bs
+  pub flag : getD bs 0 0 ≤ 1
+  pub negated : x .negated ≡ eqb (getD bs 0 0) 1
+  pub condition : condition tag (drop 1 bs) ≡ some (x .condition)
+
+pub test-is : (tag : ℕ) (bs : List ℕ) (x : Test) → test tag bs ≡ some x → IsTest tag bs x
+unfolding test
+test-is tag bs x e =
+    let t = ensure-some _ _ x e in
+    let u = ensure-some _ _ x (t .1) in
+    let w = bind-some (condition tag (drop 1 bs)) _ x (u .1) in
+    rw (← (some-inj _ x (w .2))) (record { long = leb-true _ _ (t .0); flag = leb-true _ _ (u .0); negated = refl; condition = w .1 })
+
+module _ (tag : ℕ) (bs : List ℕ) (x : Condition) (e : condition tag bs ≡ some x) where
+  pub condition-40 : tag ≡ 0x40 → (length bs ≡ 2) × (x ≡ Edge (getD bs 0 0) (getD bs 1 0))
+  unfolding condition
+  condition-40 h =
+      let t = ensure-some _ _ x (sym (choose-eq tag 0x40 _ _ h) ∙ e) in
+      (eqb-true _ _ (t .0), sym (some-inj _ x (t .1)))
+
+  pub condition-41 : tag ≡ 0x41 → (length bs ≡ 3) × (x ≡ InDegree (getD bs 0 0) (number (drop 1 bs)))
+  unfolding condition
+  condition-41 h =
+      let t = ensure-some _ _ x (sym (choose-ne tag 0x40 _ _ (λ q. omega arith) ∙ choose-eq tag 0x41 _ _ h) ∙ e) in
+      (eqb-true _ _ (t .0), sym (some-inj _ x (t .1)))
+
+  pub condition-42 : tag ≡ 0x42 → (length bs ≡ 3) × (x ≡ OutDegree (getD bs 0 0) (number (drop 1 bs)))
+  unfolding condition
+  condition-42 h =
+      let t = ensure-some _ _ x (sym (choose-ne tag 0x40 _ _ (λ q. omega arith) ∙ choose-ne tag 0x41 _ _ (λ q. omega arith) ∙ choose-eq tag 0x42 _ _ h) ∙ e) in
+      (eqb-true _ _ (t .0), sym (some-inj _ x (t .1)))
+
+  pub condition-43 : tag ≡ 0x43 → (p : Pair) × (1 ≤ length bs) × (twoOperands (drop 1 bs) ≡ some p) × (relation (getD bs 0 0) p ≡ some x)
+  condition-43 h =
+      let t = ensure-some _ _ x (sym (condition-relation tag bs h) ∙ e) in
+      let u = bind-some (twoOperands (drop 1 bs)) _ x (t .1) in
+      (u .0, leb-true _ _ (t .0), u .1, u .2)
+
+pub relation-1 : (kind : ℕ) (p : Pair) → kind ≡ 1 → relation kind p ≡ some (Equal (p .first) (p .second))
+unfolding relation
+relation-1 kind p h = choose-eq kind 1 _ _ h
+
+pub relation-2 : (kind : ℕ) (p : Pair) → kind ≡ 2 → relation kind p ≡ some (Less (p .first) (p .second))
+unfolding relation
+relation-2 kind p h = choose-ne kind 1 _ _ (λ q. omega arith) ∙ choose-eq kind 2 _ _ h
+
+pub relation-kind : (kind : ℕ) (p : Pair) (x : Condition) → relation kind p ≡ some x → (1 ≤ kind) × (kind ≤ 2)
+unfolding relation
+relation-kind kind p x e = at (ℕ-discrete kind 1) (ℕ-discrete kind 2)
+  where
+    at : Dec (kind ≡ 1) → Dec (kind ≡ 2) → (1 ≤ kind) × (kind ≤ 2)
+    at (yes h) k = (omega arith, omega arith)
+    at (no h) (yes k) = (omega arith, omega arith)
+    at (no h) (no k) =
+        let q : relation kind p ≡ none = choose-ne kind 1 _ _ h ∙ choose-ne kind 2 _ _ k in
+        let z : _≡_ {A = ℕ} 0 1 = cc in
+        absurd (omega arith)
+
+-- Rules.
+
+pub types-is : (bs l : List ℕ) → types bs ≡ some l → (l ≡ bs) × (length bs ≤ 6) × (every isType bs ≡ true)
+unfolding types
+types-is bs l e =
+    let t = ensure-some _ _ l e in
+    let u = ensure-some _ _ l (t .1) in
+    (sym (some-inj _ l (u .1)), leb-true _ _ (t .0), u .0)
+
+pub record IsRule (bs : List ℕ) (x : Rule) : Type 0 where
+  pub v : Field
+  pub l : Field
+  pub r : Field
+  pub k : Field
+  pub t : Field
+  pub at-v : expect 0x11 bs ≡ some v
+  pub at-l : expect 0x12 (v .rest) ≡ some l
+  pub at-r : expect 0x13 (l .rest) ≡ some r
+  pub at-k : expect 0x14 (r .rest) ≡ some k
+  pub at-t : expect 0x15 (k .rest) ≡ some t
+  pub last : t .rest ≡ []
+  pub variables : types (v .payload) ≡ some (x .variables)
+  pub left : ruleGraph (l .payload) ≡ some (x .left)
+  pub right : ruleGraph (r .payload) ≡ some (x .right)
+  pub interface : oneByte (k .payload) ≡ some (x .interface)
+  pub tests : only anyTag test 4 (t .payload) ≡ some (x .tests)
+
+pub rule-is : (bs : List ℕ) (x : Rule) → rule bs ≡ some x → IsRule bs x
+unfolding rule
+rule-is bs x e =
+    let v = bind-some (expect 0x11 bs) _ x e in
+    let l = bind-some (expect 0x12 (v .0 .rest)) _ x (v .2) in
+    let r = bind-some (expect 0x13 (l .0 .rest)) _ x (l .2) in
+    let k = bind-some (expect 0x14 (r .0 .rest)) _ x (r .2) in
+    let t = bind-some (expect 0x15 (k .0 .rest)) _ x (k .2) in
+    let z = ensure-some (isEmpty (t .0 .rest)) _ x (t .2) in
+    let a = bind-some (types (v .0 .payload)) _ x (z .1) in
+    let b = bind-some (ruleGraph (l .0 .payload)) _ x (a .2) in
+    let c = bind-some (ruleGraph (r .0 .payload)) _ x (b .2) in
+    let d = bind-some (oneByte (k .0 .payload)) _ x (c .2) in
+    let f = bind-some (only anyTag test 4 (t .0 .payload)) _ x (d .2) in
+    rw (← (some-inj _ x (f .2))) (record { v = v .0; l = l .0; r = r .0; k = k .0; t = t .0; at-v = v .1; at-l = l .1; at-r = r .1; at-k = k .1; at-t = t .1; last = empty-true _ (z .0); variables = a .1; left = b .1; right = c .1; interface = d .1; tests = f .1 })
+
+pub record Few (x : Rule) : Type 0 where
+  pub variables : length (x .variables) ≤ 6
+  pub leftNodes : length (x .left .nodes) ≤ 6
+  pub leftEdges : length (x .left .edges) ≤ 6
+  pub rightNodes : length (x .right .nodes) ≤ 6
+  pub rightEdges : length (x .right .edges) ≤ 6
+  pub tests : length (x .tests) ≤ 4
+
+pub rule-few : (bs : List ℕ) (x : Rule) → rule bs ≡ some x → Few x
+rule-few bs x e =
+    let i = rule-is bs x e in
+    let v = types-is _ _ (i .variables) in
+    let l = ruleGraph-is _ _ (i .left) in
+    let r = ruleGraph-is _ _ (i .right) in
+    record { variables = rw (v .0) (v .1); leftNodes = l .fewNodes; leftEdges = l .fewEdges; rightNodes = r .fewNodes; rightEdges = r .fewEdges; tests = only-few anyTag test 4 _ _ (i .tests) }
+
+-- Commands, by tag.
+
+asSequence-is : (l : List Command) (x : Command) → asSequence l ≡ some x → (1 ≤ length l) × (x ≡ sequence (inOrder l))
+unfolding asSequence inOrder
+asSequence-is [] x e = let z : _≡_ {A = ℕ} 0 1 = cc in absurd (omega arith)
+asSequence-is (c ∷ l) x e = (omega arith, sym (some-inj _ x e))
+
+asGuarded-is : (keep : Bool) (l : List Command) (x : Command) → asGuarded keep l ≡ some x → (a b c : Command) × (l ≡ a ∷ b ∷ c ∷ []) × (x ≡ guarded keep a b c)
+unfolding asGuarded
+asGuarded-is keep [] x e = let z : _≡_ {A = ℕ} 0 1 = cc in absurd (omega arith)
+asGuarded-is keep (a ∷ []) x e = let z : _≡_ {A = ℕ} 0 1 = cc in absurd (omega arith)
+asGuarded-is keep (a ∷ b ∷ []) x e = let z : _≡_ {A = ℕ} 0 1 = cc in absurd (omega arith)
+asGuarded-is keep (a ∷ b ∷ c ∷ []) x e = (a, b, c, refl, sym (some-inj _ x e))
+asGuarded-is keep (a ∷ b ∷ c ∷ d ∷ l) x e = let z : _≡_ {A = ℕ} 0 1 = cc in absurd (omega arith)
+
+asLoop-is : (l : List Command) (x : Command) → asLoop l ≡ some x → (c : Command) × (l ≡ c ∷ []) × (x ≡ loop c)
+unfolding asLoop
+asLoop-is [] x e = let z : _≡_ {A = ℕ} 0 1 = cc in absurd (omega arith)
+asLoop-is (c ∷ []) x e = (c, refl, sym (some-inj _ x e))
+asLoop-is (c ∷ d ∷ l) x e = let z : _≡_ {A = ℕ} 0 1 = cc in absurd (omega arith)
+
+pub leaf-is : (c : Command) (bs : List ℕ) (x : Command) → leaf c bs ≡ some x → (bs ≡ []) × (x ≡ c)
+unfolding leaf
+leaf-is c bs x e = let t = ensure-some _ _ x e in (empty-true bs (t .0), sym (some-inj c x (t .1)))
+
+module _ (n tag : ℕ) (bs : List ℕ) (x : Command) (e : command (suc n) tag bs ≡ some x) where
+  pub command-50 : tag ≡ 0x50 → (x ≡ ruleSet bs) × (1 ≤ length bs) × (length bs ≤ 8)
+  unfolding asRuleSet
+  command-50 h =
+      let t = ensure-some _ _ x (sym (command-ruleSet n tag bs h) ∙ e) in
+      let b = both-true (leb 1 (length bs)) _ (t .0) in
+      (sym (some-inj _ x (t .1)), leb-true _ _ (b .0), leb-true _ _ (b .1))
+
+  pub command-51 : tag ≡ 0x51 → (l : List Command) × (only anyTag (command n) 16 bs ≡ some l) × (1 ≤ length l) × (length l ≤ 16) × (x ≡ sequence (inOrder l))
+  command-51 h =
+      let t = bind-some (only anyTag (command n) 16 bs) _ x (sym (command-sequence n tag bs h) ∙ e) in
+      let s = asSequence-is (t .0) x (t .2) in
+      (t .0, t .1, s .0, only-few anyTag (command n) 16 bs (t .0) (t .1), s .1)
+
+  three : (keep : Bool) → command (suc n) tag bs ≡ (only anyTag (command n) 16 bs >>= asGuarded keep) → (a b c : Command) × (only anyTag (command n) 16 bs ≡ some (a ∷ b ∷ c ∷ [])) × (x ≡ guarded keep a b c)
+  three keep h =
+      let t = bind-some (only anyTag (command n) 16 bs) _ x (sym h ∙ e) in
+      let s = asGuarded-is keep (t .0) x (t .2) in
+      (s .0, s .1, s .2, t .1 ∙ ap some (s .3), s .4)
+
+  pub command-52 : tag ≡ 0x52 → (a b c : Command) × (only anyTag (command n) 16 bs ≡ some (a ∷ b ∷ c ∷ [])) × (x ≡ guarded false a b c)
+  command-52 h = three false (command-if n tag bs h)
+
+  pub command-53 : tag ≡ 0x53 → (a b c : Command) × (only anyTag (command n) 16 bs ≡ some (a ∷ b ∷ c ∷ [])) × (x ≡ guarded true a b c)
+  command-53 h = three true (command-try n tag bs h)
+
+  pub command-54 : tag ≡ 0x54 → (c : Command) × (only anyTag (command n) 16 bs ≡ some (c ∷ [])) × (x ≡ loop c)
+  command-54 h =
+      let t = bind-some (only anyTag (command n) 16 bs) _ x (sym (command-loop n tag bs h) ∙ e) in
+      let s = asLoop-is (t .0) x (t .2) in
+      (s .0, t .1 ∙ ap some (s .1), s .2)
+
+  pub command-55 : tag ≡ 0x55 → (bs ≡ []) × (x ≡ skip)
+  command-55 h = leaf-is skip bs x (sym (command-skip n tag bs h) ∙ e)
+
+  pub command-56 : tag ≡ 0x56 → (bs ≡ []) × (x ≡ fail)
+  command-56 h = leaf-is fail bs x (sym (command-fail n tag bs h) ∙ e)
+
+  pub command-57 : tag ≡ 0x57 → (bs ≡ []) × (x ≡ break)
+  command-57 h = leaf-is break bs x (sym (command-break n tag bs h) ∙ e)
+
+-- a command has a tag, and there is depth for it
+pub command-tag : (n tag : ℕ) (bs : List ℕ) (x : Command) → command n tag bs ≡ some x → (0 < n) × (0x50 ≤ tag) × (tag ≤ 0x57)
+command-tag zero tag bs x e =
+    let h = command-no-depth tag bs in
+    let z : _≡_ {A = ℕ} 0 1 = cc in
+    absurd (omega arith)
+command-tag (suc n) tag bs x e = at (decLt tag 0x50) (decLt 0x57 tag)
+  where
+    none-of : ((0x50 ≤ tag → tag ≤ 0x57 → ⊥)) → ⊥
+    none-of h =
+        let k = command-other n tag bs h in
+        let z : _≡_ {A = ℕ} 0 1 = cc in
+        omega arith
+
+    at : Dec (tag < 0x50) → Dec (0x57 < tag) → (0 < suc n) × (0x50 ≤ tag) × (tag ≤ 0x57)
+    at (yes h) k = absurd (none-of (λ a b. omega arith))
+    at (no h) (yes k) = absurd (none-of (λ a b. omega arith))
+    at (no h) (no k) = (omega arith, omega arith, omega arith)
+
+-- How deep a command is nested, a leaf one deep.
+
+unfoldable mutual
+  pub height : Command → ℕ
+  height (ruleSet l) = 1
+  height (sequence cs) = suc (heights cs)
+  height (guarded keep a b c) = suc (max (height a) (max (height b) (height c)))
+  height (loop c) = suc (height c)
+  height skip = 1
+  height fail = 1
+  height break = 1
+
+  pub heights : Commands → ℕ
+  heights stop = 0
+  heights (then c cs) = max (height c) (heights cs)
+
+heights-most : (n : ℕ) (l : List Command) → Every (λ c. height c ≤ n) l → heights (inOrder l) ≤ n
+unfolding heights inOrder
+heights-most n [] e = omega arith
+heights-most n (c ∷ l) e = let h = heights-most n l (e .1) in omega (arith, e .0)
+
+or-more : {P : Type 0} (tag k : ℕ) → k ≤ tag → (tag ≡ k → P) → (suc k ≤ tag → P) → P
+or-more {P} tag k h f g = at (ℕ-discrete tag k)
+  where
+    at : Dec (tag ≡ k) → P
+    at (yes e) = f e
+    at (no e) = g (omega arith)
+
+module _ (n tag : ℕ) (bs : List ℕ) (x : Command) (e : command (suc n) tag bs ≡ some x) (below : (l : List Command) → only anyTag (command n) 16 bs ≡ some l → Every (λ c. height c ≤ n) l) where
+  height-50 : tag ≡ 0x50 → height x ≤ suc n
+  unfolding height
+  height-50 h = rw (command-50 n tag bs x e h .0) (omega arith)
+
+  height-51 : tag ≡ 0x51 → height x ≤ suc n
+  unfolding height
+  height-51 h =
+      let s = command-51 n tag bs x e h in
+      let k = heights-most n (s .0) (below (s .0) (s .1)) in
+      rw (s .4) (omega arith)
+
+  height-three : (keep : Bool) → (a b c : Command) × (only anyTag (command n) 16 bs ≡ some (a ∷ b ∷ c ∷ [])) × (x ≡ guarded keep a b c) → height x ≤ suc n
+  unfolding height
+  height-three keep s =
+      let k = below _ (s .3) in
+      rw (s .4) (omega (arith, k .0, k .1 .0, k .1 .1 .0))
+
+  height-54 : tag ≡ 0x54 → height x ≤ suc n
+  unfolding height
+  height-54 h =
+      let s = command-54 n tag bs x e h in
+      let k = below _ (s .1) in
+      rw (s .2) (omega (arith, k .0))
+
+  height-leaf : (c : Command) → height c ≡ 1 → x ≡ c → height x ≤ suc n
+  height-leaf c h q = rw q (omega arith)
+
+  height-at : height x ≤ suc n
+  unfolding height
+  height-at =
+      let t = command-tag (suc n) tag bs x e in
+      or-more tag 0x50 (t .1) height-50 (λ h. or-more tag 0x51 h height-51
+      (λ h. or-more tag 0x52 h (λ q. height-three false (command-52 n tag bs x e q))
+      (λ h. or-more tag 0x53 h (λ q. height-three true (command-53 n tag bs x e q))
+      (λ h. or-more tag 0x54 h height-54
+      (λ h. or-more tag 0x55 h (λ q. height-leaf skip refl (command-55 n tag bs x e q .1))
+      (λ h. or-more tag 0x56 h (λ q. height-leaf fail refl (command-56 n tag bs x e q .1))
+      (λ h. height-leaf break refl (command-57 n tag bs x e (omega (arith, t .2)) .1))))))))
+
+pub command-height : (n tag : ℕ) (bs : List ℕ) (x : Command) → command n tag bs ≡ some x → height x ≤ n
+command-height zero tag bs x e = let h = command-tag 0 tag bs x e .0 in absurd (omega arith)
+command-height (suc n) tag bs x e =
+    height-at n tag bs x e (λ l q. leading-every anyTag (command n) (λ c. height c ≤ n) (λ t cs y r. command-height n t cs y r) l 16 bs [] (only-is anyTag (command n) 16 bs l q))
+
+-- The whole.
+
+pub record IsProgram (bs : List ℕ) (x : Program) : Type 0 where
+  pub behind : List ℕ
+  pub rules : leading (eqb 0x10) (λ tag. rule) 32 bs ≡ some (record { items = x .rules; rest = behind })
+  pub few : length (x .rules) ≤ 32
+  pub whole : Field
+  pub at-command : field behind ≡ some whole
+  pub last : whole .rest ≡ []
+  pub main : command 16 (whole .tag) (whole .payload) ≡ some (x .main)
+
+pub program-is : (bs : List ℕ) (x : Program) → program bs ≡ some x → IsProgram bs x
+unfolding program
+program-is bs x e =
+    let r = bind-some (leading (eqb 0x10) (λ tag. rule) 32 bs) _ x e in
+    let d = bind-some (field (r .0 .rest)) _ x (r .2) in
+    let z = ensure-some (isEmpty (d .0 .rest)) _ x (d .2) in
+    let c = bind-some (command 16 (d .0 .tag) (d .0 .payload)) _ x (z .1) in
+    rw (← (some-inj _ x (c .2))) (record { behind = r .0 .rest; rules = r .1; few = leading-led _ _ 32 bs (r .0) (r .1) .few; whole = d .0; at-command = d .1; last = empty-true _ (z .0); main = c .1 })

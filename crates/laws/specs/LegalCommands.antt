@@ -1,0 +1,97 @@
+-- Every command keeps the host and the journal legal, and none ends with answer 7. Rests on Legality, Stops
+-- and FurtherCommands.
+use Prim.Native.Nat.{ℕ, _^_, _≤_}
+use mathlib.Core.Path.{_≡_, refl, ap}
+use mathlib.Core.List.{List}
+use mathlib.Core.Option.{Option, some, none}
+use native.Mathlib.Omega.{arith}
+use Rattle.meaning.specs.Basics.{both, all, every, clauses, concat}
+use Rattle.meaning.specs.Image.{Rule, Command, Commands}
+use Rattle.meaning.specs.References.{variablesExist, endsExist, testNodesExist, interfaceFits, leftPlain, leftSimple, operandsInt, variablesOnLeft, anyPlaced, ruleHolds}
+use Rattle.meaning.specs.Matching.{Match}
+use Rattle.meaning.specs.Applying.{Applied, applied, hindered, apply}
+use Rattle.meaning.specs.Commands.{State, Chosen, ruleAt, firstRule, afterApplying, call, work, works, exec}
+use Rattle.meaning.specs.Laws.Every.{Every, Every-at}
+use Rattle.laws.specs.FirstMatch.{found-match}
+use Rattle.laws.specs.Commands.{firstRule-some, Kept, call-either, exec-kept, work-kept, works-kept}
+use Rattle.laws.specs.Values.{LegalRule}
+use Rattle.laws.specs.Legality.{LegalLedger, apply-attached, apply-legal}
+use Rattle.laws.specs.Stops.{OnStop, exec-stops}
+use Rattle.laws.specs.References.{Sound}
+use Rattle.meaning.specs.declared.Layout.{Layout}
+use Rattle.meaning.specs.declared.Stop.the-variants.{EdgeOnFreeNode}
+use Rattle.meaning.specs.declared.End.the-variants.{Stopped}
+
+-- each rule of the list is legal; so is the rule that a number outside the list stands for
+abbrev pub LegalRules : List Rule → Type 0
+LegalRules rules = Every LegalRule rules
+
+pub legal-rule : (rules : List Rule) → LegalRules rules → (i : ℕ) → LegalRule (ruleAt rules i)
+unfolding ruleHolds clauses variablesExist endsExist testNodesExist interfaceFits leftPlain leftSimple operandsInt variablesOnLeft anyPlaced every all both concat
+legal-rule rules h i = Every-at LegalRule _ (record { nodes = tt; edges = tt; types = refl; holds = refl }) rules h i
+
+-- and sound
+pub legal-sound : (rules : List Rule) → LegalRules rules → (i : ℕ) → Sound (ruleAt rules i)
+legal-sound rules h i = let r = legal-rule rules h i in record { holds = r .holds; types = r .types }
+
+module _ (L : Layout) (m n : ℕ) (fewNodes : m ≤ 256 ^ L .width) (fewEdges : n ≤ 256 ^ L .width) (room : ℕ) (rules : List Rule)
+    (legal : LegalRules rules)
+  where
+    -- the rule that is chosen is legal, and its slots are a match
+    chosen : (s : State) (l : List ℕ) (c : Chosen) → firstRule rules (s .ledger .host) l ≡ some c
+        → LegalRule (c .rule) × Match (s .ledger .host) (c .rule) (c .slots)
+    chosen s l c e =
+        let f = firstRule-some rules (s .ledger .host) l c e in
+        let k : LegalRule (c .rule) = rw (f .rule) (legal-rule rules legal _) in
+        (k, found-match (s .ledger .host) (c .rule) (k .holds) (k .types) (c .slots) (f .match))
+
+    pub legal-kept : Kept (L .atoms) room rules (λ s t. LegalLedger L m n (s .ledger) → LegalLedger L m n (t .ledger))
+    legal-kept =
+        record {
+          same = λ s h. h;
+          trans = λ s t u f g h. g (f h);
+          enters = λ s f e h. h;
+          undoes = λ s t f h. h;
+          calls = λ l s h. call-either (L .atoms) room rules _ s (λ t. LegalLedger L m n (t .ledger)) h (λ c g e a.
+              let t = chosen s l c e in
+              apply-legal L m n fewNodes fewEdges room (c .rule) (t .0) (c .slots) (s .ledger) h (t .1) g a);
+        }
+
+    -- every command keeps the ledger legal
+    pub exec-legal : (c : Command) (s : State) → LegalLedger L m n (s .ledger)
+        → LegalLedger L m n (exec (L .atoms) room rules c s .state .ledger)
+    exec-legal c s h = exec-kept (L .atoms) room rules _ legal-kept c s h
+
+    pub work-legal : (c : Command) (s : State) → LegalLedger L m n (s .ledger)
+        → LegalLedger L m n (work (L .atoms) room rules c s .state .ledger)
+    work-legal c s h = work-kept (L .atoms) room rules _ legal-kept c s h
+
+    pub works-legal : (cs : Commands) (s : State) → LegalLedger L m n (s .ledger)
+        → LegalLedger L m n (works (L .atoms) room rules cs s .state .ledger)
+    works-legal cs s h = works-kept (L .atoms) room rules _ legal-kept cs s h
+
+    -- and none ends with answer 7
+    after-attached : (a : Applied) (s : State) → (a ≡ hindered EdgeOnFreeNode → ⊥) → OnStop (λ w. w ≡ EdgeOnFreeNode → ⊥) (afterApplying a s .end)
+    unfolding afterApplying
+    after-attached (applied g) s h = tt
+    after-attached (hindered w) s h = λ e. h (ap hindered e)
+
+    call-attached : (l : List ℕ) (s : State) → LegalLedger L m n (s .ledger)
+        → OnStop (λ w. w ≡ EdgeOnFreeNode → ⊥) (call (L .atoms) room rules (firstRule rules (s .ledger .host) l) s .end)
+    unfolding call
+    call-attached l s h = at (firstRule rules (s .ledger .host) l) refl
+      where
+        at : (o : Option Chosen) → firstRule rules (s .ledger .host) l ≡ o
+            → OnStop (λ w. w ≡ EdgeOnFreeNode → ⊥) (call (L .atoms) room rules o s .end)
+        at none q = tt
+        at (some c) q =
+            let t = chosen s l c q in
+            after-attached (apply (L .atoms) room (c .rule) (c .slots) (s .ledger)) s
+            (apply-attached L m n fewNodes fewEdges room (c .rule) (t .0) (c .slots) (s .ledger) h (t .1))
+
+    pub exec-attached : (c : Command) (s : State) → LegalLedger L m n (s .ledger)
+        → exec (L .atoms) room rules c s .end ≡ Stopped EdgeOnFreeNode → ⊥
+    exec-attached c s h e =
+        let q = exec-stops (L .atoms) room rules (λ s. LegalLedger L m n (s .ledger)) legal-kept (λ w. w ≡ EdgeOnFreeNode → ⊥)
+        (λ e. let z : _≡_ {A = ℕ} 0 1 = cc in omega arith) call-attached c s h in
+        (rw e at q) refl

@@ -1,0 +1,170 @@
+-- Laws of slots: the lowest free slot and the free slots, what a change does to the tables, and putting back what stood
+-- in a slot. Rests on Layout and Applying.
+use Prim.Native.Nat.{ℕ, zero, suc, _+_, _<_, _≤_}
+use mathlib.Core.Path.{_≡_, refl, _∙_, ap}
+use mathlib.Core.List.{List, [], _∷_, _++_}
+use mathlib.Core.Bool.{true, false}
+use native.Mathlib.Omega.{arith}
+use lib.ListN.{length, getD, set, length-set}
+use lib.Seq.{getD-set-same, getD-set-other, set-set, set-getD}
+use Rattle.meaning.specs.Layout.{Slot, free, live, Node, Edge, Host, Tables, isLive, liveAt, Change, ofNode, ofEdge, put, undone}
+use Rattle.meaning.specs.Applying.{standing, lowestFree, freeSlots}
+
+-- The lowest free slot.
+
+pub lowestFree-le : {A : Type 0} (l : List (Slot A)) → lowestFree l ≤ length l
+unfolding lowestFree
+lowestFree-le [] = omega arith
+lowestFree-le (free ∷ l) = omega arith
+lowestFree-le (live a ∷ l) = let h = lowestFree-le l in omega arith
+
+pub lowestFree-lt : {A : Type 0} (l : List (Slot A)) → 0 < freeSlots l → lowestFree l < length l
+unfolding lowestFree freeSlots
+lowestFree-lt [] h = absurd (omega arith)
+lowestFree-lt (free ∷ l) h = omega arith
+lowestFree-lt (live a ∷ l) h = let k = lowestFree-lt l h in omega arith
+
+-- it is free; where no slot is free it is the table's length
+pub lowestFree-free : {A : Type 0} (l : List (Slot A)) → getD l (lowestFree l) free ≡ free
+unfolding lowestFree
+lowestFree-free [] = refl
+lowestFree-free (free ∷ l) = refl
+lowestFree-free (live a ∷ l) = lowestFree-free l
+
+pub lowestFree-below : {A : Type 0} (l : List (Slot A)) (i : ℕ) → i < lowestFree l → liveAt l i ≡ true
+unfolding lowestFree isLive
+lowestFree-below [] i h = absurd (omega arith)
+lowestFree-below (free ∷ l) i h = absurd (omega arith)
+lowestFree-below (live a ∷ l) zero h = refl
+lowestFree-below (live a ∷ l) (suc i) h = lowestFree-below l i (omega arith)
+
+-- nothing else is a free slot with live slots below it
+pub lowestFree-is : {A : Type 0} (l : List (Slot A)) (i : ℕ) → i < length l → liveAt l i ≡ false
+    → ((j : ℕ) → j < i → liveAt l j ≡ true) → lowestFree l ≡ i
+unfolding lowestFree isLive
+lowestFree-is [] i h e k = absurd (omega arith)
+lowestFree-is (free ∷ l) zero h e k = refl
+lowestFree-is (free ∷ l) (suc i) h e k =
+    let q = k 0 (omega arith) in
+    let z : _≡_ {A = ℕ} 0 1 = cc in
+    absurd (omega arith)
+lowestFree-is (live a ∷ l) zero h e k = let z : _≡_ {A = ℕ} 0 1 = cc in absurd (omega arith)
+lowestFree-is (live a ∷ l) (suc i) h e k = ap suc (lowestFree-is l i (omega arith) e (λ j q. k (suc j) (omega arith)))
+
+-- The free slots.
+
+pub freeSlots-le : {A : Type 0} (l : List (Slot A)) → freeSlots l ≤ length l
+unfolding freeSlots
+freeSlots-le [] = omega arith
+freeSlots-le (free ∷ l) = let h = freeSlots-le l in omega arith
+freeSlots-le (live a ∷ l) = let h = freeSlots-le l in omega arith
+
+pub freeSlots-append : {A : Type 0} (l m : List (Slot A)) → freeSlots (l ++ m) ≡ freeSlots l + freeSlots m
+unfolding freeSlots
+freeSlots-append [] m = omega arith
+freeSlots-append (free ∷ l) m = let h = freeSlots-append l m in omega arith
+freeSlots-append (live a ∷ l) m = let h = freeSlots-append l m in omega arith
+
+-- one fewer where a free slot becomes live, one more where a live slot becomes free, as many where a live slot stays live
+pub freeSlots-come : {A : Type 0} (l : List (Slot A)) (i : ℕ) (a : A) → i < length l → liveAt l i ≡ false
+    → suc (freeSlots (set l i (live a))) ≡ freeSlots l
+unfolding freeSlots isLive
+freeSlots-come [] i a h e = absurd (omega arith)
+freeSlots-come (free ∷ l) zero a h e = refl
+freeSlots-come (live b ∷ l) zero a h e = let z : _≡_ {A = ℕ} 0 1 = cc in absurd (omega arith)
+freeSlots-come (free ∷ l) (suc i) a h e = ap suc (freeSlots-come l i a (omega arith) e)
+freeSlots-come (live b ∷ l) (suc i) a h e = freeSlots-come l i a (omega arith) e
+
+-- one slot fewer is free once the lowest is taken
+pub come-free : {A : Type 0} (t : List (Slot A)) (a : A) → 0 < freeSlots t
+    → suc (freeSlots (set t (lowestFree t) (live a))) ≡ freeSlots t
+unfolding isLive
+come-free t a h = freeSlots-come t (lowestFree t) a (lowestFree-lt t h) (rw (lowestFree-free t))
+
+pub freeSlots-go : {A : Type 0} (l : List (Slot A)) (i : ℕ) → liveAt l i ≡ true
+    → freeSlots (set l i free) ≡ suc (freeSlots l)
+unfolding freeSlots isLive
+freeSlots-go [] i e = let z : _≡_ {A = ℕ} 0 1 = cc in absurd (omega arith)
+freeSlots-go (free ∷ l) zero e = let z : _≡_ {A = ℕ} 0 1 = cc in absurd (omega arith)
+freeSlots-go (live b ∷ l) zero e = refl
+freeSlots-go (free ∷ l) (suc i) e = ap suc (freeSlots-go l i e)
+freeSlots-go (live b ∷ l) (suc i) e = freeSlots-go l i e
+
+pub freeSlots-stay : {A : Type 0} (l : List (Slot A)) (i : ℕ) (a : A) → liveAt l i ≡ true
+    → freeSlots (set l i (live a)) ≡ freeSlots l
+unfolding freeSlots isLive
+freeSlots-stay [] i a e = refl
+freeSlots-stay (free ∷ l) zero a e = let z : _≡_ {A = ℕ} 0 1 = cc in absurd (omega arith)
+freeSlots-stay (live b ∷ l) zero a e = refl
+freeSlots-stay (free ∷ l) (suc i) a e = ap suc (freeSlots-stay l i a e)
+freeSlots-stay (live b ∷ l) (suc i) a e = freeSlots-stay l i a e
+
+-- What a change does to the tables.
+
+pub put-nodes : {A B : Type 0} (c : Change A B) (t : Tables A B) → length (put c t .nodes) ≡ length (t .nodes)
+unfolding put
+put-nodes (ofNode i a) t = length-set (t .nodes) i a
+put-nodes (ofEdge i b) t = refl
+
+pub put-edges : {A B : Type 0} (c : Change A B) (t : Tables A B) → length (put c t .edges) ≡ length (t .edges)
+unfolding put
+put-edges (ofNode i a) t = refl
+put-edges (ofEdge i b) t = length-set (t .edges) i b
+
+pub put-node-same : {A B : Type 0} (i : ℕ) (a d : A) (t : Tables A B) → i < length (t .nodes)
+    → getD (put (ofNode i a) t .nodes) i d ≡ a
+unfolding put
+put-node-same i a d t h = getD-set-same (t .nodes) i a d h
+
+pub put-node-other : {A B : Type 0} (i j : ℕ) (a d : A) (t : Tables A B) → (j ≡ i → ⊥)
+    → getD (put (ofNode i a) t .nodes) j d ≡ getD (t .nodes) j d
+unfolding put
+put-node-other i j a d t h = getD-set-other (t .nodes) i j a d h
+
+pub put-node-edges : {A B : Type 0} (i : ℕ) (a : A) (t : Tables A B) → put (ofNode i a) t .edges ≡ t .edges
+unfolding put
+put-node-edges i a t = refl
+
+pub put-edge-same : {A B : Type 0} (i : ℕ) (b d : B) (t : Tables A B) → i < length (t .edges)
+    → getD (put (ofEdge i b) t .edges) i d ≡ b
+unfolding put
+put-edge-same i b d t h = getD-set-same (t .edges) i b d h
+
+pub put-edge-other : {A B : Type 0} (i j : ℕ) (b d : B) (t : Tables A B) → (j ≡ i → ⊥)
+    → getD (put (ofEdge i b) t .edges) j d ≡ getD (t .edges) j d
+unfolding put
+put-edge-other i j b d t h = getD-set-other (t .edges) i j b d h
+
+pub put-edge-nodes : {A B : Type 0} (i : ℕ) (b : B) (t : Tables A B) → put (ofEdge i b) t .nodes ≡ t .nodes
+unfolding put
+put-edge-nodes i b t = refl
+
+-- Putting back.
+
+pub undone-append : {A B : Type 0} (a b : List (Change A B)) (t : Tables A B)
+    → undone (a ++ b) t ≡ undone b (undone a t)
+unfolding undone
+undone-append [] b t = refl
+undone-append (c ∷ a) b t = undone-append a b (put c t)
+
+pub undone-nodes : {A B : Type 0} (l : List (Change A B)) (t : Tables A B)
+    → length (undone l t .nodes) ≡ length (t .nodes)
+unfolding undone
+undone-nodes [] t = refl
+undone-nodes (c ∷ l) t = undone-nodes l (put c t) ∙ put-nodes c t
+
+pub undone-edges : {A B : Type 0} (l : List (Change A B)) (t : Tables A B)
+    → length (undone l t .edges) ≡ length (t .edges)
+unfolding undone
+undone-edges [] t = refl
+undone-edges (c ∷ l) t = undone-edges l (put c t) ∙ put-edges c t
+
+-- what stood in a slot, put back after a change of that slot, gives the host before
+pub put-back : (c : Change (Slot Node) (Slot Edge)) (h : Host) → put (standing c h) (put c h) ≡ h
+unfolding put standing
+put-back (ofNode i s) h =
+    let e = set-set (h .nodes) i s (getD (h .nodes) i free) ∙ set-getD (h .nodes) i free in
+    ap (λ (l : List (Slot Node)). record { nodes = l; edges = h .edges }) e
+put-back (ofEdge i s) h =
+    let e = set-set (h .edges) i s (getD (h .edges) i free) ∙ set-getD (h .edges) i free in
+    ap (λ (l : List (Slot Edge)). record { nodes = h .nodes; edges = l }) e
