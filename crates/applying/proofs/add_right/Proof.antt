@@ -2,8 +2,8 @@
 use borrow.Author.Needs.{needs}
 use Prim.Native.Nat.{_-_}
 use native.Mathlib.Omega.{arith}
-use Rattle.applying.specs.Making.{Halfway}
-use Rattle.applying.specs.Parts.{RightCounted, interface-fits, new-count, grows, right-fits, joins, joined}
+use Rattle.applying.specs.Halves.{Halfway}
+use Rattle.applying.proofs.Parts.{RightCounted, interface-fits, new-count, grows, right-fits, joins, joined}
 use Rattle.applying.proofs.add_right.Statement.{statement}
 use Rattle.applying.proofs.add_right.Tie as tie
 

@@ -1,6 +1,6 @@
 -- `applying::apply` meets its contract.
 use borrow.Author.Needs.{needs}
-use Rattle.applying.specs.Answers.{stops, unhindered-here}
+use Rattle.applying.proofs.Answers.{stops, unhindered-here}
 use Rattle.applying.proofs.apply.Statement.{statement}
 use Rattle.applying.proofs.apply.Tie as tie
 

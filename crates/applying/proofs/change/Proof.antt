@@ -1,6 +1,6 @@
 -- `applying::change` meets its contract: the right part is handed what the left part left.
 use borrow.Author.Needs.{needs}
-use Rattle.applying.specs.Parts.{right-there, halfway}
+use Rattle.applying.proofs.Parts.{right-there, halfway}
 use Rattle.applying.proofs.change.Statement.{statement}
 use Rattle.applying.proofs.change.Tie as tie
 

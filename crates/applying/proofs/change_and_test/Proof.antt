@@ -1,7 +1,7 @@
 -- `applying::change_and_test` meets its contract. The test finds nothing, made or not.
 use borrow.Author.Needs.{needs}
 use mathlib.Core.Path.{sym, _∙_}
-use Rattle.applying.specs.Answers.{does, none-free}
+use Rattle.applying.proofs.Answers.{does, none-free}
 use Rattle.applying.proofs.change_and_test.Statement.{statement}
 use Rattle.applying.proofs.change_and_test.Tie as tie
 

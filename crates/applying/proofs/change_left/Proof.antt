@@ -1,8 +1,8 @@
 -- `applying::change_left` meets its contract: the left nodes are handed what the left edges left.
 use borrow.Author.Needs.{needs}
 use native.Mathlib.Omega.{arith}
-use Rattle.applying.specs.Making.{Unhindered}
-use Rattle.applying.specs.Parts.{LeftCounted, right-there, records-fit, go-next, alters, left-done}
+use Rattle.applying.specs.Halves.{Unhindered}
+use Rattle.applying.proofs.Parts.{LeftCounted, right-there, records-fit, go-next, alters, left-done}
 use Rattle.applying.proofs.change_left.Statement.{statement}
 use Rattle.applying.proofs.change_left.Tie as tie
 

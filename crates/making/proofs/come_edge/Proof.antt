@@ -4,9 +4,9 @@ use mathlib.Core.Path.{sym}
 use native.Mathlib.Omega.{arith}
 use lib.Seq.{length-take-le}
 use Rattle.fields.specs.Parsed.{ruleEdge-is}
-use Rattle.applying.specs.Items.{source-is, target-is, edge-fine, edge-stored}
-use Rattle.applying.proofs.come_edge.Statement.{statement}
-use Rattle.applying.proofs.come_edge.Tie as tie
+use Rattle.making.proofs.Items.{source-is, target-is, edge-fine, edge-stored}
+use Rattle.making.proofs.come_edge.Statement.{statement}
+use Rattle.making.proofs.come_edge.Tie as tie
 
 item-value-requires : tie.Need-item-value-requires
 item-value-requires c κs = search needs

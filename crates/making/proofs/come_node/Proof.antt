@@ -4,9 +4,9 @@ use mathlib.Core.Path.{sym}
 use native.Mathlib.Omega.{arith}
 use lib.Seq.{length-take-le}
 use Rattle.fields.specs.Parsed.{ruleNode-is}
-use Rattle.applying.specs.Items.{node-fine, node-stored, come-mark}
-use Rattle.applying.proofs.come_node.Statement.{statement}
-use Rattle.applying.proofs.come_node.Tie as tie
+use Rattle.making.proofs.Items.{node-fine, node-stored, come-mark}
+use Rattle.making.proofs.come_node.Statement.{statement}
+use Rattle.making.proofs.come_node.Tie as tie
 
 item-value-requires : tie.Need-item-value-requires
 item-value-requires c κs = search needs

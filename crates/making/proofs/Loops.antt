@@ -17,8 +17,8 @@ use Rattle.meaning.specs.declared.Layout.{Layout}
 use Rattle.parts.specs.Runs.{For}
 use Rattle.ledger.specs.Running.{ledgerOf, Held, Leads}
 use Rattle.ledger.specs.Changes.{Went, becomes, Changing, changing-none, changing-next, changing-more, coming, Coming, coming-none, coming-next, coming-more, come-none, Joining, joining-none, joining-next, joining-more}
-use Rattle.applying.specs.Making.{blankRule, blankRuleEdge, blankNode, blankEdge, Takes, Comes, Joins, Changes, Alters, Grows, Grew, Edges}
-use Rattle.applying.specs.Items.{node-value, made-node, made-new, becomes-in, becomes-out, between-front, made-edge}
+use Rattle.making.specs.Making.{blankRule, blankRuleEdge, blankNode, blankEdge, Takes, Comes, Joins, Changes, Alters, Grows, Grew, Edges}
+use Rattle.making.proofs.Items.{node-value, made-node, made-new, becomes-in, becomes-out, between-front, made-edge}
 
 -- Nodes change.
 

@@ -29,8 +29,9 @@ use Rattle.ledger.specs.Running.{journalOf, ledgerOf, Held, Leads}
 use Rattle.ledger.specs.Changes.{Went, Below, goes, quotient-le}
 use Rattle.ledger.specs.Whole.{records-count, running-legal, few-nodes, few-edges}
 use Rattle.ledger.specs.Applications.{ready}
-use Rattle.applying.specs.Making.{blankRule, blankEdge, Made, Alters, Grows, Grew, Edges, Unhindered, Left, Halfway}
-use Rattle.applying.specs.Checks.{values-agree}
+use Rattle.making.specs.Making.{blankRule, blankEdge, Made, Alters, Grows, Grew, Edges}
+use Rattle.applying.specs.Halves.{Unhindered, Left, Halfway}
+use Rattle.applying.proofs.Checks.{values-agree}
 
 -- the bytes of the right graph, and the numbers of a rule that the code reads: the interface,
 -- and for the left part the left nodes and edges,

@@ -6,9 +6,9 @@ use native.Mathlib.Omega.{arith}
 use lib.ListN.{length}
 use Rattle.meaning.specs.Layout.{recordLength}
 use Rattle.ledger.specs.Changes.{quotient-le}
-use Rattle.applying.specs.Loops.{Altering, altering-none, altering-next, altering-more}
-use Rattle.applying.proofs.change_nodes.Statement.{statement}
-use Rattle.applying.proofs.change_nodes.Tie as tie
+use Rattle.making.proofs.Loops.{Altering, altering-none, altering-next, altering-more}
+use Rattle.making.proofs.change_nodes.Statement.{statement}
+use Rattle.making.proofs.change_nodes.Tie as tie
 
 abbrev Inv-loop : tie.InvT-loop
 Inv-loop l nodes₀ edges journal₀ used right k lens atoms slots n i₀ nodes journal i = (i ≤ n) × Altering l nodes₀ edges journal₀ right lens atoms slots used k n i nodes journal

@@ -5,9 +5,9 @@ use native.Mathlib.Omega.{arith}
 use lib.ListN.{length}
 use Rattle.meaning.specs.Layout.{recordLength}
 use Rattle.ledger.specs.Changes.{quotient-le}
-use Rattle.applying.specs.Loops.{Meeting, meeting-none, meeting-next, meeting-more, meeting-all}
-use Rattle.applying.proofs.new_edges.Statement.{statement}
-use Rattle.applying.proofs.new_edges.Tie as tie
+use Rattle.making.proofs.Loops.{Meeting, meeting-none, meeting-next, meeting-more, meeting-all}
+use Rattle.making.proofs.new_edges.Statement.{statement}
+use Rattle.making.proofs.new_edges.Tie as tie
 
 abbrev Inv-loop : tie.InvT-loop
 Inv-loop l nodes edges₀ journal₀ used right lens atoms places count i₀ edges journal i = (i ≤ count) × Meeting l nodes edges₀ journal₀ right lens atoms places used count i edges journal

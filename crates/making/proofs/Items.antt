@@ -29,7 +29,7 @@ use Rattle.values.specs.Items.{NodeValue, EdgeValue, node-at, edge-at}
 use Rattle.values.specs.declared.Valued.{Valued}
 use Rattle.ledger.specs.Running.{Leads}
 use Rattle.ledger.specs.Changes.{becomes}
-use Rattle.applying.specs.Making.{blankRule, blankRuleEdge, blankNode, blankEdge, NodeMade, Takes, Comes, Joins, Made}
+use Rattle.making.specs.Making.{blankRule, blankRuleEdge, blankNode, blankEdge, NodeMade, Takes, Comes, Joins, Made}
 
 -- What is in hand: the value v of the label, read from the bytes p.
 

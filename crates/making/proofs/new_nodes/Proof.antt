@@ -8,9 +8,9 @@ use lib.ListN.{length, length-set}
 use Rattle.meaning.specs.Image.{mostItems}
 use Rattle.meaning.specs.Layout.{recordLength}
 use Rattle.ledger.specs.Changes.{quotient-le}
-use Rattle.applying.specs.Loops.{Growing, growing-none, growing-next, growing-more, growing-all}
-use Rattle.applying.proofs.new_nodes.Statement.{statement}
-use Rattle.applying.proofs.new_nodes.Tie as tie
+use Rattle.making.proofs.Loops.{Growing, growing-none, growing-next, growing-more, growing-all}
+use Rattle.making.proofs.new_nodes.Statement.{statement}
+use Rattle.making.proofs.new_nodes.Tie as tie
 
 abbrev Inv-loop : tie.InvT-loop
 Inv-loop l nodes₀ edges journal₀ used right k lens atoms slots new places₀ i₀ nodes journal places i = (i ≤ new) × (length places ≡ mostItems) × Growing l nodes₀ edges journal₀ right lens atoms slots used k new i nodes journal places

@@ -4,9 +4,9 @@ use mathlib.Core.Path.{sym}
 use native.Mathlib.Omega.{arith}
 use lib.Seq.{length-take-le}
 use Rattle.fields.specs.Parsed.{ruleNode-is}
-use Rattle.applying.specs.Items.{node-fine, node-stored, any-keeps, other-takes}
-use Rattle.applying.proofs.take_values.Statement.{statement}
-use Rattle.applying.proofs.take_values.Tie as tie
+use Rattle.making.proofs.Items.{node-fine, node-stored, any-keeps, other-takes}
+use Rattle.making.proofs.take_values.Statement.{statement}
+use Rattle.making.proofs.take_values.Tie as tie
 
 item-value-requires : tie.Need-item-value-requires
 item-value-requires c κs = search needs

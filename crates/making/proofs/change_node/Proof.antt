@@ -1,9 +1,9 @@
 -- `applying::change_node` meets its contract.
 use borrow.Author.Needs.{needs}
 use native.Mathlib.Omega.{arith}
-use Rattle.applying.specs.Loops.{change-takes, change-taken, change-gone}
-use Rattle.applying.proofs.change_node.Statement.{statement}
-use Rattle.applying.proofs.change_node.Tie as tie
+use Rattle.making.proofs.Loops.{change-takes, change-taken, change-gone}
+use Rattle.making.proofs.change_node.Statement.{statement}
+use Rattle.making.proofs.change_node.Tie as tie
 
 node-part-requires : tie.Need-node-part-requires
 node-part-requires c κs = search needs

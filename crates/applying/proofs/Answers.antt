@@ -24,8 +24,8 @@ use Rattle.ledger.specs.Applications.{stopped-is, applied-is, runs-on}
 use Rattle.ledger.specs.declared.Applied.{Applied as Came}
 use Rattle.ledger.specs.declared.Applied.the-variants.{Done, Stopped}
 use Rattle.applying.specs.Application.{appliedOf, AtMatch, Applies}
-use Rattle.applying.specs.Making.{Unhindered, Changed}
-use Rattle.applying.specs.Parts.{r, p, g, match, right-there}
+use Rattle.applying.specs.Halves.{Unhindered, Changed}
+use Rattle.applying.proofs.Parts.{r, p, g, match, right-there}
 
 pub none-done : stopOf Done ≡ none
 unfolding stopOf

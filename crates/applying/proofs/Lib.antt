@@ -1,0 +1,3 @@
+mod Checks
+mod Parts
+mod Answers
