@@ -8,7 +8,7 @@ use Prim.Native.Nat.{ℕ, _+_, _/_, _<_, _≤_}
 use lib.ListN.{length, getD, take}
 use lib.Dec.{eqb}
 use Rattle.meaning.specs.Basics.{choose}
-use Rattle.meaning.specs.Layout.{Node, Edge, Host, free, liveAt, nodeLength, recordLength, readNodes, readEdges}
+use Rattle.meaning.specs.Layout.{Node, Edge, Host, free, liveAt, nodeLength, recordLength, readNodes, readEdges, mostAtoms}
 use Rattle.meaning.specs.Image.{RuleNode, RuleEdge, Rule, ruleNode, ruleEdge, ruleGraph}
 use Rattle.meaning.specs.Tags.{anyMark}
 use Rattle.meaning.specs.References.{names}
@@ -44,7 +44,7 @@ module _ (L : Layout) where
   -- the bytes are a right node, and the node is what it comes to under the values in the arrays, but for its mark
   pub record NodeMade (p lens atoms : List ℕ) : Type 0 where
     pub stored : Stored lens atoms
-    pub few : L .atoms ≤ 8
+    pub few : L .atoms ≤ mostAtoms
     pub rule : RuleNode
     pub is : ruleNode p ≡ some rule
     pub node : Node
@@ -67,7 +67,7 @@ module _ (L : Layout) where
   -- are the places
   pub record Joins (p lens atoms places : List ℕ) : Type 0 where
     pub stored : Stored lens atoms
-    pub few : L .atoms ≤ 8
+    pub few : L .atoms ≤ mostAtoms
     pub room : length places ≡ 12
     pub rule : RuleEdge
     pub is : ruleEdge p ≡ some rule
@@ -84,7 +84,7 @@ module _ (L : Layout) where
   -- the bytes are a right graph whose first k nodes are the interface, and `right` is what it comes to
   pub record Made (bs lens atoms : List ℕ) (k : ℕ) : Type 0 where
     pub stored : Stored lens atoms
-    pub few : L .atoms ≤ 8
+    pub few : L .atoms ≤ mostAtoms
     pub host : Host
     pub tree : Rule
     pub slots : List ℕ

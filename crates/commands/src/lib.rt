@@ -5,10 +5,10 @@ ghost use Prim.Native.Nat.{_+_, _≤_};
 ghost use Rattle.ledger.specs.Running.{Running};
 ghost use Rattle.commands.specs.Program.{Runnable, RunsProgram};
 ghost use Rattle.commands.specs.Cycle.{Tagged, isDone, partAfter, Begun, Known, Row, Comes, runsCommand, runsRow, runsGuarded, runsLoop, Restored, Settled, Closed};
-use meaning::Ran;
 use fields::Found;
 use meaning::End;
 use meaning::Layout;
+use meaning::Ran;
 use meaning::Stop;
 use meaning::Tally;
 

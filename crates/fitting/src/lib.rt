@@ -15,12 +15,12 @@ ghost use Rattle.labels.specs.Labels.{atomsIn, Held, Holds};
 ghost use Rattle.graph.specs.Graph.{Legal};
 ghost use Rattle.plan.specs.Plan.{For, IsLaid, HasEdge, testOf, labelOf};
 ghost use Rattle.fitting.specs.Fitting.{Known, Inside, slots, labelAt, slotOf, Tried, TriedEdge, Full, HasValue, HasElement, HasOperand, HasElements, HasCondition, HasTest, Numbers, Room, joinsAt, goneAt, OnLeft, Takes, Candidate, AgreesFrom, Guessed, NodeLike, NextLike, Likely};
-use parts::Front;
 use labels::Label;
 use meaning::Condition;
 use meaning::Element;
 use meaning::Layout;
 use meaning::Operand;
+use parts::Front;
 
 // Labels.
 

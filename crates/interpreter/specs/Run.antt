@@ -4,7 +4,7 @@ use Prim.Native.Nat.{ℕ, _≤_}
 use mathlib.Core.Path.{_≡_}
 use mathlib.Core.List.{List}
 use native.Mathlib.Omega.{arith}
-use Rattle.meaning.specs.Layout.{Sized, base}
+use Rattle.meaning.specs.Layout.{Sized, base, mostAtoms}
 use Rattle.meaning.specs.Calls.{reportOf}
 use Rattle.meaning.specs.Laws.Undoing.{Numbered, base-numbered}
 use Rattle.meaning.specs.declared.Layout.{Layout}
@@ -15,10 +15,10 @@ use Rattle.meaning.specs.declared.End.the-variants.{Done, Failed, Broke, Stoppe
 use Rattle.meaning.specs.Laws.Layout.{base-sized}
 use Rattle.undoing.specs.Undone.{Undone}
 
--- the sizes are those of atoms and width, a label has at most 8 atoms, and slot numbers and counts fit their bytes
+-- the sizes are those of atoms and width, a label has at most as many atoms as there is room for, and slot numbers and counts fit their bytes
 pub record RunLayout (L : Layout) : Type 0 where
   pub sized : Sized L
-  pub few : L .atoms ≤ 8
+  pub few : L .atoms ≤ mostAtoms
   pub numbered : Numbered L
 
 -- document 01's layout is one

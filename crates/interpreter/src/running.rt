@@ -3,6 +3,7 @@ ghost use mathlib.Core.Path.{_≡_};
 ghost use mathlib.Core.Option.{none};
 ghost use lib.ListN.{length};
 ghost use Rattle.meaning.specs.Calls.{answerNumber, reportOf, runRefusal, run, lending, Leaves};
+ghost use Rattle.answers.specs.Answers.{reportLength};
 ghost use Rattle.ledger.specs.Running.{Running};
 ghost use Rattle.undoing.specs.Undone.{Undone};
 ghost use Rattle.interpreter.specs.Run.{RunLayout, Finishes};
@@ -23,7 +24,7 @@ fn give_back(
     report: &mut [u8],
 )
     requires { ⌜ Running l (now nodes) (now edges) (now journal) records ⌝ }
-    requires { ⌜ length (now report) ≡ 8 ⌝ }
+    requires { ⌜ length (now report) ≡ reportLength ⌝ }
     ensures { λ _. ⌜ Undone l (now (nodes .entry)) (now (edges .entry)) (now (journal .entry)) records 0 (now (nodes .exit)) (now (edges .exit)) (now (journal .exit)) × (now (report .exit) ≡ reportOf steps 0) ⌝ }
 {
     undoing::back_to(l, nodes, edges, journal, records, 0);
@@ -42,7 +43,7 @@ fn finish(
     report: &mut [u8],
 ) -> Answer
     requires { ⌜ Running l (now nodes) (now edges) (now journal) records ⌝ }
-    requires { ⌜ length (now report) ≡ 8 ⌝ }
+    requires { ⌜ length (now report) ≡ reportLength ⌝ }
     ensures { λ r. ⌜ Finishes l (now (nodes .entry)) (now (edges .entry)) (now (journal .entry)) steps records r (now (nodes .exit)) (now (edges .exit)) (now (journal .exit)) (now (report .exit)) end ⌝ }
 {
     match end {
@@ -79,7 +80,7 @@ fn start(
     requires { ⌜ runRefusal l (lending (now nodes) (now edges) (now journal) (now image) fuel (now report)) ≡ none ⌝ }
     ensures { λ r. ⌜ Leaves (run l (lending (now (nodes .entry)) (now (edges .entry)) (now (journal .entry)) (now (image .entry)) fuel (now (report .entry)))) (answerNumber r) (now (nodes .exit)) (now (edges .exit)) (now (journal .exit)) (now (report .exit)) ⌝ }
 {
-    slots::clear(journal);
+    slots::bytes::clear(journal);
     let ran = commands::run_program(l, image, nodes, edges, journal, Tally::new(fuel as usize));
     let end = ran.end;
     let steps = ran.tally.steps;

@@ -40,10 +40,7 @@ pub fn first_element(p: &[u8]) -> Front
     let Found::Field(tag, start, end) = found else {
         return Front::Nothing;
     };
-    Front::First(
-        reading::read_element(tag, fields::part(p, start, end)),
-        end,
-    )
+    Front::First(reading::read_element(tag, fields::part(p, start, end)), end)
 }
 
 pub fn shape(types: &[u8], p: &[u8]) -> Counts

@@ -13,12 +13,12 @@ ghost use Rattle.meaning.specs.Assigned.{isVariable};
 ghost use Rattle.meaning.specs.declared.Element.{Element};
 ghost use Rattle.plan.specs.Plan.{Placed, Items, Named, Planned, IsRule, HasGraph, IsLaid, IsNamed, HasItem, HasNode, HasEdge, For, Marked, testOf, Valued, decidedBy, Decides, Part, Plans, operandDecided, Occurring, FirstAt, Sorts, Labelled, OnlyLabel, AllLabelled, IsLabelled};
 use fields::Found;
-use parts::Counts;
-use parts::Front;
 use meaning::Condition;
 use meaning::Element;
 use meaning::Operand;
 use meaning::Test;
+use parts::Counts;
+use parts::Front;
 
 // Reading a plan.
 

@@ -9,6 +9,7 @@ use lib.ListN.{length, getD, take, drop}
 use lib.Dec.{leb, ltb}
 use Rattle.meaning.specs.Basics.{choose, both, every, concat, isSome, ensure, _>>_, _>>=_}
 use Rattle.meaning.specs.Numbers.{half, whole, height}
+use Rattle.meaning.specs.Layout.{mostAtoms}
 use Rattle.meaning.specs.Image.{RuleGraph}
 use Rattle.meaning.specs.References.{elementNames, labels}
 use Rattle.meaning.specs.Matching.{Assignment}
@@ -23,15 +24,15 @@ use Rattle.values.specs.declared.Valued.{Valued}
 
 -- The arrays.
 
--- variable v has as many atoms as `lens` says, from place 8 * v of `atoms` on
+-- variable v has as many atoms as `lens` says, from place mostAtoms * v of `atoms` on
 abbrev pub valuesOf : List ℕ → List ℕ → Assignment
-valuesOf lens atoms v = take (getD lens v 0) (drop (8 * v) atoms)
+valuesOf lens atoms v = take (getD lens v 0) (drop (mostAtoms * v) atoms)
 
 -- six variables of at most eight atoms each, all of them words
 pub record Stored (lens atoms : List ℕ) : Type 0 where
   pub variables : length lens ≡ 6
   pub room : length atoms ≡ 48
-  pub few : (v : ℕ) → getD lens v 0 ≤ 8
+  pub few : (v : ℕ) → getD lens v 0 ≤ mostAtoms
   pub words : Words atoms
 
 -- two assignments have the same values at the variables of the list

@@ -4,6 +4,7 @@ ghost use mathlib.Core.List.{List, _++_};
 ghost use Prim.Native.Nat.{ℕ, _+_, _*_, _<_, _≤_};
 ghost use lib.ListN.{length, getD, take, drop};
 ghost use Rattle.meaning.specs.Numbers.{height, sum, difference};
+ghost use Rattle.meaning.specs.Layout.{mostAtoms};
 ghost use Rattle.meaning.specs.Image.{label, ruleGraph};
 ghost use Rattle.meaning.specs.Matching.{atomOf};
 ghost use Rattle.meaning.specs.Applying.{elementValue, labelValue};
@@ -13,10 +14,10 @@ ghost use Rattle.parts.specs.Runs.{For};
 ghost use Rattle.parts.specs.Rows.{graphItem, itemLabel};
 ghost use Rattle.values.specs.Values.{valuesOf, Stored, asOption, lowered, valueIn, Kept, ofAtom, fitting, allHeld};
 use fields::Found;
-use parts::Front;
 use labels::Label;
 use meaning::Element;
 use meaning::Operand;
+use parts::Front;
 
 // A label's value, or that it can't be held.
 pub struct Valued {
@@ -63,7 +64,7 @@ pub fn difference(a: u32, b: u32) -> Atom
     lowered(height(a) + 0x100000000 - height(b))
 }
 
-// The values of the variables: variable v has lens[v] atoms, from atoms[8 * v] on.
+// The values of the variables: variable v has lens[v] atoms, from atoms[labels::MOST * v] on.
 
 // The first atom of a variable's value, 0 if it has none.
 pub fn first_atom(lens: &[usize; 6], atoms: &[u32; 48], v: usize) -> u32
@@ -76,7 +77,7 @@ pub fn first_atom(lens: &[usize; 6], atoms: &[u32; 48], v: usize) -> u32
     if lens[v] == 0 {
         return 0;
     }
-    atoms[8 * v]
+    atoms[labels::MOST * v]
 }
 
 pub fn atom_of(lens: &[usize; 6], atoms: &[u32; 48], o: Operand) -> u32
@@ -91,10 +92,10 @@ pub fn atom_of(lens: &[usize; 6], atoms: &[u32; 48], o: Operand) -> u32
 
 // The n atoms from a place on.
 fn copied(atoms: &[u32; 48], from: usize, n: usize) -> Label
-    requires { ⌜ (length (now atoms) ≡ 48) × Words (now atoms) × (n ≤ 8) × (from + n ≤ 48) ⌝ }
+    requires { ⌜ (length (now atoms) ≡ 48) × Words (now atoms) × (n ≤ mostAtoms) × (from + n ≤ 48) ⌝ }
     ensures { λ r. ⌜ Holds (take n (drop from (now (atoms .entry)))) r ⌝ }
 {
-    let mut out = [0u32; 8];
+    let mut out = [0u32; labels::MOST];
     let mut j: usize = 0;
     while j < n {
         out[j] = atoms[from + j];
@@ -110,12 +111,12 @@ pub fn value_of(lens: &[usize; 6], atoms: &[u32; 48], v: usize) -> Label
     if v >= 6 {
         return labels::none();
     }
-    copied(atoms, 8 * v, lens[v])
+    copied(atoms, labels::MOST * v, lens[v])
 }
 
 // A label of one atom.
 fn of_atom(a: Atom) -> Valued
-    ensures { λ r. ⌜ Kept 8 r × (valueIn r ≡ ofAtom (asOption a)) ⌝ }
+    ensures { λ r. ⌜ Kept mostAtoms r × (valueIn r ≡ ofAtom (asOption a)) ⌝ }
 {
     match a {
         Atom::Word(x) => Valued {
@@ -131,7 +132,7 @@ fn of_atom(a: Atom) -> Valued
 
 pub fn element_value(lens: &[usize; 6], atoms: &[u32; 48], e: Element) -> Valued
     requires { ⌜ Stored (now lens) (now atoms) ⌝ }
-    ensures { λ r. ⌜ Kept 8 r × (valueIn r ≡ elementValue (valuesOf (now (lens .entry)) (now (atoms .entry))) e) ⌝ }
+    ensures { λ r. ⌜ Kept mostAtoms r × (valueIn r ≡ elementValue (valuesOf (now (lens .entry)) (now (atoms .entry))) e) ⌝ }
 {
     match e {
         Element::Constant(x) => Valued {
@@ -152,7 +153,7 @@ pub fn element_value(lens: &[usize; 6], atoms: &[u32; 48], e: Element) -> Valued
 
 // Label a with label b behind it, if it has at most `most` atoms.
 pub fn joined(a: Label, b: Label, most: usize) -> Valued
-    requires { ⌜ Held a × Held b × (a .len ≤ most) × (most ≤ 8) ⌝ }
+    requires { ⌜ Held a × Held b × (a .len ≤ most) × (most ≤ mostAtoms) ⌝ }
     ensures { λ r. ⌜ Kept most r × (valueIn r ≡ fitting most (atomsIn a ++ atomsIn b)) ⌝ }
 {
     let n = a.len;
@@ -181,7 +182,7 @@ pub fn joined(a: Label, b: Label, most: usize) -> Valued
 
 // The value of a label of the right side.
 pub fn label_value(most: usize, lens: &[usize; 6], atoms: &[u32; 48], p: &[u8]) -> Valued
-    requires { ⌜ Stored (now lens) (now atoms) × (most ≤ 8) ⌝ }
+    requires { ⌜ Stored (now lens) (now atoms) × (most ≤ mostAtoms) ⌝ }
     ensures { λ r. ⌜ Kept most r × For (label (now (p .entry))) (λ l. valueIn r ≡ labelValue most (valuesOf (now (lens .entry)) (now (atoms .entry))) l) ⌝ }
 {
     let mut rest = p;
@@ -218,7 +219,7 @@ pub fn label_value(most: usize, lens: &[usize; 6], atoms: &[u32; 48], p: &[u8]) 
 
 // The value of the label of a right node or edge, from its tag and payload.
 pub fn item_value(most: usize, lens: &[usize; 6], atoms: &[u32; 48], tag: u8, p: &[u8]) -> Valued
-    requires { ⌜ Stored (now lens) (now atoms) × (most ≤ 8) ⌝ }
+    requires { ⌜ Stored (now lens) (now atoms) × (most ≤ mostAtoms) ⌝ }
     ensures { λ r. ⌜ Kept most r × For (graphItem tag (now (p .entry))) (λ i. valueIn r ≡ labelValue most (valuesOf (now (lens .entry)) (now (atoms .entry))) (itemLabel i)) ⌝ }
 {
     label_value(most, lens, atoms, parts::label_part(tag, p))
@@ -226,7 +227,7 @@ pub fn item_value(most: usize, lens: &[usize; 6], atoms: &[u32; 48], tag: u8, p:
 
 // Whether all labels of a right graph can be held.
 pub fn labels_held(most: usize, lens: &[usize; 6], atoms: &[u32; 48], right: &[u8]) -> bool
-    requires { ⌜ Stored (now lens) (now atoms) × (most ≤ 8) ⌝ }
+    requires { ⌜ Stored (now lens) (now atoms) × (most ≤ mostAtoms) ⌝ }
     ensures { λ r. ⌜ For (ruleGraph (now (right .entry))) (λ g. r ≡ allHeld most (valuesOf (now (lens .entry)) (now (atoms .entry))) g) ⌝ }
 {
     let mut at: usize = 0;
