@@ -5,7 +5,7 @@ ghost use lib.ListN.{length};
 ghost use Rattle.meaning.specs.Basics.{choose, firstFailing};
 ghost use Rattle.meaning.specs.Layout.{Sized};
 ghost use Rattle.meaning.specs.Calls.{lengthChecks, reportOf, answerNumber, refusalNumber, stopNumber};
-ghost use Rattle.answers.specs.Answers.{refusalOf};
+ghost use Rattle.answers.specs.Answers.{refusalOf, reportLength};
 use meaning::Answer;
 use meaning::Layout;
 use meaning::Refusal;
@@ -17,12 +17,22 @@ pub enum Checked {
     Refused(Refusal),
 }
 
+// A report: two numbers, the steps and the records.
+pub struct Report {}
+
+impl Report {
+    // The bytes of one of its numbers, and of both.
+    pub const NUMBER: usize = 4;
+
+    pub const LENGTH: usize = 8;
+}
+
 // The lengths, which both calls look at first: the lowest applicable number from 9 to 12.
 pub fn lengths(l: Layout, nodes: &[u8], edges: &[u8], journal: &[u8], report: &[u8]) -> Checked
     requires { ⌜ Sized l ⌝ }
     ensures { λ r. ⌜ refusalOf r ≡ firstFailing (lengthChecks l (now (nodes .entry)) (now (edges .entry)) (now (journal .entry)) (now (report .entry))) ⌝ }
 {
-    if report.len() != 8 {
+    if report.len() != Report::LENGTH {
         return Checked::Refused(Refusal::ReportLength);
     }
     if !slots::fits_table(nodes, l.node, l.nodes) {
@@ -39,18 +49,18 @@ pub fn lengths(l: Layout, nodes: &[u8], edges: &[u8], journal: &[u8], report: &[
 
 // Writes steps and records in a report.
 pub fn put_report(report: &mut [u8], steps: usize, records: usize)
-    requires { ⌜ length (now report) ≡ 8 ⌝ }
+    requires { ⌜ length (now report) ≡ reportLength ⌝ }
     ensures { λ _. ⌜ now (report .exit) ≡ reportOf steps records ⌝ }
 {
-    slots::put_number(&mut report[0..4], steps);
-    slots::put_number(&mut report[4..8], records);
+    slots::bytes::put_number(&mut report[0..Report::NUMBER], steps);
+    slots::bytes::put_number(&mut report[Report::NUMBER..Report::LENGTH], records);
 }
 
 // Writes the report of a refused call: zeros, where it has its length.
 pub fn refuse(report: &mut [u8])
-    ensures { λ _. ⌜ now (report .exit) ≡ choose (eqb (length (now (report .entry))) 8) (reportOf 0 0) (now (report .entry)) ⌝ }
+    ensures { λ _. ⌜ now (report .exit) ≡ choose (eqb (length (now (report .entry))) reportLength) (reportOf 0 0) (now (report .entry)) ⌝ }
 {
-    if report.len() == 8 {
+    if report.len() == Report::LENGTH {
         put_report(report, 0, 0);
     }
 }

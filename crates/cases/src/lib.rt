@@ -1,7 +1,6 @@
 // What the programs over stored cases share. A stored file is a row of cases, each a field 0x07 whose payload is fields in turn
 // and is not empty. One case is read at a time, so that a file may be of any length.
 ghost use mathlib.Core.Path.{_≡_};
-ghost use lib.ListN.{length};
 ghost use Rattle.meaning.specs.Image.{constant};
 ghost use Rattle.parts.specs.Runs.{For, nthPart};
 ghost use Rattle.io.specs.Counts.{Counts};
@@ -56,8 +55,11 @@ pub fn copy(to: &mut [u8], from: &[u8]) -> usize
     ensures { λ r. ⌜ Copied (now (from .entry)) (now (to .exit)) r ⌝ }
 {
     let room = to.len();
-    if from.len() <= room {
-        return bytes::copy(from, to);
+    let n = from.len();
+    if n <= room {
+        slots::bytes::copy(&mut to[0..n], from);
+        return n;
     }
-    bytes::copy(&from[..room], to)
+    slots::bytes::copy(to, &from[..room]);
+    room
 }

@@ -1,21 +1,24 @@
 -- Laws of slots in hand: where a slot of a legal host's tables lies, and what its bytes say of the node or the edge that it
 -- holds. The bytes of a free slot are zeros, and say what a free slot has. Rests on Graph and the meaning's laws.
-use Prim.Native.Nat.{ℕ, zero, suc, _+_, _*_, _/_, _^_, _<_, _≤_}
+use Prim.Native.Nat.{ℕ, zero, suc, _+_, _/_, _^_, _<_, _≤_}
 use mathlib.Core.Path.{_≡_, refl, sym, _∙_, ap}
 use mathlib.Core.List.{List, [], _∷_, map}
-use mathlib.Core.Bool.{true, not}
+use mathlib.Core.Bool.{true}
 use native.Mathlib.Nat.{zero-mul}
 use native.Mathlib.Omega.{arith}
 use native.Mathlib.Decide.{ℕ-discrete}
-use lib.Dec.{eqb}
-use lib.ListN.{length, getD, take, drop}
+use lib.ListN.{length, getD, set, take, drop}
 use lib.Seq.{getD-drop}
-use Rattle.meaning.specs.Numbers.{number}
-use Rattle.meaning.specs.Layout.{Slot, free, isLive, Node, Edge, Sized, nodeLength, edgeLength, pieces, cut, atoms, readNode, readEdge, readNodes, readEdges, keepsNode, keepsEdge}
+use Rattle.meaning.specs.Numbers.{number, whole}
+use Rattle.meaning.specs.Layout.{Slot, free, isLive, Node, Edge, Sized, statePlace, markPlace, rootPlace, lengthPlace, headLength, mostAtoms, sourcePlace, targetPlace, edgeAtoms, nodeLength, edgeLength, pieces, cut, atoms, readNode, readEdge, readNodes, readEdges, keepsNode, keepsEdge}
 use Rattle.meaning.specs.Matching.{nodeIn, edgeIn}
 use Rattle.laws.specs.Pieces.{getD-map, length-pieces, length-read}
-use Rattle.laws.specs.Layout.{getD-zeros, length-atoms, readNode-free, readNode-live, isLive-readNode, keepsNode-free, keepsNode-live, readEdge-free, readEdge-live, isLive-readEdge, keepsEdge-free, keepsEdge-live, kept-node, kept-edge}
+use Rattle.laws.specs.Layout.{getD-zeros, length-atoms, readNode-free, readNode-live, keepsNode-free, keepsNode-live, readEdge-free, readEdge-live, keepsEdge-free, keepsEdge-live, kept-node, kept-edge}
 use Rattle.meaning.specs.declared.Layout.{Layout}
+use Rattle.labels.specs.Labels.{Holds}
+use Rattle.labels.specs.Laws.{Filled, filled-more, filled-all}
+use Rattle.slots.specs.Slots.{stateOf}
+use Rattle.slots.specs.States.{state-node, state-edge}
 use Rattle.graph.specs.Graph.{Legal}
 
 -- A table's slots, by the length of one that the layout holds.
@@ -58,37 +61,37 @@ label-zero n l e = rw e
 
 -- the bytes say what the slot has
 pub record NodeBytes (L : Layout) (b : List ℕ) (s : Slot Node) : Type 0 where
-  pub state : not (eqb (getD b 0 0) 0) ≡ isLive s
-  pub mark : getD b 1 0 ≡ nodeIn s .mark
-  pub root : getD b 2 0 ≡ nodeIn s .root
-  pub size : getD b 3 0 ≤ L .atoms
-  pub label : atoms (getD b 3 0) (drop 4 b) ≡ nodeIn s .label
+  pub state : isLive (stateOf b) ≡ isLive s
+  pub mark : getD b markPlace 0 ≡ nodeIn s .mark
+  pub root : getD b rootPlace 0 ≡ nodeIn s .root
+  pub size : getD b lengthPlace 0 ≤ L .atoms
+  pub label : atoms (getD b lengthPlace 0) (drop headLength b) ≡ nodeIn s .label
 
 -- the length of its label among it
-pub node-long : {L : Layout} {b : List ℕ} {s : Slot Node} → NodeBytes L b s → getD b 3 0 ≡ length (nodeIn s .label)
-node-long {L} {b} h = sym (length-atoms (getD b 3 0) (drop 4 b)) ∙ ap length (h .label)
+pub node-long : {L : Layout} {b : List ℕ} {s : Slot Node} → NodeBytes L b s → getD b lengthPlace 0 ≡ length (nodeIn s .label)
+node-long {L} {b} h = sym (length-atoms (getD b lengthPlace 0) (drop headLength b)) ∙ ap length (h .label)
 
 kept-node-bytes : (L : Layout) (b : List ℕ) → keepsNode L b ≡ true → NodeBytes L b (readNode b)
 unfolding nodeIn
-kept-node-bytes L b k = at (ℕ-discrete (getD b 0 0) 0)
+kept-node-bytes L b k = at (ℕ-discrete (getD b statePlace 0) 0)
   where
-    at : Dec (getD b 0 0 ≡ 0) → NodeBytes L b (readNode b)
+    at : Dec (getD b statePlace 0 ≡ 0) → NodeBytes L b (readNode b)
     at (yes e) =
         let q = readNode-free b e in
         let z : Zero b = λ i. getD-zeros b i (sym (keepsNode-free L b e) ∙ k) in
         rw q
         (record {
-          state = sym (isLive-readNode b) ∙ ap isLive q;
-          mark = z 1;
-          root = z 2;
-          size = omega (arith, z 3);
-          label = label-zero (getD b 3 0) (drop 4 b) (z 3);
+          state = sym (state-node b) ∙ ap isLive q;
+          mark = z markPlace;
+          root = z rootPlace;
+          size = omega (arith, z lengthPlace);
+          label = label-zero (getD b lengthPlace 0) (drop headLength b) (z lengthPlace);
         })
     at (no e) =
         let q = readNode-live b e in
         rw q
         (record {
-          state = sym (isLive-readNode b) ∙ ap isLive q;
+          state = sym (state-node b) ∙ ap isLive q;
           mark = refl;
           root = refl;
           size = keepsNode-live L b e k .size;
@@ -98,39 +101,39 @@ kept-node-bytes L b k = at (ℕ-discrete (getD b 0 0) 0)
 -- Edges.
 
 pub record EdgeBytes (L : Layout) (b : List ℕ) (s : Slot Edge) : Type 0 where
-  pub state : not (eqb (getD b 0 0) 0) ≡ isLive s
-  pub mark : getD b 1 0 ≡ edgeIn s .mark
-  pub source : number (take (L .width) (drop 4 b)) ≡ edgeIn s .source
-  pub target : number (take (L .width) (drop (4 + L .width) b)) ≡ edgeIn s .target
-  pub size : getD b 3 0 ≤ L .atoms
-  pub label : atoms (getD b 3 0) (drop (4 + 2 * L .width) b) ≡ edgeIn s .label
+  pub state : isLive (stateOf b) ≡ isLive s
+  pub mark : getD b markPlace 0 ≡ edgeIn s .mark
+  pub source : number (take (L .width) (drop (sourcePlace L) b)) ≡ edgeIn s .source
+  pub target : number (take (L .width) (drop (targetPlace L) b)) ≡ edgeIn s .target
+  pub size : getD b lengthPlace 0 ≤ L .atoms
+  pub label : atoms (getD b lengthPlace 0) (drop (edgeAtoms L) b) ≡ edgeIn s .label
 
 -- the length of its label among it
-pub edge-long : {L : Layout} {b : List ℕ} {s : Slot Edge} → EdgeBytes L b s → getD b 3 0 ≡ length (edgeIn s .label)
-edge-long {L} {b} h = sym (length-atoms (getD b 3 0) (drop (4 + 2 * L .width) b)) ∙ ap length (h .label)
+pub edge-long : {L : Layout} {b : List ℕ} {s : Slot Edge} → EdgeBytes L b s → getD b lengthPlace 0 ≡ length (edgeIn s .label)
+edge-long {L} {b} h = sym (length-atoms (getD b lengthPlace 0) (drop (edgeAtoms L) b)) ∙ ap length (h .label)
 
 kept-edge-bytes : (L : Layout) (nodes : List (Slot Node)) (b : List ℕ) → keepsEdge L nodes b ≡ true → EdgeBytes L b (readEdge L b)
 unfolding edgeIn
-kept-edge-bytes L nodes b k = at (ℕ-discrete (getD b 0 0) 0)
+kept-edge-bytes L nodes b k = at (ℕ-discrete (getD b statePlace 0) 0)
   where
-    at : Dec (getD b 0 0 ≡ 0) → EdgeBytes L b (readEdge L b)
+    at : Dec (getD b statePlace 0 ≡ 0) → EdgeBytes L b (readEdge L b)
     at (yes e) =
         let q = readEdge-free L b e in
         let z : Zero b = λ i. getD-zeros b i (sym (keepsEdge-free L nodes b e) ∙ k) in
         rw q
         (record {
-          state = sym (isLive-readEdge L b) ∙ ap isLive q;
-          mark = z 1;
-          source = end-zero (L .width) 4 b z;
-          target = end-zero (L .width) (4 + L .width) b z;
-          size = omega (arith, z 3);
-          label = label-zero (getD b 3 0) (drop (4 + 2 * L .width) b) (z 3);
+          state = sym (state-edge L b) ∙ ap isLive q;
+          mark = z markPlace;
+          source = end-zero (L .width) (sourcePlace L) b z;
+          target = end-zero (L .width) (targetPlace L) b z;
+          size = omega (arith, z lengthPlace);
+          label = label-zero (getD b lengthPlace 0) (drop (edgeAtoms L) b) (z lengthPlace);
         })
     at (no e) =
         let q = readEdge-live L b e in
         rw q
         (record {
-          state = sym (isLive-readEdge L b) ∙ ap isLive q;
+          state = sym (state-edge L b) ∙ ap isLive q;
           mark = refl;
           source = refl;
           target = refl;
@@ -162,3 +165,14 @@ module _ {L : Layout} {nodes edges : List ℕ} (h : Legal L nodes edges) (x : �
       let q = e ∙ ap (λ (w : ℕ). getD (cut w edges) x []) (h .sized .edge) in
       let k : keepsEdge L (readNodes L nodes) b ≡ true = rw q (kept-edge L nodes edges (h .keeps) x j) in
       rw (slot-read (readEdge L) (h .sized .edge) edges x free i, ← e) (kept-edge-bytes L (readNodes L nodes) b k)
+
+-- Copying a slot's label out: one atom more, and all of them.
+
+module _ (b : List ℕ) (start n j : ℕ) (l : List ℕ) (few : n ≤ mostAtoms) (f : Filled (atoms n (drop start b)) j l) (e : n ≡ getD b lengthPlace 0) where
+  pub read-more : (v : ℕ) → v ≡ getD (atoms (getD b lengthPlace 0) (drop start b)) j 0 → v < whole → j < n → Filled (atoms n (drop start b)) (j + 1) (set l j v)
+  read-more v q s k =
+      let i = length-atoms n (drop start b) in
+      filled-more _ l j v f (omega arith) (omega arith) s (rw e q)
+
+  pub read-all : j ≡ n → Holds (atoms (getD b lengthPlace 0) (drop start b)) (record { len = n; atoms = l })
+  read-all q = rw (← e) (filled-all _ l n (rw q at f) few (sym (length-atoms n (drop start b))))

@@ -1,14 +1,42 @@
 // The host graph in lent tables, by slot number: marks, roots, labels, ends, and the counts of edges that tests ask for.
 ghost use mathlib.Core.Path.{_≡_};
 ghost use Prim.Native.Nat.{_<_, _≤_};
-ghost use lib.ListN.{length, getD};
+ghost use lib.ListN.{length, getD, drop};
 ghost use Rattle.meaning.specs.Basics.{any, count};
-ghost use Rattle.meaning.specs.Layout.{Sized, liveAt, readNodes, readEdges, hostOf};
+ghost use Rattle.meaning.specs.Layout.{Sized, lengthPlace, mostAtoms, atoms, liveAt, readNodes, readEdges, hostOf};
 ghost use Rattle.meaning.specs.Matching.{nodeAt, edgeAt, runs, leaves, arrives, inDegree, outDegree, touches};
 ghost use Rattle.labels.specs.Labels.{Holds};
-ghost use Rattle.graph.specs.Graph.{Legal};
+ghost use Rattle.slots.specs.Slots.{labelEnd};
+ghost use Rattle.graph.specs.Graph.{Legal, counts};
 use labels::Label;
 use meaning::Layout;
+use slots::held;
+use slots::held::Place;
+
+// Incidence edges count at a slot.
+pub enum Incidence {
+    Leaving,
+    Arriving,
+    Touching,
+}
+
+// The label of a slot whose atoms begin at a place, copied out.
+fn read_label(b: &[u8], start: usize) -> Label
+    requires { ⌜ (lengthPlace < length (now b)) × (getD (now b) lengthPlace 0 ≤ mostAtoms) × (labelEnd start (now b) ≤ length (now b)) ⌝ }
+    ensures { λ r. ⌜ Holds (atoms (getD (now (b .entry)) lengthPlace 0) (drop start (now (b .entry)))) r ⌝ }
+{
+    let len = held::atom_count(b);
+    let mut atoms = [0u32; labels::MOST];
+    let mut j: usize = 0;
+    while j < len {
+        atoms[j] = held::atom(b, start, j);
+        j += 1;
+    }
+    Label {
+        len: len,
+        atoms: atoms,
+    }
+}
 
 // Nodes.
 
@@ -25,8 +53,7 @@ pub fn node_live(l: Layout, nodes: &[u8], edges: &[u8], x: usize) -> bool
     requires { ⌜ x < length (hostOf l (now nodes) (now edges) .nodes) ⌝ }
     ensures { λ r. ⌜ r ≡ liveAt (hostOf l (now (nodes .entry)) (now (edges .entry)) .nodes) x ⌝ }
 {
-    let b = slots::slot(nodes, l.node, x);
-    b[0] != 0
+    held::is_live(slots::slot(nodes, l.node, x))
 }
 
 pub fn node_mark(l: Layout, nodes: &[u8], edges: &[u8], x: usize) -> u8
@@ -34,8 +61,7 @@ pub fn node_mark(l: Layout, nodes: &[u8], edges: &[u8], x: usize) -> u8
     requires { ⌜ x < length (hostOf l (now nodes) (now edges) .nodes) ⌝ }
     ensures { λ r. ⌜ r ≡ nodeAt (hostOf l (now (nodes .entry)) (now (edges .entry))) x .mark ⌝ }
 {
-    let b = slots::slot(nodes, l.node, x);
-    b[1]
+    held::mark(slots::slot(nodes, l.node, x))
 }
 
 pub fn node_root(l: Layout, nodes: &[u8], edges: &[u8], x: usize) -> u8
@@ -43,8 +69,7 @@ pub fn node_root(l: Layout, nodes: &[u8], edges: &[u8], x: usize) -> u8
     requires { ⌜ x < length (hostOf l (now nodes) (now edges) .nodes) ⌝ }
     ensures { λ r. ⌜ r ≡ nodeAt (hostOf l (now (nodes .entry)) (now (edges .entry))) x .root ⌝ }
 {
-    let b = slots::slot(nodes, l.node, x);
-    b[2]
+    held::root(slots::slot(nodes, l.node, x))
 }
 
 pub fn node_label(l: Layout, nodes: &[u8], edges: &[u8], x: usize) -> Label
@@ -52,16 +77,16 @@ pub fn node_label(l: Layout, nodes: &[u8], edges: &[u8], x: usize) -> Label
     requires { ⌜ x < length (hostOf l (now nodes) (now edges) .nodes) ⌝ }
     ensures { λ r. ⌜ Holds (nodeAt (hostOf l (now (nodes .entry)) (now (edges .entry))) x .label) r ⌝ }
 {
-    labels::read_label(slots::slot(nodes, l.node, x), 4)
+    read_label(slots::slot(nodes, l.node, x), Place::NODE_ATOMS)
 }
 
 // How many atoms its label has.
 pub fn node_length(l: Layout, nodes: &[u8], edges: &[u8], x: usize) -> usize
     requires { ⌜ Legal l (now nodes) (now edges) ⌝ }
     requires { ⌜ x < length (hostOf l (now nodes) (now edges) .nodes) ⌝ }
-    ensures { λ r. ⌜ (r ≡ length (nodeAt (hostOf l (now (nodes .entry)) (now (edges .entry))) x .label)) × (r ≤ 8) ⌝ }
+    ensures { λ r. ⌜ (r ≡ length (nodeAt (hostOf l (now (nodes .entry)) (now (edges .entry))) x .label)) × (r ≤ mostAtoms) ⌝ }
 {
-    labels::read_length(slots::slot(nodes, l.node, x))
+    held::atom_count(slots::slot(nodes, l.node, x))
 }
 
 // Atom k of its label.
@@ -70,7 +95,7 @@ pub fn node_atom(l: Layout, nodes: &[u8], edges: &[u8], x: usize, k: usize) -> u
     requires { ⌜ (x < length (hostOf l (now nodes) (now edges) .nodes)) × (k < length (nodeAt (hostOf l (now nodes) (now edges)) x .label)) ⌝ }
     ensures { λ r. ⌜ r ≡ getD (nodeAt (hostOf l (now (nodes .entry)) (now (edges .entry))) x .label) k 0 ⌝ }
 {
-    labels::read_atom(slots::slot(nodes, l.node, x), 4, k)
+    held::atom(slots::slot(nodes, l.node, x), Place::NODE_ATOMS, k)
 }
 
 // Edges.
@@ -88,8 +113,7 @@ pub fn edge_live(l: Layout, nodes: &[u8], edges: &[u8], x: usize) -> bool
     requires { ⌜ x < length (hostOf l (now nodes) (now edges) .edges) ⌝ }
     ensures { λ r. ⌜ r ≡ liveAt (hostOf l (now (nodes .entry)) (now (edges .entry)) .edges) x ⌝ }
 {
-    let b = slots::slot(edges, l.edge, x);
-    b[0] != 0
+    held::is_live(slots::slot(edges, l.edge, x))
 }
 
 pub fn edge_mark(l: Layout, nodes: &[u8], edges: &[u8], x: usize) -> u8
@@ -97,8 +121,7 @@ pub fn edge_mark(l: Layout, nodes: &[u8], edges: &[u8], x: usize) -> u8
     requires { ⌜ x < length (hostOf l (now nodes) (now edges) .edges) ⌝ }
     ensures { λ r. ⌜ r ≡ edgeAt (hostOf l (now (nodes .entry)) (now (edges .entry))) x .mark ⌝ }
 {
-    let b = slots::slot(edges, l.edge, x);
-    b[1]
+    held::mark(slots::slot(edges, l.edge, x))
 }
 
 pub fn edge_source(l: Layout, nodes: &[u8], edges: &[u8], x: usize) -> usize
@@ -106,7 +129,7 @@ pub fn edge_source(l: Layout, nodes: &[u8], edges: &[u8], x: usize) -> usize
     requires { ⌜ x < length (hostOf l (now nodes) (now edges) .edges) ⌝ }
     ensures { λ r. ⌜ r ≡ edgeAt (hostOf l (now (nodes .entry)) (now (edges .entry))) x .source ⌝ }
 {
-    slots::slot_number(slots::slot(edges, l.edge, x), 4, l.width)
+    held::source(l, slots::slot(edges, l.edge, x))
 }
 
 pub fn edge_target(l: Layout, nodes: &[u8], edges: &[u8], x: usize) -> usize
@@ -114,8 +137,7 @@ pub fn edge_target(l: Layout, nodes: &[u8], edges: &[u8], x: usize) -> usize
     requires { ⌜ x < length (hostOf l (now nodes) (now edges) .edges) ⌝ }
     ensures { λ r. ⌜ r ≡ edgeAt (hostOf l (now (nodes .entry)) (now (edges .entry))) x .target ⌝ }
 {
-    let w = l.width;
-    slots::slot_number(slots::slot(edges, l.edge, x), 4 + w, w)
+    held::target(l, slots::slot(edges, l.edge, x))
 }
 
 pub fn edge_label(l: Layout, nodes: &[u8], edges: &[u8], x: usize) -> Label
@@ -123,16 +145,16 @@ pub fn edge_label(l: Layout, nodes: &[u8], edges: &[u8], x: usize) -> Label
     requires { ⌜ x < length (hostOf l (now nodes) (now edges) .edges) ⌝ }
     ensures { λ r. ⌜ Holds (edgeAt (hostOf l (now (nodes .entry)) (now (edges .entry))) x .label) r ⌝ }
 {
-    labels::read_label(slots::slot(edges, l.edge, x), 4 + 2 * l.width)
+    read_label(slots::slot(edges, l.edge, x), held::edge_atoms(l))
 }
 
 // How many atoms its label has.
 pub fn edge_length(l: Layout, nodes: &[u8], edges: &[u8], x: usize) -> usize
     requires { ⌜ Legal l (now nodes) (now edges) ⌝ }
     requires { ⌜ x < length (hostOf l (now nodes) (now edges) .edges) ⌝ }
-    ensures { λ r. ⌜ (r ≡ length (edgeAt (hostOf l (now (nodes .entry)) (now (edges .entry))) x .label)) × (r ≤ 8) ⌝ }
+    ensures { λ r. ⌜ (r ≡ length (edgeAt (hostOf l (now (nodes .entry)) (now (edges .entry))) x .label)) × (r ≤ mostAtoms) ⌝ }
 {
-    labels::read_length(slots::slot(edges, l.edge, x))
+    held::atom_count(slots::slot(edges, l.edge, x))
 }
 
 // Atom k of its label.
@@ -141,7 +163,7 @@ pub fn edge_atom(l: Layout, nodes: &[u8], edges: &[u8], x: usize, k: usize) -> u
     requires { ⌜ (x < length (hostOf l (now nodes) (now edges) .edges)) × (k < length (edgeAt (hostOf l (now nodes) (now edges)) x .label)) ⌝ }
     ensures { λ r. ⌜ r ≡ getD (edgeAt (hostOf l (now (nodes .entry)) (now (edges .entry))) x .label) k 0 ⌝ }
 {
-    labels::read_atom(slots::slot(edges, l.edge, x), 4 + 2 * l.width, k)
+    held::atom(slots::slot(edges, l.edge, x), held::edge_atoms(l), k)
 }
 
 // What an edge does.
@@ -219,16 +241,29 @@ pub fn any_runs(l: Layout, nodes: &[u8], edges: &[u8], s: usize, t: usize) -> bo
     false
 }
 
-// How many edges leave slot s.
-pub fn out_degree(l: Layout, nodes: &[u8], edges: &[u8], s: usize) -> usize
+// Whether edge x counts at slot c.
+fn edge_counts(l: Layout, nodes: &[u8], edges: &[u8], which: Incidence, c: usize, x: usize) -> bool
     requires { ⌜ Legal l (now nodes) (now edges) ⌝ }
-    ensures { λ r. ⌜ r ≡ outDegree (hostOf l (now (nodes .entry)) (now (edges .entry))) s ⌝ }
+    requires { ⌜ x < length (hostOf l (now nodes) (now edges) .edges) ⌝ }
+    ensures { λ r. ⌜ r ≡ counts which (hostOf l (now (nodes .entry)) (now (edges .entry))) c x ⌝ }
+{
+    match which {
+        Incidence::Leaving => edge_leaves(l, nodes, edges, c, x),
+        Incidence::Arriving => edge_arrives(l, nodes, edges, c, x),
+        Incidence::Touching => edge_touches(l, nodes, edges, c, x),
+    }
+}
+
+// How many edges count at slot c.
+fn count_edges(l: Layout, nodes: &[u8], edges: &[u8], which: Incidence, c: usize) -> usize
+    requires { ⌜ Legal l (now nodes) (now edges) ⌝ }
+    ensures { λ r. ⌜ r ≡ count (counts which (hostOf l (now (nodes .entry)) (now (edges .entry))) c) (length (hostOf l (now (nodes .entry)) (now (edges .entry)) .edges)) ⌝ }
 {
     let n = edge_slots(l, edges);
     let mut x: usize = 0;
     let mut d: usize = 0;
     while x < n {
-        if edge_leaves(l, nodes, edges, s, x) {
+        if edge_counts(l, nodes, edges, which, c, x) {
             d += 1;
             x += 1;
         } else {
@@ -236,6 +271,14 @@ pub fn out_degree(l: Layout, nodes: &[u8], edges: &[u8], s: usize) -> usize
         }
     }
     d
+}
+
+// How many edges leave slot s.
+pub fn out_degree(l: Layout, nodes: &[u8], edges: &[u8], s: usize) -> usize
+    requires { ⌜ Legal l (now nodes) (now edges) ⌝ }
+    ensures { λ r. ⌜ r ≡ outDegree (hostOf l (now (nodes .entry)) (now (edges .entry))) s ⌝ }
+{
+    count_edges(l, nodes, edges, Incidence::Leaving, s)
 }
 
 // How many edges arrive at slot t from another.
@@ -243,18 +286,7 @@ pub fn in_degree(l: Layout, nodes: &[u8], edges: &[u8], t: usize) -> usize
     requires { ⌜ Legal l (now nodes) (now edges) ⌝ }
     ensures { λ r. ⌜ r ≡ inDegree (hostOf l (now (nodes .entry)) (now (edges .entry))) t ⌝ }
 {
-    let n = edge_slots(l, edges);
-    let mut x: usize = 0;
-    let mut d: usize = 0;
-    while x < n {
-        if edge_arrives(l, nodes, edges, t, x) {
-            d += 1;
-            x += 1;
-        } else {
-            x += 1;
-        }
-    }
-    d
+    count_edges(l, nodes, edges, Incidence::Arriving, t)
 }
 
 // How many edges touch slot c, a loop counted once.
@@ -262,16 +294,5 @@ pub fn degree(l: Layout, nodes: &[u8], edges: &[u8], c: usize) -> usize
     requires { ⌜ Legal l (now nodes) (now edges) ⌝ }
     ensures { λ r. ⌜ r ≡ count (touches (hostOf l (now (nodes .entry)) (now (edges .entry))) c) (length (hostOf l (now (nodes .entry)) (now (edges .entry)) .edges)) ⌝ }
 {
-    let n = edge_slots(l, edges);
-    let mut x: usize = 0;
-    let mut d: usize = 0;
-    while x < n {
-        if edge_touches(l, nodes, edges, c, x) {
-            d += 1;
-            x += 1;
-        } else {
-            x += 1;
-        }
-    }
-    d
+    count_edges(l, nodes, edges, Incidence::Touching, c)
 }

@@ -4,40 +4,53 @@ ghost use lib.ListN.{length};
 ghost use Rattle.meaning.specs.Basics.{every};
 ghost use Rattle.meaning.specs.Layout.{Sized, keepsNode, keepsEdge, keepsLayout, isEdgeMark, readNodes, nodeLength, edgeLength, cut};
 use meaning::Layout;
+use slots::held;
+use slots::held::Place;
+use slots::held::SlotState;
+
+// The marks at the ends of their ranges: blue is the last that nodes and edges share, grey is for nodes, dashed for edges.
+pub struct Mark {}
+
+impl Mark {
+    pub const BLUE: u8 = 3;
+
+    pub const GREY: u8 = 4;
+
+    pub const DASHED: u8 = 5;
+}
 
 fn keeps_node(l: Layout, b: &[u8]) -> bool
     requires { ⌜ Sized l ⌝ }
     requires { ⌜ length (now b) ≡ nodeLength l ⌝ }
     ensures { λ r. ⌜ r ≡ keepsNode l (now (b .entry)) ⌝ }
 {
-    let state = b[0];
-    if state == 0 {
-        return slots::zeros_from(b, 0);
+    let state = held::state(b);
+    if state == SlotState::FREE {
+        return slots::bytes::zeros_from(b, 0);
     }
-    if state != 1 {
+    if state != SlotState::LIVE {
         return false;
     }
-    if b[1] > 4 {
+    if held::mark(b) > Mark::GREY {
         return false;
     }
-    if b[2] > 1 {
+    if held::root(b) > 1 {
         return false;
     }
-    let n = fields::wide(b[3]);
-    if n > l.atoms {
+    if held::atom_count(b) > l.atoms {
         return false;
     }
-    slots::zeros_from(b, 4 + 4 * n)
+    held::zeros_behind(b, Place::NODE_ATOMS)
 }
 
 // Whether an edge's mark is one for edges.
 fn is_edge_mark(mark: u8) -> bool
     ensures { λ r. ⌜ r ≡ isEdgeMark mark ⌝ }
 {
-    if mark <= 3 {
+    if mark <= Mark::BLUE {
         return true;
     }
-    mark == 5
+    mark == Mark::DASHED
 }
 
 fn keeps_edge(l: Layout, nodes: &[u8], b: &[u8]) -> bool
@@ -45,31 +58,29 @@ fn keeps_edge(l: Layout, nodes: &[u8], b: &[u8]) -> bool
     requires { ⌜ length (now b) ≡ edgeLength l ⌝ }
     ensures { λ r. ⌜ r ≡ keepsEdge l (readNodes l (now (nodes .entry))) (now (b .entry)) ⌝ }
 {
-    let state = b[0];
-    if state == 0 {
-        return slots::zeros_from(b, 0);
+    let state = held::state(b);
+    if state == SlotState::FREE {
+        return slots::bytes::zeros_from(b, 0);
     }
-    if state != 1 {
+    if state != SlotState::LIVE {
         return false;
     }
-    if !is_edge_mark(b[1]) {
+    if !is_edge_mark(held::mark(b)) {
         return false;
     }
-    if b[2] != 0 {
+    if held::root(b) != 0 {
         return false;
     }
-    let n = fields::wide(b[3]);
-    if n > l.atoms {
+    if held::atom_count(b) > l.atoms {
         return false;
     }
-    let width = l.width;
-    if !slots::live_slot(nodes, l.node, slots::slot_number(b, 4, width)) {
+    if !slots::live_slot(nodes, l.node, held::source(l, b)) {
         return false;
     }
-    if !slots::live_slot(nodes, l.node, slots::slot_number(b, 4 + width, width)) {
+    if !slots::live_slot(nodes, l.node, held::target(l, b)) {
         return false;
     }
-    slots::zeros_from(b, 4 + 2 * width + 4 * n)
+    held::zeros_behind(b, held::edge_atoms(l))
 }
 
 fn keep_nodes(l: Layout, nodes: &[u8]) -> bool

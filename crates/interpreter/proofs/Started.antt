@@ -25,6 +25,7 @@ use Rattle.meaning.specs.declared.Answer.{Answer}
 use Rattle.meaning.specs.declared.Answer.the-variants.{Fail, Stopped as stoppedBy}
 use Rattle.meaning.specs.declared.End.{End}
 use Rattle.meaning.specs.declared.End.the-variants.{Done, Failed, Broke, Stopped}
+use Rattle.answers.specs.Answers.{reportLength}
 use Rattle.ledger.specs.Running.{journalOf, ledgerOf, Running, outOf}
 use Rattle.ledger.specs.Whole.{records-count, running-legal, running-start}
 use Rattle.meaning.specs.declared.Ran.{Ran}
@@ -54,7 +55,7 @@ module _ (L : Layout) (nodes edges journal image : List ℕ) (fuel : ℕ) (repor
     input : Accepted L (lending nodes edges journal image fuel report)
     input = accepted L (lending nodes edges journal image fuel report) e
 
-    pub report-size : length report ≡ 8
+    pub report-size : length report ≡ reportLength
     report-size = input .reportSize
 
     abbrev blank : List ℕ

@@ -9,10 +9,10 @@ use native.Mathlib.Nat.{add-mul, mul-le-mul-right, div-mul-le-self}
 use borrow.Author.Tests.{ne-eqb, le-leb, lt-leb}
 use borrow.Rule.Slice.PartMut.{putMid}
 use lib.Dec.{eqb, ltb}
-use lib.ListN.{length, getD, set, take, drop, replicate, length-append, length-set, length-take, length-drop, length-replicate, replicate-append-replicate}
-use lib.Seq.{take-at, drop-at, drop-cons, drop-drop, length-take-le}
+use lib.ListN.{length, getD, set, take, drop, replicate, length-append, length-set, length-take, length-drop, length-replicate}
+use lib.Seq.{drop-cons, drop-drop, length-take-le}
 use Rattle.meaning.specs.Basics.{both, either, clauses, every, zeros, padded}
-use Rattle.meaning.specs.Numbers.{number, bytes}
+use Rattle.meaning.specs.Numbers.{bytes}
 use Rattle.meaning.specs.Layout.{Sized, Tables, ofNode, ofEdge, put, undone, nodeLength, edgeLength, recordLength, pieces, cut, slotOf, readRecord, keepsRecord}
 use Rattle.meaning.specs.Calls.{keepsRecords}
 use Rattle.meaning.specs.Laws.Tests.{both-yes, both-no, both-last, every-true, choose-eq, choose-ne}

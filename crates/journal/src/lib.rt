@@ -10,6 +10,19 @@ ghost use Rattle.laws.specs.Pieces.{stored};
 ghost use Rattle.journal.specs.Journal.{tablesOf, recordsFrom, putBack, clearedFrom};
 use meaning::Layout;
 
+// A record: its kind, filled with zeros to the width of a slot number, the slot number, the bytes before.
+pub struct Record {}
+
+impl Record {
+    // Where its kind lies.
+    pub const KIND: usize = 0;
+
+    // The kind of a node's record, and of an edge's.
+    pub const NODE: u8 = 1;
+
+    pub const EDGE: u8 = 2;
+}
+
 // Writes one record: kind, slot number, the bytes before, zeros behind them.
 fn put_record(l: Layout, to: &mut [u8], kind: u8, i: usize, old: &[u8])
     requires { ⌜ Sized l ⌝ }
@@ -19,10 +32,10 @@ fn put_record(l: Layout, to: &mut [u8], kind: u8, i: usize, old: &[u8])
     let width = l.width;
     let start = 2 * width;
     let end = start + old.len();
-    slots::clear(to);
-    to[0] = kind;
-    slots::put_number(&mut to[width..start], i);
-    slots::copy(&mut to[start..end], old);
+    slots::bytes::clear(to);
+    to[Record::KIND] = kind;
+    slots::bytes::put_number(&mut to[width..start], i);
+    slots::bytes::copy(&mut to[start..end], old);
 }
 
 // Appends record number `used`: what slot i of a table of this kind held before.
@@ -32,7 +45,7 @@ pub fn append(l: Layout, journal: &mut [u8], used: usize, kind: u8, i: usize, ol
     ensures { λ _. ⌜ now (journal .exit) ≡ stored (recordLength l) used (recordBytes l kind i (now (old .entry))) (now (journal .entry)) ⌝ }
 {
     let w = l.change;
-    let start = used * w;
+    let start = slots::slot_start(journal.len(), w, used);
     let end = start + w;
     put_record(l, &mut journal[start..end], kind, i, old);
 }
@@ -58,12 +71,12 @@ fn keeps_record(l: Layout, b: &[u8], nodes: usize, edges: usize) -> bool
     if !filled(b, width) {
         return false;
     }
-    let i = slots::slot_number(b, width, width);
-    let kind = b[0];
-    if kind == 1 {
+    let i = slots::bytes::slot_number(b, width, width);
+    let kind = b[Record::KIND];
+    if kind == Record::NODE {
         return i < nodes;
     }
-    if kind == 2 {
+    if kind == Record::EDGE {
         return i < edges;
     }
     false
@@ -100,9 +113,9 @@ fn put_back(l: Layout, nodes: &mut [u8], edges: &mut [u8], b: &[u8])
 {
     let width = l.width;
     let start = 2 * width;
-    let i = slots::slot_number(b, width, width);
-    let kind = b[0];
-    if kind == 1 {
+    let i = slots::bytes::slot_number(b, width, width);
+    let kind = b[Record::KIND];
+    if kind == Record::NODE {
         let w = l.node;
         slots::put_slot(nodes, w, i, fields::part(b, start, start + w));
     } else {
@@ -151,5 +164,5 @@ pub fn undo_to(
     let w = l.change;
     let start = mark * w;
     let end = used * w;
-    slots::clear(&mut journal[start..end]);
+    slots::bytes::clear(&mut journal[start..end]);
 }

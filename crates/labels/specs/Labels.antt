@@ -1,9 +1,10 @@
--- What a label in hand holds. Rests on the meaning's Numbers.
+-- What a label in hand holds. Rests on the meaning's Numbers and Layout.
 use mathlib.Core.Path.{_≡_}
 use mathlib.Core.List.{List}
 use Prim.Native.Nat.{ℕ, _<_, _≤_}
 use lib.ListN.{length, getD, take}
 use Rattle.meaning.specs.Numbers.{whole}
+use Rattle.meaning.specs.Layout.{mostAtoms}
 use Rattle.labels.specs.declared.Label.{Label}
 
 -- the label's atoms
@@ -12,8 +13,8 @@ atomsIn a = take (a .len) (a .atoms)
 
 -- the label has room for its atoms, and each is a word
 pub record Held (a : Label) : Type 0 where
-  pub few : a .len ≤ 8
-  pub room : length (a .atoms) ≡ 8
+  pub few : a .len ≤ mostAtoms
+  pub room : length (a .atoms) ≡ mostAtoms
   pub small : (i : ℕ) → getD (a .atoms) i 0 < whole
 
 -- and they are these

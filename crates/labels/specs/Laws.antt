@@ -3,7 +3,7 @@
 use mathlib.Core.Path.{_≡_, refl, sym, _∙_, ap}
 use mathlib.Core.Bool.{Bool, true, false}
 use mathlib.Core.List.{List, [], _∷_, _++_}
-use Prim.Native.Nat.{ℕ, _+_, _-_, _*_, _<_, _≤_}
+use Prim.Native.Nat.{ℕ, _+_, _-_, _<_, _≤_}
 use native.Mathlib.Omega.{arith}
 use native.Mathlib.Numerals.{add-one}
 use native.Mathlib.Decide.{ℕ-discrete}
@@ -12,25 +12,24 @@ use lib.Dec.{eqb}
 use lib.ListN.{length, getD, set, take, drop, replicate, length-take, length-drop, length-set, drop-of-length-le}
 use lib.Seq.{length-take-le, take-all, take-nil, take-suc, take-suc-set, getD-set-same, getD-set-other, getD-take, getD-drop, drop-cons, drop-drop, ext-getD}
 use Rattle.meaning.specs.Basics.{both, same}
-use Rattle.meaning.specs.Numbers.{number, whole}
-use Rattle.meaning.specs.Layout.{atoms}
+use Rattle.meaning.specs.Numbers.{whole}
+use Rattle.meaning.specs.Layout.{mostAtoms}
 use Rattle.meaning.specs.Laws.Tests.{same-true, same-of, zero-at}
-use Rattle.laws.specs.Layout.{length-atoms, getD-atoms}
 use Rattle.labels.specs.Labels.{atomsIn, Held, Holds}
 use Rattle.labels.specs.declared.Label.{Label}
 
 -- Filling a label.
 
--- the first j of eight words are those of the list
+-- the first j of the words are those of the list
 pub record Filled (m : List ℕ) (j : ℕ) (l : List ℕ) : Type 0 where
-  pub room : length l ≡ 8
+  pub room : length l ≡ mostAtoms
   pub small : (i : ℕ) → getD l i 0 < whole
   pub front : take j l ≡ take j m
 
-pub filled-none : (m : List ℕ) → Filled m 0 (replicate 8 0)
-filled-none m = record { room = refl; small = λ i. omega (arith, zero-at 8 i); front = refl }
+pub filled-none : (m : List ℕ) → Filled m 0 (replicate mostAtoms 0)
+filled-none m = record { room = refl; small = λ i. omega (arith, zero-at mostAtoms i); front = refl }
 
-pub filled-more : (m l : List ℕ) (j v : ℕ) → Filled m j l → j < 8 → j < length m → v < whole → v ≡ getD m j 0
+pub filled-more : (m l : List ℕ) (j v : ℕ) → Filled m j l → j < mostAtoms → j < length m → v < whole → v ≡ getD m j 0
     → Filled m (j + 1) (set l j v)
 filled-more m l j v f h k s e =
     let r = f .room in
@@ -44,7 +43,7 @@ filled-more m l j v f h k s e =
     go i (yes q) = let r = f .room in rw (q, getD-set-same l j v 0 (omega arith)) s
     go i (no q) = rw (getD-set-other l j i v 0 q) (f .small i)
 
-pub filled-all : (m l : List ℕ) (n : ℕ) → Filled m n l → n ≤ 8 → n ≡ length m → Holds m (record { len = n; atoms = l })
+pub filled-all : (m l : List ℕ) (n : ℕ) → Filled m n l → n ≤ mostAtoms → n ≡ length m → Holds m (record { len = n; atoms = l })
 filled-all m l n f h e =
     record {
       held = record { few = h; room = f .room; small = f .small };
@@ -54,12 +53,6 @@ filled-all m l n f h e =
 -- how many atoms a label in hand has
 pub held-length : (a : Label) → Held a → length (atomsIn a) ≡ a .len
 held-length a h = let f = h .few in let r = h .room in length-take-le (a .len) (a .atoms) (omega arith)
-
--- atom j of a slot, from its own bytes
-pub atoms-from : (n j start : ℕ) (bs : List ℕ) → j < n → number (take 4 (drop (start + 4 * j) bs)) ≡ getD (atoms n (drop start bs)) j 0
-atoms-from n j start bs h =
-    let e : 4 * j ≡ j * 4 = omega arith in
-    sym (getD-atoms n (drop start bs) j h ∙ rw (drop-drop (j * 4) start bs, e))
 
 -- A part of a label.
 
@@ -116,16 +109,6 @@ cut-rest a r from n h k e =
     let i = held-length a h in
     let d = length-drop from (atomsIn a) in
     rw (take-all n (drop from (atomsIn a)) (omega arith)) (rw (take-all (a .len - from) (drop from (atomsIn a)) (omega arith)) at e)
-
--- reading a slot's label
-module _ (b : List ℕ) (start n j : ℕ) (l : List ℕ) (few : n ≤ 8) (f : Filled (atoms n (drop start b)) j l) where
-  pub read-more : (v : ℕ) → v ≡ number (take 4 (drop (start + 4 * j) b)) → v < whole → j < n → Filled (atoms n (drop start b)) (j + 1) (set l j v)
-  read-more v e s k =
-      let i = length-atoms n (drop start b) in
-      filled-more _ l j v f (omega arith) (omega arith) s (e ∙ atoms-from n j start b k)
-
-  pub read-all : n ≡ getD b 3 0 → j ≡ n → Holds (atoms (getD b 3 0) (drop start b)) (record { len = n; atoms = l })
-  read-all e q = rw (← e) (filled-all _ l n (rw q at f) few (sym (length-atoms n (drop start b))))
 
 -- Comparing.
 

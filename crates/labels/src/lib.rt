@@ -1,18 +1,21 @@
-// Labels copied out of tables: a part of one, and whether one has an atom or a part of another at a place; the height of an atom.
+// Labels in hand: a part of one, and whether one has an atom or a part of another at a place; the height of an atom.
 ghost use mathlib.Core.Path.{_≡_};
 ghost use mathlib.Core.Bool.{true};
 ghost use mathlib.Core.List.{[], _∷_};
-ghost use Prim.Native.Nat.{_+_, _*_, _<_, _≤_};
-ghost use lib.ListN.{length, getD, take, drop};
+ghost use Prim.Native.Nat.{_+_, _<_, _≤_};
+ghost use lib.ListN.{take, drop};
 ghost use Rattle.meaning.specs.Basics.{same};
 ghost use Rattle.meaning.specs.Numbers.{height};
 ghost use Rattle.meaning.specs.Layout.{atoms};
 ghost use Rattle.labels.specs.Labels.{atomsIn, Held, Holds};
 
+// The most atoms of a label that there is room for, at any layout.
+pub const MOST: usize = 8;
+
 // A label copied out of a table. Two labels are compared as copies.
 pub struct Label {
     pub len: usize,
-    pub atoms: [u32; 8],
+    pub atoms: [u32; MOST],
 }
 
 pub fn none() -> Label
@@ -20,54 +23,19 @@ pub fn none() -> Label
 {
     Label {
         len: 0,
-        atoms: [0u32; 8],
+        atoms: [0u32; MOST],
     }
 }
 
 pub fn one(x: u32) -> Label
     ensures { λ r. ⌜ Holds (x ∷ []) r ⌝ }
 {
-    let mut atoms = [0u32; 8];
+    let mut atoms = [0u32; MOST];
     atoms[0] = x;
     Label {
         len: 1,
         atoms: atoms,
     }
-}
-
-// The label of a slot whose atoms start at a place.
-pub fn read_label(b: &[u8], start: usize) -> Label
-    requires { ⌜ (3 < length (now b)) × (getD (now b) 3 0 ≤ 8) × (start + 4 * getD (now b) 3 0 ≤ length (now b)) ⌝ }
-    ensures { λ r. ⌜ Holds (atoms (getD (now (b .entry)) 3 0) (drop start (now (b .entry)))) r ⌝ }
-{
-    let len = fields::wide(b[3]);
-    let mut atoms = [0u32; 8];
-    let mut j: usize = 0;
-    while j < len {
-        atoms[j] = fields::number4(b, start + 4 * j) as u32;
-        j += 1;
-    }
-    Label {
-        len: len,
-        atoms: atoms,
-    }
-}
-
-// How many atoms the label of a slot has.
-pub fn read_length(b: &[u8]) -> usize
-    requires { ⌜ 3 < length (now b) ⌝ }
-    ensures { λ r. ⌜ r ≡ getD (now (b .entry)) 3 0 ⌝ }
-{
-    fields::wide(b[3])
-}
-
-// Atom k of the label of a slot whose atoms start at a place.
-pub fn read_atom(b: &[u8], start: usize, k: usize) -> u32
-    requires { ⌜ (3 < length (now b)) × (getD (now b) 3 0 ≤ 8) × (start + 4 * getD (now b) 3 0 ≤ length (now b)) ⌝ }
-    requires { ⌜ k < getD (now b) 3 0 ⌝ }
-    ensures { λ r. ⌜ r ≡ getD (atoms (getD (now (b .entry)) 3 0) (drop start (now (b .entry)))) k 0 ⌝ }
-{
-    fields::number4(b, start + 4 * k) as u32
 }
 
 // The n atoms of a label from a place on.
@@ -76,7 +44,7 @@ fn copied(a: Label, from: usize, n: usize) -> Label
     ensures { λ r. ⌜ Holds (take n (drop from (atomsIn a))) r ⌝ }
 {
     let whole = a.atoms;
-    let mut atoms = [0u32; 8];
+    let mut atoms = [0u32; MOST];
     let mut j: usize = 0;
     while j < n {
         atoms[j] = whole[from + j];

@@ -6,7 +6,7 @@ use mathlib.Core.List.{List, map, reverse}
 use Prim.Native.Nat.{ℕ, _/_, _^_, _≤_}
 use lib.ListN.{length, getD}
 use Rattle.meaning.specs.Basics.{concat, padded}
-use Rattle.meaning.specs.Layout.{Slot, Node, Edge, free, Change, Sized, nodeLength, edgeLength, recordLength, fitsTable, pieces, readNode, readEdge, readNodes, readEdges, hostOf, writeNodes, writeEdges, writeRecord, readRecord}
+use Rattle.meaning.specs.Layout.{Slot, Node, Edge, free, Change, Sized, nodeLength, edgeLength, recordLength, fitsTable, pieces, readNode, readEdge, readNodes, readEdges, hostOf, writeNodes, writeEdges, writeRecord, readRecord, mostAtoms}
 use Rattle.meaning.specs.Applying.{Ledger, ledgerAt}
 use Rattle.meaning.specs.Commands.{State, stateAt, Out, ends}
 use Rattle.meaning.specs.Laws.Every.{Every}
@@ -41,7 +41,7 @@ module _ (L : Layout) where
   -- with zeros behind them, and slots and records are legal
   pub record Held (nodes edges journal : List ℕ) (used : ℕ) : Type 0 where
     pub sized : Sized L
-    pub few : L .atoms ≤ 8
+    pub few : L .atoms ≤ mostAtoms
     pub nodeNumbers : L .nodes ≤ 256 ^ L .width
     pub edgeNumbers : L .edges ≤ 256 ^ L .width
     pub nodesFit : fitsTable (nodeLength L) (L .nodes) nodes ≡ true

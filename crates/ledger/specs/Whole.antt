@@ -7,7 +7,7 @@ use Prim.Native.Nat.{ℕ, _-_, _/_, _^_, _≤_}
 use native.Mathlib.Omega.{arith}
 use lib.ListN.{length, replicate}
 use Rattle.meaning.specs.Basics.{concat}
-use Rattle.meaning.specs.Layout.{Sized, nodeLength, edgeLength, recordLength, fitsTable, pieces, readNode, readEdge, keepsLayout}
+use Rattle.meaning.specs.Layout.{Sized, nodeLength, edgeLength, recordLength, fitsTable, pieces, readNode, readEdge, keepsLayout, mostAtoms}
 use Rattle.meaning.specs.Applying.{Ledger}
 use Rattle.laws.specs.Numbers.{Bytes}
 use Rattle.laws.specs.Pieces.{length-read, fits-length}
@@ -55,7 +55,7 @@ module _ (L : Layout) (nodes edges journal : List ℕ) (used : ℕ) where
 
 -- The start: tables that keep the layout, and a journal of zeros.
 
-pub running-start : (L : Layout) (nodes edges journal : List ℕ) → Sized L → L .atoms ≤ 8
+pub running-start : (L : Layout) (nodes edges journal : List ℕ) → Sized L → L .atoms ≤ mostAtoms
     → (L .nodes ≤ 256 ^ L .width) × (L .edges ≤ 256 ^ L .width)
     → (fitsTable (nodeLength L) (L .nodes) nodes ≡ true)
     × (fitsTable (edgeLength L) (L .edges) edges ≡ true)

@@ -10,6 +10,7 @@ ghost use Rattle.laws.specs.Hosts.{LegalNode, LegalEdge};
 ghost use Rattle.ledger.specs.Running.{ledgerOf, Held, Leads};
 ghost use Rattle.ledger.specs.Changes.{Went, goes, Below};
 ghost use Rattle.ledger.specs.Rooms.{stopOf, lacking};
+use journal::Record;
 use meaning::Layout;
 use meaning::Stop;
 
@@ -32,7 +33,14 @@ pub fn free_node(
     requires { ⌜ (x < length (now nodes) / nodeLength l) × (used < length (now journal) / recordLength l) ⌝ }
     ensures { λ _. ⌜ Leads l (store (ofNode x free) (ledgerOf l (now (nodes .entry)) (now (edges .entry)) (now (journal .entry)) used)) (now (nodes .exit)) (now (edges .entry)) (now (journal .exit)) (used + 1) ⌝ }
 {
-    journal::append(l, journal, used, 1, x, slots::slot(&nodes[..], l.node, x));
+    journal::append(
+        l,
+        journal,
+        used,
+        Record::NODE,
+        x,
+        slots::slot(&nodes[..], l.node, x),
+    );
     slots::free_slot(nodes, l.node, x);
 }
 
@@ -49,7 +57,14 @@ pub fn free_edge(
     requires { ⌜ (x < length (now edges) / edgeLength l) × (used < length (now journal) / recordLength l) ⌝ }
     ensures { λ _. ⌜ Leads l (store (ofEdge x free) (ledgerOf l (now (nodes .entry)) (now (edges .entry)) (now (journal .entry)) used)) (now (nodes .entry)) (now (edges .exit)) (now (journal .exit)) (used + 1) ⌝ }
 {
-    journal::append(l, journal, used, 2, x, slots::slot(&edges[..], l.edge, x));
+    journal::append(
+        l,
+        journal,
+        used,
+        Record::EDGE,
+        x,
+        slots::slot(&edges[..], l.edge, x),
+    );
     slots::free_slot(edges, l.edge, x);
 }
 
@@ -70,7 +85,14 @@ pub fn store_node(
     requires { ⌜ LegalNode l (record { mark = mark; root = root; label = now label }) ⌝ }
     ensures { λ _. ⌜ Leads l (store (ofNode x (live (record { mark = mark; root = root; label = now (label .entry) }))) (ledgerOf l (now (nodes .entry)) (now (edges .entry)) (now (journal .entry)) used)) (now (nodes .exit)) (now (edges .entry)) (now (journal .exit)) (used + 1) ⌝ }
 {
-    journal::append(l, journal, used, 1, x, slots::slot(&nodes[..], l.node, x));
+    journal::append(
+        l,
+        journal,
+        used,
+        Record::NODE,
+        x,
+        slots::slot(&nodes[..], l.node, x),
+    );
     slots::store_node(l, nodes, x, mark, root, label);
 }
 
@@ -92,7 +114,14 @@ pub fn store_edge(
     requires { ⌜ LegalEdge l (record { mark = mark; source = source; target = target; label = now label }) ⌝ }
     ensures { λ _. ⌜ Leads l (store (ofEdge x (live (record { mark = mark; source = source; target = target; label = now (label .entry) }))) (ledgerOf l (now (nodes .entry)) (now (edges .entry)) (now (journal .entry)) used)) (now (nodes .entry)) (now (edges .exit)) (now (journal .exit)) (used + 1) ⌝ }
 {
-    journal::append(l, journal, used, 2, x, slots::slot(&edges[..], l.edge, x));
+    journal::append(
+        l,
+        journal,
+        used,
+        Record::EDGE,
+        x,
+        slots::slot(&edges[..], l.edge, x),
+    );
     slots::store_edge(l, edges, x, mark, source, target, label);
 }
 
@@ -181,10 +210,11 @@ fn on_free_node(l: Layout, nodes: &[u8], edges: &[u8], x: usize) -> bool
     if !slots::live_slot(edges, l.edge, x) {
         return false;
     }
-    if !slots::live_slot(nodes, l.node, slots::edge_source(l, edges, x)) {
+    let b = slots::slot(edges, l.edge, x);
+    if !slots::live_slot(nodes, l.node, slots::held::source(l, b)) {
         return true;
     }
-    !slots::live_slot(nodes, l.node, slots::edge_target(l, edges, x))
+    !slots::live_slot(nodes, l.node, slots::held::target(l, b))
 }
 
 // Whether some live edge has an end on a free node.

@@ -8,8 +8,8 @@ use Prim.Native.Nat.{ℕ, _+_, _/_, _<_, _≤_}
 use lib.ListN.{length, getD, take}
 use lib.Dec.{eqb}
 use Rattle.meaning.specs.Basics.{choose}
-use Rattle.meaning.specs.Layout.{Node, Edge, Host, free, liveAt, nodeLength, recordLength, readNodes, readEdges}
-use Rattle.meaning.specs.Image.{RuleNode, RuleEdge, Rule, ruleNode, ruleEdge, ruleGraph, mostItems}
+use Rattle.meaning.specs.Layout.{Node, Edge, Host, free, liveAt, nodeLength, recordLength, readNodes, readEdges, mostAtoms}
+use Rattle.meaning.specs.Image.{RuleNode, RuleEdge, Rule, ruleNode, ruleEdge, ruleGraph, limits, mostItems}
 use Rattle.meaning.specs.Tags.{anyMark}
 use Rattle.meaning.specs.References.{names}
 use Rattle.meaning.specs.Matching.{nodeIn, nodeAt, nodeSlot}
@@ -42,7 +42,7 @@ module _ (L : Layout) where
   -- the bytes are a right node, and the node is what it comes to under the values in the arrays, but for its mark
   pub record NodeMade (p lens atoms : List ℕ) : Type 0 where
     pub stored : Stored lens atoms
-    pub few : L .atoms ≤ 8
+    pub few : L .atoms ≤ mostAtoms
     pub rule : RuleNode
     pub is : ruleNode p ≡ some rule
     pub node : Node
@@ -65,7 +65,7 @@ module _ (L : Layout) where
   -- are the places
   pub record Joins (p lens atoms places : List ℕ) : Type 0 where
     pub stored : Stored lens atoms
-    pub few : L .atoms ≤ 8
+    pub few : L .atoms ≤ mostAtoms
     pub room : length places ≡ mostItems
     pub rule : RuleEdge
     pub is : ruleEdge p ≡ some rule
@@ -82,7 +82,7 @@ module _ (L : Layout) where
   -- the bytes are a right graph whose first k nodes are the interface, and `right` is what it comes to
   pub record Made (bs lens atoms : List ℕ) (k : ℕ) : Type 0 where
     pub stored : Stored lens atoms
-    pub few : L .atoms ≤ 8
+    pub few : L .atoms ≤ mostAtoms
     pub host : Host
     pub tree : Rule
     pub slots : List ℕ
@@ -93,7 +93,7 @@ module _ (L : Layout) where
     pub legal : LegalRight L right
     pub nodesLong : length (right .nodes) ≡ length (tree .right .nodes)
     pub edgesLong : length (right .edges) ≡ length (tree .right .edges)
-    pub fewNodes : length (tree .right .nodes) ≤ 6
+    pub fewNodes : length (tree .right .nodes) ≤ limits .nodes
     pub inside : k ≤ length (tree .right .nodes)
     pub marked : (j : ℕ) → k ≤ j → j < length (tree .right .nodes) → eqb (getD (tree .right .nodes) j blankRule .mark) anyMark ≡ false
 

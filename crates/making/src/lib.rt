@@ -35,7 +35,7 @@ fn take_values(
     let len = label.len;
     let words = label.atoms;
     if p[0] == Mark::ANY {
-        let mark = slots::node_mark(l, &nodes[..], x);
+        let mark = slots::held::mark(slots::slot(&nodes[..], l.node, x));
         ledger::store_node(l, nodes, edges, journal, used, x, mark, p[1], &words[..len]);
         return;
     }

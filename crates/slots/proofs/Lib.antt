@@ -1,3 +1,3 @@
-mod Bytes
+mod Loops
 mod Slots
-mod Held
+mod Written

@@ -1,32 +1,22 @@
--- Laws of slots: where a slot lies in its table, and what its first byte says.
-use Prim.Native.Nat.{ℕ, suc, _+_, _-_, _*_, _/_, _<_, _≤_}
+-- Laws of slots: whether one is live, and the search for free ones.
+use Prim.Native.Nat.{ℕ, suc, _+_, _-_, _/_, _<_, _≤_}
 use mathlib.Core.Path.{_≡_, refl, sym, _∙_, ap}
-use mathlib.Core.List.{List, [], _∷_, _++_, append-assoc}
-use mathlib.Core.Bool.{true, false, not}
+use mathlib.Core.List.{List, [], _∷_}
+use mathlib.Core.Bool.{true, false}
 use native.Mathlib.Omega.{arith}
 use native.Mathlib.Numerals.{add-one}
-use lib.Dec.{eqb}
-use lib.ListN.{length, getD, take, drop, List·getD-eq-default, length-map, drop-of-length-le}
-use lib.Seq.{drop-cons, drop-drop, getD-drop, getD-take}
+use lib.ListN.{length, getD, drop, List·getD-eq-default, length-map, drop-of-length-le}
+use lib.Seq.{drop-cons}
 use Rattle.meaning.specs.Layout.{Slot, free, live, isLive, liveAt, cut}
 use Rattle.meaning.specs.Applying.{lowestFree, freeSlots}
-use Rattle.laws.specs.Pieces.{getD-map, length-pieces, getD-pieces, stored}
+use Rattle.laws.specs.Pieces.{getD-map, length-pieces}
 use Rattle.slots.specs.Slots.{stateOf, states}
-use Rattle.slots.specs.States.{state-byte}
 
--- The state of slot i is its first byte.
+-- The state of slot i, by its bytes.
 
-pub first-byte : (w i : ℕ) (bs : List ℕ) → 0 < w → i < length bs / w → getD (getD (cut w bs) i []) 0 0 ≡ getD bs (i * w) 0
-first-byte w i bs h k =
-    let e : i * w + 0 ≡ i * w = omega arith in
-    rw (getD-pieces w (length bs / w) bs i k, getD-take w (drop (i * w) bs) 0 0 h, getD-drop (i * w) bs 0 0, e)
-
-getD-states : (w i : ℕ) (bs : List ℕ) → i < length bs / w → getD (states w bs) i free ≡ stateOf (getD (cut w bs) i [])
-getD-states w i bs h = getD-map stateOf (cut w bs) i [] free (rw length-pieces h)
-
-pub live-there : (w i : ℕ) (bs : List ℕ) → 0 < w → i < length bs / w → not (eqb (getD bs (i * w) 0) 0) ≡ liveAt (states w bs) i
-live-there w i bs h k =
-    sym (ap isLive (getD-states w i bs k) ∙ state-byte (getD (cut w bs) i []) ∙ ap (λ (n : ℕ). not (eqb n 0)) (first-byte w i bs h k))
+pub live-there : (w i : ℕ) (bs : List ℕ) {b : List ℕ} → b ≡ getD (cut w bs) i [] → i < length bs / w → isLive (stateOf b) ≡ liveAt (states w bs) i
+live-there w i bs e h =
+    ap (λ (b : List ℕ). isLive (stateOf b)) e ∙ sym (ap isLive (getD-map stateOf (cut w bs) i [] free (rw length-pieces h)))
 
 pub live-outside : (w i : ℕ) (bs : List ℕ) → length bs / w ≤ i → liveAt (states w bs) i ≡ false
 unfolding isLive

@@ -1,3 +1,4 @@
 pub mod Slots
 pub mod States
+pub mod Held
 pub mod Parts

@@ -1,8 +1,8 @@
 -- Laws of parts of a table that are lent on and come back: where a slot lies, and what the table is when its part is another.
 -- Rests on the meaning's laws of pieces.
 use Prim.Native.Nat.{ℕ, _+_, _-_, _*_, _/_, _<_, _≤_}
-use mathlib.Core.Path.{_≡_, sym}
-use mathlib.Core.List.{List, [], _∷_, _++_, append-assoc}
+use mathlib.Core.Path.{_≡_, sym, _∙_, ap}
+use mathlib.Core.List.{List, [], _++_, append-assoc}
 use native.Mathlib.Omega.{arith}
 use borrow.Rule.Slice.PartMut.{putMid}
 use lib.ListN.{length, getD, take, drop, replicate, length-drop, replicate-append-replicate}
@@ -10,20 +10,22 @@ use lib.Seq.{take-at, drop-at, drop-drop, length-take-le}
 use Rattle.meaning.specs.Layout.{cut}
 use Rattle.laws.specs.Pieces.{getD-pieces, stored}
 
--- the part from a slot's start to its end
-abbrev pub slotPart : ℕ → ℕ → List ℕ → List ℕ
-slotPart w i bs = take (i * w + w - i * w) (drop (i * w) bs)
+-- A slot that starts at s: the part that it is, and the table when another part comes back in its place.
 
-pub slot-part : (w i : ℕ) (bs : List ℕ) → i < length bs / w → slotPart w i bs ≡ getD (cut w bs) i []
-slot-part w i bs h =
-    let e : i * w + w - i * w ≡ w = omega arith in
-    rw e (sym (getD-pieces w (length bs / w) bs i h))
+module _ (w i : ℕ) (bs : List ℕ) {s : ℕ} (start : s ≡ i * w) where
+  pub slot-part : i < length bs / w → take (s + w - s) (drop s bs) ≡ getD (cut w bs) i []
+  slot-part h =
+      let e : s + w - s ≡ w = omega arith in
+      rw (e, start) (sym (getD-pieces w (length bs / w) bs i h))
 
--- a part that comes back in a slot's place
-pub slot-back : (w i : ℕ) (b bs : List ℕ) → take (i * w) bs ++ (b ++ drop (i * w + w - i * w) (drop (i * w) bs)) ≡ stored w i b bs
-slot-back w i b bs =
-    let e : i * w + w - i * w ≡ w = omega arith in
-    rw (e, drop-drop w (i * w) bs) (sym (append-assoc (take (i * w) bs) b (drop (i * w + w) bs)))
+  pub slot-back : {b last : List ℕ} → last ≡ b → putMid s (s + w - s) bs last ≡ stored w i b bs
+  slot-back {b} e =
+      let q : s + w - s ≡ w = omega arith in
+      rw (e, q, drop-drop w s bs, start) (sym (append-assoc (take (i * w) bs) b (drop (i * w + w) bs)))
+
+  -- the same, where the layout holds the slot's length
+  pub sized-back : {v : ℕ} {b last : List ℕ} → w ≡ v → last ≡ b → putMid s (s + w - s) bs last ≡ stored v i b bs
+  sized-back {v} {b} size e = slot-back e ∙ ap (λ (n : ℕ). stored n i b bs) size
 
 -- a part put in the middle
 pub put-mid : (a b c d : List ℕ) (n k : ℕ) → length a ≡ n → length b ≡ k → putMid n k (a ++ (b ++ c)) d ≡ a ++ (d ++ c)

@@ -1,13 +1,11 @@
--- What the code over lent tables speaks of: the states of a table's slots, and what a slot holds. Rests on the meaning's
--- Layout and Matching.
-use Prim.Native.Nat.{ℕ}
+-- What the code over lent tables speaks of: the states of a table's slots, and where a slot's label ends. Rests on the meaning's
+-- Layout.
+use Prim.Native.Nat.{ℕ, _+_, _*_}
 use mathlib.Core.List.{List, map}
 use lib.ListN.{getD}
 use lib.Dec.{eqb}
 use Rattle.meaning.specs.Basics.{choose}
-use Rattle.meaning.specs.Layout.{Slot, Node, Edge, free, live, statePlace, readNodes, readEdges, cut}
-use Rattle.meaning.specs.Matching.{nodeIn, edgeIn}
-use Rattle.meaning.specs.declared.Layout.{Layout}
+use Rattle.meaning.specs.Layout.{Slot, free, live, statePlace, lengthPlace, atomLength, cut}
 
 -- The state of a slot, which a node and an edge have in common: free where the first byte is zero.
 
@@ -17,10 +15,6 @@ stateOf b = choose (eqb (getD b statePlace 0) 0) free (live tt)
 abbrev pub states : ℕ → List ℕ → List (Slot (Unit {0}))
 states w bs = map stateOf (cut w bs)
 
-module _ (L : Layout) where
-  -- what a slot of a table of nodes, and of edges, holds
-  abbrev pub nodeHeld : List ℕ → ℕ → Node
-  nodeHeld nodes i = nodeIn (getD (readNodes L nodes) i free)
-
-  abbrev pub edgeHeld : List ℕ → ℕ → Edge
-  edgeHeld edges i = edgeIn (getD (readEdges L edges) i free)
+-- where a slot's label ends, whose atoms begin at a place
+abbrev pub labelEnd : ℕ → List ℕ → ℕ
+labelEnd start b = start + atomLength * getD b lengthPlace 0

@@ -1,5 +1,5 @@
--- Laws of states: what a table of nodes and a table of edges say of their slots follows from the first byte of each.
--- Rests on Host.
+-- Laws of states: what a table of nodes and a table of edges say of their slots follows from the state of each.
+-- Rests on Slots and the meaning's laws of the layout.
 use Prim.Native.Nat.{ℕ, zero, suc}
 use mathlib.Core.Path.{_≡_, refl, sym, _∙_, ap}
 use mathlib.Core.List.{List, [], _∷_, map}
@@ -7,7 +7,7 @@ use mathlib.Core.Bool.{not}
 use native.Mathlib.Omega.{arith}
 use lib.ListN.{getD}
 use lib.Dec.{eqb}
-use Rattle.meaning.specs.Layout.{Slot, free, live, isLive, liveAt, nodeLength, edgeLength, cut, readNode, readEdge, readNodes, readEdges}
+use Rattle.meaning.specs.Layout.{Slot, free, live, isLive, liveAt, statePlace, nodeLength, edgeLength, cut, readNode, readEdge, readNodes, readEdges}
 use Rattle.meaning.specs.Applying.{lowestFree, freeSlots}
 use Rattle.meaning.specs.declared.Layout.{Layout}
 use Rattle.laws.specs.Layout.{isLive-choose, isLive-readNode, isLive-readEdge}
@@ -51,9 +51,9 @@ module _ {A B : Type 0} (f : List ℕ → Slot A) (g : List ℕ → Slot B) (sam
 
 -- A slot is free exactly when its state byte is zero.
 
-pub state-byte : (b : List ℕ) → isLive (stateOf b) ≡ not (eqb (getD b 0 0) 0)
+pub state-byte : (b : List ℕ) → isLive (stateOf b) ≡ not (eqb (getD b statePlace 0) 0)
 unfolding stateOf
-state-byte b = isLive-choose (eqb (getD b 0 0) 0) tt
+state-byte b = isLive-choose (eqb (getD b statePlace 0) 0) tt
 
 pub state-node : (b : List ℕ) → isLive (readNode b) ≡ isLive (stateOf b)
 state-node b = isLive-readNode b ∙ sym (state-byte b)

@@ -17,6 +17,7 @@ use Rattle.laws.specs.Pieces.{concat-cut, fits-length}
 use Rattle.meaning.specs.declared.Layout.{Layout}
 use Rattle.meaning.specs.declared.Refusal.{Refusal}
 use Rattle.meaning.specs.declared.Refusal.the-variants.{BadRecords}
+use Rattle.answers.specs.Answers.{reportLength}
 use Rattle.journal.specs.Journal.{tablesOf, recordsFrom, putBack, clearedFrom}
 
 -- What undo checks.
@@ -44,7 +45,7 @@ module _ (L : Layout) (nodes edges journal : List ℕ) (count : ℕ) (report : L
 
   -- what holds where nothing fails
   pub record Sound : Type 0 where
-    pub reports : length report ≡ 8
+    pub reports : length report ≡ reportLength
     pub nodesWhole : length nodes % nodeLength L ≡ 0
     pub edgesWhole : length edges % edgeLength L ≡ 0
     pub within : count ≤ length journal / recordLength L

@@ -13,6 +13,7 @@ use lib.ListN.{length, getD, set, take, drop, length-append, length-drop, List·
 use lib.Seq.{length-take-le, getD-take, getD-drop, getD-append-add, take-append-seam}
 use Rattle.meaning.specs.Basics.{choose, both, isSome, concat, ensure, each, _>>_, _>>=_}
 use Rattle.meaning.specs.Numbers.{half, whole, height, sum, difference}
+use Rattle.meaning.specs.Layout.{mostAtoms}
 use Rattle.meaning.specs.Image.{label}
 use Rattle.meaning.specs.Matching.{Assignment, atomOf}
 use Rattle.meaning.specs.Applying.{elementValue, labelValue}
@@ -103,8 +104,8 @@ module _ (lens atoms : List ℕ) (v : ℕ) where
   pub first-none : getD lens v 0 ≡ 0 → 0 ≡ getD (valuesOf lens atoms v) 0 0
   first-none e = rw (no-atoms e)
 
-  pub first-some : (getD lens v 0 ≡ 0 → ⊥) → getD atoms (8 * v) 0 ≡ getD (valuesOf lens atoms v) 0 0
-  first-some h = sym (getD-take (getD lens v 0) (drop (8 * v) atoms) 0 0 (omega arith) ∙ first-at atoms (8 * v))
+  pub first-some : (getD lens v 0 ≡ 0 → ⊥) → getD atoms (mostAtoms * v) 0 ≡ getD (valuesOf lens atoms v) 0 0
+  first-some h = sym (getD-take (getD lens v 0) (drop (mostAtoms * v) atoms) 0 0 (omega arith) ∙ first-at atoms (mostAtoms * v))
 
   pub far : Stored lens atoms → 6 ≤ v → getD lens v 0 ≡ 0
   far s h = List·getD-eq-default lens 0 (omega (arith, s .variables))
@@ -116,7 +117,7 @@ module _ (lens atoms : List ℕ) (v : ℕ) where
   value-far r s h k = rw (no-atoms (far s h)) k
 
 -- copying atoms
-module _ (atoms : List ℕ) (from n j : ℕ) (l : List ℕ) (room : length atoms ≡ valuesRoom) (words : Words atoms) (few : n ≤ 8) (fits : from + n ≤ valuesRoom) (f : Filled (take n (drop from atoms)) j l) where
+module _ (atoms : List ℕ) (from n j : ℕ) (l : List ℕ) (room : length atoms ≡ valuesRoom) (words : Words atoms) (few : n ≤ mostAtoms) (fits : from + n ≤ valuesRoom) (f : Filled (take n (drop from atoms)) j l) where
   copied-length : length (take n (drop from atoms)) ≡ n
   copied-length =
       let d = length-drop from atoms in
@@ -162,7 +163,7 @@ module _ (v : Valued) where
 pub held-for : {A : Type 0} (v : Valued) (o : Option A) (f : A → Option (List ℕ)) → For o (λ a. valueIn v ≡ f a) → For o (λ a. v .held ≡ isSome (f a))
 held-for v o f h a e = value-is v ∙ ap isSome (h a e)
 
-pub kept-label : (a : Label) (m : List ℕ) (b : Bool) → Holds m a → Kept 8 (record { held = b; label = a })
+pub kept-label : (a : Label) (m : List ℕ) (b : Bool) → Holds m a → Kept mostAtoms (record { held = b; label = a })
 kept-label a m b h = record { held = h .held; few = h .held .few }
 
 pub value-one : (a : Label) (m : List ℕ) → Holds m a → valueIn (record { held = true; label = a }) ≡ some m
@@ -248,7 +249,7 @@ module _ (a b : Label) (h : Held a) (k : Held b) where
         front = rw z (sym (ap (λ (n : ℕ). take n (atomsIn a ++ atomsIn b)) (sym e) ∙ take-append-seam (atomsIn a) (atomsIn b)));
       }
 
-  module _ (most : ℕ) (bound : most ≤ 8) where
+  module _ (most : ℕ) (bound : most ≤ mostAtoms) where
     pub joined-no : most < a .len + b .len → none ≡ fitting most (atomsIn a ++ atomsIn b)
     joined-no l = sym (fitting-no most _ (rw joined-length l))
 

@@ -4,6 +4,7 @@ ghost use mathlib.Core.List.{List, _++_};
 ghost use Prim.Native.Nat.{ℕ, _+_, _*_, _<_, _≤_};
 ghost use lib.ListN.{length, getD, take, drop};
 ghost use Rattle.meaning.specs.Numbers.{sum, difference};
+ghost use Rattle.meaning.specs.Layout.{mostAtoms};
 ghost use Rattle.meaning.specs.Image.{label, ruleGraph};
 ghost use Rattle.meaning.specs.Matching.{atomOf};
 ghost use Rattle.meaning.specs.Applying.{elementValue, labelValue};
@@ -57,7 +58,7 @@ pub fn difference(a: u32, b: u32) -> Atom
     lowered(labels::height(a) + 0x100000000 - labels::height(b))
 }
 
-// The values of the variables: variable v has lens[v] atoms, from atoms[8 * v] on.
+// The values of the variables: variable v has lens[v] atoms, from atoms[labels::MOST * v] on.
 
 // The first atom of a variable's value, 0 if it has none.
 pub fn first_atom(lens: &[usize; Room::VARIABLES], atoms: &[u32; Room::ATOMS], v: usize) -> u32
@@ -70,7 +71,7 @@ pub fn first_atom(lens: &[usize; Room::VARIABLES], atoms: &[u32; Room::ATOMS], v
     if lens[v] == 0 {
         return 0;
     }
-    atoms[8 * v]
+    atoms[labels::MOST * v]
 }
 
 pub fn atom_of(lens: &[usize; Room::VARIABLES], atoms: &[u32; Room::ATOMS], o: Operand) -> u32
@@ -85,10 +86,10 @@ pub fn atom_of(lens: &[usize; Room::VARIABLES], atoms: &[u32; Room::ATOMS], o: O
 
 // The n atoms from a place on.
 fn copied(atoms: &[u32; Room::ATOMS], from: usize, n: usize) -> Label
-    requires { ⌜ (length (now atoms) ≡ valuesRoom) × Words (now atoms) × (n ≤ 8) × (from + n ≤ valuesRoom) ⌝ }
+    requires { ⌜ (length (now atoms) ≡ valuesRoom) × Words (now atoms) × (n ≤ mostAtoms) × (from + n ≤ valuesRoom) ⌝ }
     ensures { λ r. ⌜ Holds (take n (drop from (now (atoms .entry)))) r ⌝ }
 {
-    let mut out = [0u32; 8];
+    let mut out = [0u32; labels::MOST];
     let mut j: usize = 0;
     while j < n {
         out[j] = atoms[from + j];
@@ -104,12 +105,12 @@ pub fn value_of(lens: &[usize; Room::VARIABLES], atoms: &[u32; Room::ATOMS], v: 
     if v >= Room::VARIABLES {
         return labels::none();
     }
-    copied(atoms, 8 * v, lens[v])
+    copied(atoms, labels::MOST * v, lens[v])
 }
 
 // A label of one atom.
 fn of_atom(a: Atom) -> Valued
-    ensures { λ r. ⌜ Kept 8 r × (valueIn r ≡ ofAtom (asOption a)) ⌝ }
+    ensures { λ r. ⌜ Kept mostAtoms r × (valueIn r ≡ ofAtom (asOption a)) ⌝ }
 {
     match a {
         Atom::Word(x) => Valued {
@@ -129,7 +130,7 @@ pub fn element_value(
     e: Element,
 ) -> Valued
     requires { ⌜ Stored (now lens) (now atoms) ⌝ }
-    ensures { λ r. ⌜ Kept 8 r × (valueIn r ≡ elementValue (valuesOf (now (lens .entry)) (now (atoms .entry))) e) ⌝ }
+    ensures { λ r. ⌜ Kept mostAtoms r × (valueIn r ≡ elementValue (valuesOf (now (lens .entry)) (now (atoms .entry))) e) ⌝ }
 {
     match e {
         Element::Constant(x) => Valued {
@@ -150,7 +151,7 @@ pub fn element_value(
 
 // Label a with label b behind it, if it has at most `most` atoms.
 pub fn joined(a: Label, b: Label, most: usize) -> Valued
-    requires { ⌜ Held a × Held b × (a .len ≤ most) × (most ≤ 8) ⌝ }
+    requires { ⌜ Held a × Held b × (a .len ≤ most) × (most ≤ mostAtoms) ⌝ }
     ensures { λ r. ⌜ Kept most r × (valueIn r ≡ fitting most (atomsIn a ++ atomsIn b)) ⌝ }
 {
     let n = a.len;
@@ -184,7 +185,7 @@ pub fn label_value(
     atoms: &[u32; Room::ATOMS],
     p: &[u8],
 ) -> Valued
-    requires { ⌜ Stored (now lens) (now atoms) × (most ≤ 8) ⌝ }
+    requires { ⌜ Stored (now lens) (now atoms) × (most ≤ mostAtoms) ⌝ }
     ensures { λ r. ⌜ Kept most r × For (label (now (p .entry))) (λ l. valueIn r ≡ labelValue most (valuesOf (now (lens .entry)) (now (atoms .entry))) l) ⌝ }
 {
     let mut rest = p;
@@ -227,7 +228,7 @@ pub fn item_value(
     tag: u8,
     p: &[u8],
 ) -> Valued
-    requires { ⌜ Stored (now lens) (now atoms) × (most ≤ 8) ⌝ }
+    requires { ⌜ Stored (now lens) (now atoms) × (most ≤ mostAtoms) ⌝ }
     ensures { λ r. ⌜ Kept most r × For (graphItem tag (now (p .entry))) (λ i. valueIn r ≡ labelValue most (valuesOf (now (lens .entry)) (now (atoms .entry))) (itemLabel i)) ⌝ }
 {
     label_value(most, lens, atoms, parts::label_part(tag, p))
@@ -240,7 +241,7 @@ pub fn labels_held(
     atoms: &[u32; Room::ATOMS],
     right: &[u8],
 ) -> bool
-    requires { ⌜ Stored (now lens) (now atoms) × (most ≤ 8) ⌝ }
+    requires { ⌜ Stored (now lens) (now atoms) × (most ≤ mostAtoms) ⌝ }
     ensures { λ r. ⌜ For (ruleGraph (now (right .entry))) (λ g. r ≡ allHeld most (valuesOf (now (lens .entry)) (now (atoms .entry))) g) ⌝ }
 {
     let mut at: usize = 0;

@@ -1,4 +1,4 @@
--- `host::answer_number` meets its contract.
+-- `answer_number` meets its contract.
 use mathlib.Core.Path.{sym, ap, _∙_}
 use borrow.Author.Needs.{needs}
 use Rattle.meaning.specs.Calls.{answerNumber}

@@ -1,4 +1,4 @@
--- `host::lengths` meets its contract: the first check that fails.
+-- `lengths` meets its contract: the first check that fails.
 use borrow.Author.Tests.{not-true, not-false}
 use borrow.Author.Needs.{needs}
 use Rattle.answers.specs.Answers.{refusalOf}

@@ -1,4 +1,4 @@
--- `host::put_report` meets its contract.
+-- `put_report` meets its contract.
 use borrow.Author.Needs.{needs}
 use Rattle.answers.proofs.Answers.{report-put}
 use Rattle.answers.proofs.put_report.Statement.{statement}

@@ -1,4 +1,4 @@
--- `host::refusal_number` meets its contract.
+-- `refusal_number` meets its contract.
 use mathlib.Core.Path.{sym, ap}
 use borrow.Author.Needs.{needs}
 use Rattle.meaning.specs.Calls.{refusalNumber}

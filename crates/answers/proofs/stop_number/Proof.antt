@@ -1,4 +1,4 @@
--- `host::stop_number` meets its contract.
+-- `stop_number` meets its contract.
 use mathlib.Core.Path.{sym, ap}
 use borrow.Author.Needs.{needs}
 use Rattle.meaning.specs.Calls.{stopNumber}

@@ -1,13 +1,24 @@
 -- `copy` meets its contract: the front of what is copied, all of it where there is room.
-use mathlib.Core.Path.{_∙_, ap, sym}
+use Prim.Native.Nat.{_-_}
+use mathlib.Core.List.{[], append-nil}
+use mathlib.Core.Path.{_∙_, ap, refl, sym}
 use native.Mathlib.Omega.{arith}
-use Prim.Native.Nat.{ℕ}
+use borrow.Rule.Slice.PartMut.{putMid}
+use borrow.Author.Needs.{needs}
 use lib.ListN.{length, take, length-take}
 use lib.Seq.{take-length, length-take-le}
 use Rattle.cases.proofs.Buffers.{copied}
-use borrow.Author.Needs.{needs}
 use Rattle.cases.proofs.copy.Statement.{statement}
 use Rattle.cases.proofs.copy.Tie as tie
+
+sub-copy : tie.Need-sub-copy
+sub-copy c = search needs
+
+part-copy-start : tie.Need-part-copy-start
+part-copy-start c = search needs
+
+part-copy-end : tie.Need-part-copy-end
+part-copy-end c = search needs
 
 copy-requires : tie.Need-copy-requires
 copy-requires c κs = search needs
@@ -16,7 +27,9 @@ same-length : tie.Need-same-length
 same-length c = search needs
 
 returns : tie.Need-returns
-returns c = copied (c .before .before .before .before .before .before .before .args .from .now) (c .before .before .before .before .before .before .before .args .from .now) (c .before .before .before .before .before .before .before .args .to .now) _ _ (c .before .before .copy .ensures .0) (c .before .before .copy .ensures .1) (omega arith) (sym (ap (λ (n : ℕ). take n (c .before .before .before .before .before .before .before .args .from .now)) (c .before .before .copy .ensures .0) ∙ take-length (c .before .before .before .before .before .before .before .args .from .now))) (λ h. c .before .before .copy .ensures .0)
+returns c =
+    let from = c .before .before .before .before .before .before .before .args .from .now in
+    copied from from _ _ (length from) (ap (putMid 0 (length from - 0) (c .before .before .before .before .before .before .before .args .to .now)) (c .before .before .copy .ensures)) refl (sym (take-length from)) (λ h. refl)
 
 slice-aggregate-copy : tie.Need-slice-aggregate-copy
 slice-aggregate-copy c = sym (length-take-le _ _ (omega arith))
@@ -28,12 +41,20 @@ same-length-2 : tie.Need-same-length-2
 same-length-2 c = search needs
 
 returns-2 : tie.Need-returns-2
-returns-2 c = copied (c .before .before .before .before .before .before .before .before .args .from .now) (take (length (c .before .before .before .before .before .before .before .before .args .to .now)) (c .before .before .before .before .before .before .before .before .args .from .now)) (c .before .before .before .before .before .before .before .before .args .to .now) _ _ (c .before .before .copy2 .ensures .0) (c .before .before .copy2 .ensures .1) (simp length-take (omega arith)) (ap (λ (n : ℕ). take n (c .before .before .before .before .before .before .before .before .args .from .now)) (sym (c .before .before .copy2 .ensures .0 ∙ length-take-le (length (c .before .before .before .before .before .before .before .before .args .to .now)) (c .before .before .before .before .before .before .before .before .args .from .now) (omega arith)))) (λ h. absurd (omega arith))
+returns-2 c =
+    let to = c .before .before .before .before .before .before .before .before .args .to .now in
+    let from = c .before .before .before .before .before .before .before .before .args .from .now in
+    let r = length-take-le (length to) from (omega arith) in
+    let e = c .before .before .copy2 .ensures in
+    copied from (take (length to) from) [] _ (length to) (e ∙ sym (append-nil (take (length to) from))) (sym r) refl (λ h. omega (arith, ap length e))
 
 pub copy-spec : {M : Type 1} → statement M
 copy-spec =
     tie.close
     (tie.spec
+    sub-copy
+    part-copy-start
+    part-copy-end
     copy-requires
     same-length
     returns

@@ -8,14 +8,11 @@ use Rattle.graph.proofs.edge_atom.Tie as tie
 slot-requires : tie.Need-slot-requires
 slot-requires c κs = edge-there (c .before .before .pre .0) _ (c .before .before .pre .1 .0)
 
-mul-read-atom : tie.Need-mul-read-atom
-mul-read-atom c = search needs
+edge-atoms-requires : tie.Need-edge-atoms-requires
+edge-atoms-requires c κs = search needs
 
-add-read-atom : tie.Need-add-read-atom
-add-read-atom c = search needs
-
-read-atom-requires : tie.Need-read-atom-requires
-read-atom-requires c κs =
+atom-requires : tie.Need-atom-requires
+atom-requires c κs =
     let p = c .before .before .before .before .pre in
     let s = c .before .slot .ensures in
     let b = edge-bytes (p .0) _ (p .1 .0) _ (s .0) in
@@ -26,8 +23,8 @@ read-atom-requires c κs =
 returns : tie.Need-returns
 returns c =
     let p = c .before .before .before .before .before .pre in
-    rw (← (edge-bytes (p .0) _ (p .1 .0) _ (c .before .before .slot .ensures .0) .label)) (c .read-atom .ensures)
+    rw (← (edge-bytes (p .0) _ (p .1 .0) _ (c .before .before .slot .ensures .0) .label)) (rw (c .before .edge-atoms .ensures) at (c .atom .ensures))
 
 pub edge-atom-spec : {M : Type 1} → statement M
 edge-atom-spec =
-    tie.close (tie.spec slot-requires mul-read-atom add-read-atom read-atom-requires returns)
+    tie.close (tie.spec slot-requires edge-atoms-requires atom-requires returns)

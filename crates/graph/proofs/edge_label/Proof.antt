@@ -8,11 +8,8 @@ use Rattle.graph.proofs.edge_label.Tie as tie
 slot-requires : tie.Need-slot-requires
 slot-requires c κs = edge-there (c .before .before .pre .0) _ (c .before .before .pre .1)
 
-mul-read-label : tie.Need-mul-read-label
-mul-read-label c = search needs
-
-add-read-label : tie.Need-add-read-label
-add-read-label c = search needs
+edge-atoms-requires : tie.Need-edge-atoms-requires
+edge-atoms-requires c κs = search needs
 
 read-label-requires : tie.Need-read-label-requires
 read-label-requires c κs =
@@ -24,8 +21,8 @@ read-label-requires c κs =
 returns : tie.Need-returns
 returns c =
     let p = c .before .before .before .before .before .pre in
-    rw (← (edge-bytes (p .0) _ (p .1) _ (c .before .before .slot .ensures .0) .label)) (c .read-label .ensures)
+    rw (← (edge-bytes (p .0) _ (p .1) _ (c .before .before .slot .ensures .0) .label)) (rw (c .before .edge-atoms .ensures) at (c .read-label .ensures))
 
 pub edge-label-spec : {M : Type 1} → statement M
 edge-label-spec =
-    tie.close (tie.spec slot-requires mul-read-label add-read-label read-label-requires returns)
+    tie.close (tie.spec slot-requires edge-atoms-requires read-label-requires returns)

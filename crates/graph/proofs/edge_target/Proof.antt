@@ -8,16 +8,13 @@ use Rattle.graph.proofs.edge_target.Tie as tie
 slot-requires : tie.Need-slot-requires
 slot-requires c κs = edge-there (c .before .before .pre .0) _ (c .before .before .pre .1)
 
-add-slot-number : tie.Need-add-slot-number
-add-slot-number c = search needs
-
-slot-number-requires : tie.Need-slot-number-requires
-slot-number-requires c κs = search needs
+target-requires : tie.Need-target-requires
+target-requires c κs = search needs
 
 returns : tie.Need-returns
 returns c =
     let p = c .before .before .before .before .pre in
-    c .slot-number .ensures ∙ edge-bytes (p .0) _ (p .1) _ (c .before .slot .ensures .0) .target
+    c .target .ensures ∙ edge-bytes (p .0) _ (p .1) _ (c .before .slot .ensures .0) .target
 
 pub edge-target-spec : {M : Type 1} → statement M
-edge-target-spec = tie.close (tie.spec slot-requires add-slot-number slot-number-requires returns)
+edge-target-spec = tie.close (tie.spec slot-requires target-requires returns)

@@ -7,8 +7,8 @@ use Rattle.graph.proofs.node_atom.Tie as tie
 slot-requires : tie.Need-slot-requires
 slot-requires c κs = node-there (c .before .before .pre .0) _ (c .before .before .pre .1 .0)
 
-read-atom-requires : tie.Need-read-atom-requires
-read-atom-requires c κs =
+atom-requires : tie.Need-atom-requires
+atom-requires c κs =
     let p = c .before .before .before .pre in
     let s = c .slot .ensures in
     let b = node-bytes (p .0) _ (p .1 .0) _ (s .0) in
@@ -19,7 +19,7 @@ read-atom-requires c κs =
 returns : tie.Need-returns
 returns c =
     let p = c .before .before .before .before .pre in
-    rw (← (node-bytes (p .0) _ (p .1 .0) _ (c .before .slot .ensures .0) .label)) (c .read-atom .ensures)
+    rw (← (node-bytes (p .0) _ (p .1 .0) _ (c .before .slot .ensures .0) .label)) (c .atom .ensures)
 
 pub node-atom-spec : {M : Type 1} → statement M
-node-atom-spec = tie.close (tie.spec slot-requires read-atom-requires returns)
+node-atom-spec = tie.close (tie.spec slot-requires atom-requires returns)

@@ -1,76 +1,15 @@
--- `out_degree` meets its contract. The loop's invariant: so many of the edges passed count. The measure is the number of those left.
-use Prim.Native.Nat.{_-_, _≤_}
-use mathlib.Core.Path.{_≡_, refl}
-use native.Mathlib.Omega.{arith}
+-- `out_degree` meets its contract.
 use borrow.Author.Needs.{needs}
-use Rattle.meaning.specs.Basics.{count}
-use Rattle.meaning.specs.Matching.{leaves, outDegree}
-use Rattle.meaning.specs.Layout.{hostOf}
-use Rattle.meaning.specs.Laws.Loops.{count-yes, count-no, count-end}
+use Rattle.meaning.specs.Matching.{outDegree}
 use Rattle.graph.proofs.out_degree.Statement.{statement}
 use Rattle.graph.proofs.out_degree.Tie as tie
 
-abbrev Inv-loop : tie.InvT-loop
-Inv-loop l nodes edges s n x₀ d₀ x d = (x ≤ n) × (d ≤ x) × (d ≡ count (leaves (hostOf l nodes edges) s) x)
+count-edges-requires : tie.Need-count-edges-requires
+count-edges-requires c κs = search needs
 
-abbrev μ-loop : tie.MeasureT-loop
-μ-loop l nodes edges s n x₀ d₀ x d = n - x
-
-edge-slots-requires : tie.Need-edge-slots-requires Inv-loop μ-loop
-edge-slots-requires c κs = c .before .before .pre .sized
-
-loop-holds : tie.Need-loop-holds Inv-loop μ-loop
-unfolding count
-loop-holds c = (omega arith, omega arith, refl)
-
-edge-leaves-requires : tie.Need-edge-leaves-requires Inv-loop μ-loop
-edge-leaves-requires c κs = (c .before .before .before .before .before .pre, omega (arith, c .before .before .edge-slots .ensures))
-
-add-d : tie.Need-add-d Inv-loop μ-loop
-add-d c = omega arith
-
-add-x : tie.Need-add-x Inv-loop μ-loop
-add-x c = search needs
-
-loop-less : tie.Need-loop-less Inv-loop μ-loop
-loop-less c = omega arith
-
-loop-again : tie.Need-loop-again Inv-loop μ-loop
-loop-again c =
-    let e = c .before .edge-leaves .ensures in
-    let i = c .before .before .before .loop .inv .2 in
-    (omega arith, omega arith, count-yes _ _ e (c .if1 .taken) _ i)
-
-add-x-2 : tie.Need-add-x-2 Inv-loop μ-loop
-add-x-2 c = search needs
-
-loop-less-2 : tie.Need-loop-less-2 Inv-loop μ-loop
-loop-less-2 c = omega arith
-
-loop-again-2 : tie.Need-loop-again-2 Inv-loop μ-loop
-loop-again-2 c =
-    let e = c .before .edge-leaves .ensures in
-    let i = c .before .before .before .loop .inv .2 in
-    (omega arith, omega arith, count-no _ _ e (c .if1 .left) _ i)
-
-returns : tie.Need-returns Inv-loop μ-loop
+returns : tie.Need-returns
 unfolding outDegree
-returns c = rw (← (c .before .before .edge-slots .ensures)) (count-end _ _ _ (omega arith) _ (c .before .loop .inv .2))
+returns c = c .count-edges .ensures
 
 pub out-degree-spec : {M : Type 1} → statement M
-out-degree-spec =
-    tie.close
-    (tie.spec
-    Inv-loop
-    μ-loop
-    edge-slots-requires
-    loop-holds
-    edge-leaves-requires
-    add-d
-    add-x
-    loop-less
-    loop-again
-    add-x-2
-    loop-less-2
-    loop-again-2
-    returns)
+out-degree-spec = tie.close (tie.spec count-edges-requires returns)

@@ -1,4 +1,4 @@
--- `host::is_edge_mark` meets its contract.
+-- `is_edge_mark` meets its contract.
 use Rattle.host.proofs.Keeps.{edge-mark-low, edge-mark-high}
 use Rattle.host.proofs.is_edge_mark.Statement.{statement}
 use Rattle.host.proofs.is_edge_mark.Tie as tie

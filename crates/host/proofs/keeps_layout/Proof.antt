@@ -1,4 +1,4 @@
--- `host::keeps_layout` meets its contract.
+-- `keeps_layout` meets its contract.
 use mathlib.Core.Path.{sym, _∙_}
 use borrow.Author.Needs.{needs}
 use Rattle.meaning.specs.Laws.Tests.{both-yes, both-no}

@@ -1,4 +1,4 @@
--- `host::filled` meets its contract, at one byte and at two.
+-- `filled` meets its contract, at one byte and at two.
 use mathlib.Core.Path.{_≡_}
 use native.Mathlib.Omega.{arith}
 use borrow.Author.Needs.{needs}

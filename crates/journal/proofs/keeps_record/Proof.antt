@@ -1,4 +1,4 @@
--- `host::keeps_record` meets its contract, clause by clause.
+-- `keeps_record` meets its contract, clause by clause.
 use mathlib.Core.Path.{sym, ap, _∙_}
 use borrow.Author.Tests.{not-true, not-false}
 use borrow.Author.Needs.{needs}

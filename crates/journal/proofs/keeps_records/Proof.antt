@@ -1,4 +1,4 @@
--- `host::keeps_records` meets its contract. The loop's invariant: all counted records keep to their tables exactly where those from `u` on do.
+-- `keeps_records` meets its contract. The loop's invariant: all counted records keep to their tables exactly where those from `u` on do.
 use Prim.Native.Nat.{_-_, _≤_, _/_}
 use mathlib.Core.Bool.{true, false}
 use mathlib.Core.List.{[]}

@@ -1,4 +1,4 @@
--- `host::put_back` meets its contract: a record that keeps to its table names a slot of it.
+-- `put_back` meets its contract: a record that keeps to its table names a slot of it.
 use Prim.Native.Nat.{_*_}
 use native.Mathlib.Omega.{arith}
 use borrow.Author.Needs.{needs}

@@ -1,4 +1,4 @@
--- `host::put_back_from` meets its contract. The loop's invariant: putting back the records below `u` from here gives what putting back all of them gives from the start.
+-- `put_back_from` meets its contract. The loop's invariant: putting back the records below `u` from here gives what putting back all of them gives from the start.
 use Prim.Native.Nat.{_-_, _≤_, _/_, _<_}
 use mathlib.Core.List.{[]}
 use mathlib.Core.Path.{_≡_, refl, sym, ap, _∙_}

@@ -1,4 +1,4 @@
--- `host::put_record` meets its contract: zeros, then the kind, the slot number and the bytes before.
+-- `put_record` meets its contract: zeros, then the kind, the slot number and the bytes before.
 use Prim.Native.Nat.{_+_, _-_, _*_, ℕ}
 use mathlib.Core.List.{List}
 use mathlib.Core.Path.{_∙_}

@@ -1,4 +1,4 @@
--- `host::undo_to` meets its contract: records put back, then zeroed.
+-- `undo_to` meets its contract: records put back, then zeroed.
 use Prim.Native.Nat.{ℕ, _-_, _≤_, _/_, _*_}
 use mathlib.Core.List.{_++_}
 use mathlib.Core.Path.{_≡_, ap, _∙_}

@@ -1,4 +1,4 @@
--- `host::fits_table` meets its contract.
+-- `fits_table` meets its contract.
 use borrow.Author.Tests.{eq-eqb, ne-eqb}
 use borrow.Author.Needs.{needs}
 use Rattle.meaning.specs.Layout.{fitsTable}

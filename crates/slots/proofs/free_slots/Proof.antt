@@ -1,4 +1,4 @@
--- `host::free_slots` meets its contract. The loop's invariant: `free` counts the free slots among those passed.
+-- `free_slots` meets its contract. The loop's invariant: `free` counts the free slots among those passed.
 use Prim.Native.Nat.{_+_, _-_, _≤_}
 use mathlib.Core.Path.{_≡_, sym, _∙_}
 use native.Mathlib.Nat.{div-le-self}

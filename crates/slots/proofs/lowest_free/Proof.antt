@@ -1,4 +1,4 @@
--- `host::lowest_free` meets its contract. The loop's invariant: the slots passed are live.
+-- `lowest_free` meets its contract. The loop's invariant: the slots passed are live.
 use Prim.Native.Nat.{_+_, _-_, _≤_, _/_}
 use mathlib.Core.Path.{_≡_, refl, sym, _∙_}
 use native.Mathlib.Nat.{div-le-self}

@@ -1,18 +1,17 @@
--- `host::slot` meets its contract: a slot lies in its table.
+-- `slot` meets its contract: the part of the table from the slot's start on.
 use mathlib.Core.Path.{ap, _∙_}
-use native.Mathlib.Omega.{arith}
 use borrow.Author.Needs.{needs}
 use lib.ListN.{length}
-use Rattle.laws.specs.Pieces.{length-slot, slot-within}
+use Rattle.laws.specs.Pieces.{length-slot}
 use Rattle.slots.specs.Parts.{slot-part}
 use Rattle.slots.proofs.slot.Statement.{statement}
 use Rattle.slots.proofs.slot.Tie as tie
 
-mul-start : tie.Need-mul-start
-mul-start c = omega (arith, slot-within (c .args .w) (c .args .i) (length (c .args .table .now)) (c .pre))
+slot-start-requires : tie.Need-slot-start-requires
+slot-start-requires c κs = search needs
 
 add-end : tie.Need-add-end
-add-end c = omega (arith, slot-within (c .args .w) (c .args .i) (length (c .args .table .now)) (c .pre))
+add-end c = search needs
 
 sub-result : tie.Need-sub-result
 sub-result c = search needs
@@ -21,13 +20,22 @@ part-result-start : tie.Need-part-result-start
 part-result-start c = search needs
 
 part-result-end : tie.Need-part-result-end
-part-result-end c = slot-within (c .args .w) (c .args .i) (length (c .args .table .now)) (c .pre)
+part-result-end c = search needs
 
 returns : tie.Need-returns
 returns c =
-    let e = slot-part (c .before .args .w) (c .before .args .i) (c .before .args .table .now) (c .before .pre) in
-    (e, ap length e ∙ length-slot (c .before .args .w) (c .before .args .table .now) (c .before .args .i) (c .before .pre))
+    let a = c .before .before .before .args in
+    let h = c .before .before .before .pre in
+    let e = slot-part (a .w) (a .i) (a .table .now) (c .before .slot-start .ensures .0) h in
+    (e, ap length e ∙ length-slot (a .w) (a .table .now) (a .i) h)
 
 pub slot-spec : {M : Type 1} → statement M
 slot-spec =
-    tie.close (tie.spec mul-start add-end sub-result part-result-start part-result-end returns)
+    tie.close
+    (tie.spec
+    slot-start-requires
+    add-end
+    sub-result
+    part-result-start
+    part-result-end
+    returns)

@@ -1,27 +1,14 @@
--- `host::store_node` meets its contract: the node's bytes in its slot.
-use Prim.Native.Nat.{_+_, _-_, _*_, _/_, _<_}
-use mathlib.Core.Path.{ap, _∙_}
-use native.Mathlib.Omega.{arith}
-use borrow.Rule.Slice.PartMut.{putMid}
+-- `store_node` meets its contract: the node's bytes in its slot.
 use borrow.Author.Needs.{needs}
-use lib.ListN.{length}
-use Rattle.laws.specs.Pieces.{stored, slot-within}
-use Rattle.meaning.specs.Layout.{writeNode, live}
-use Rattle.slots.specs.Parts.{slot-back}
+use Rattle.slots.specs.Parts.{sized-back}
 use Rattle.slots.proofs.store_node.Statement.{statement}
 use Rattle.slots.proofs.store_node.Tie as tie
 
-mul-start : tie.Need-mul-start
-mul-start c =
-    let a = c .before .before .args in
-    let h : a .i < length (a .nodes .now) / a .l .node = rw (c .before .before .pre .0 .node) (c .before .before .pre .1 .0) in
-    omega (arith, slot-within (a .l .node) (a .i) (length (a .nodes .now)) h)
+slot-start-requires : tie.Need-slot-start-requires
+slot-start-requires c κs = rw (c .before .before .pre .0 .node) (c .before .before .pre .1 .0)
 
 add-end : tie.Need-add-end
-add-end c =
-    let a = c .before .before .args in
-    let h : a .i < length (a .nodes .now) / a .l .node = rw (c .before .before .pre .0 .node) (c .before .before .pre .1 .0) in
-    omega (arith, slot-within (a .l .node) (a .i) (length (a .nodes .now)) h)
+add-end c = search needs
 
 sub-put-node : tie.Need-sub-put-node
 sub-put-node c = search needs
@@ -30,10 +17,7 @@ part-put-node-start : tie.Need-part-put-node-start
 part-put-node-start c = search needs
 
 part-put-node-end : tie.Need-part-put-node-end
-part-put-node-end c =
-    let a = c .before .before .args in
-    let h : a .i < length (a .nodes .now) / a .l .node = rw (c .before .before .pre .0 .node) (c .before .before .pre .1 .0) in
-    slot-within (a .l .node) (a .i) (length (a .nodes .now)) h
+part-put-node-end c = search needs
 
 put-node-requires : tie.Need-put-node-requires
 put-node-requires c κs = search needs
@@ -43,18 +27,15 @@ same-length c = search needs
 
 returns : tie.Need-returns
 returns c =
-    let a = c .before .before .before .before .before .before .args in
-    let w = a .l .node in
-    let b = writeNode (a .l) (live (record { mark = a .mark; root = a .root; label = a .label .now })) in
-    ap (λ l. putMid (a .i * w) (a .i * w + w - a .i * w) (a .nodes .now) l) (c .before .before .put-node .ensures)
-    ∙ slot-back w (a .i) b (a .nodes .now)
-    ∙ ap (λ n. stored n (a .i) b (a .nodes .now)) (c .before .before .before .before .before .before .pre .0 .node)
+    let start = c .before .before .before .before .before .before .before in
+    let a = start .args in
+    sized-back (a .l .node) (a .i) (a .nodes .now) (c .before .before .before .before .slot-start .ensures .0) (start .pre .0 .node) (c .before .before .put-node .ensures)
 
 pub store-node-spec : {M : Type 1} → statement M
 store-node-spec =
     tie.close
     (tie.spec
-    mul-start
+    slot-start-requires
     add-end
     sub-put-node
     part-put-node-start
