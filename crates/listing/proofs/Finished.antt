@@ -1,14 +1,12 @@
 -- A run that came to a result leaves tables whose lines have room; and what a listed run puts in the buffer.
--- Rests on Listing, Text and the meaning's laws.
-use mathlib.Core.Path.{_≡_, refl, sym}
+-- Rests on Listing, Rooms and the meaning's laws.
+use mathlib.Core.Path.{_≡_, refl}
 use mathlib.Core.Option.{Option, some, none}
 use mathlib.Core.List.{List}
-use Prim.Native.Nat.{ℕ, _+_, _-_, _*_, _≤_}
+use Prim.Native.Nat.{ℕ, _*_, _≤_}
 use native.Mathlib.Omega.{arith}
-use lib.ListN.{length, take, drop, replicate}
-use lib.Seq.{length-take-le}
-use Rattle.meaning.specs.Layout.{base, nodeLength, edgeLength, readNode, readEdge}
-use Rattle.meaning.specs.Numbers.{number}
+use lib.ListN.{length, take, replicate}
+use Rattle.meaning.specs.Layout.{base, nodeLength, edgeLength, recordLength, readNode, readEdge}
 use Rattle.meaning.specs.declared.Layout.{Layout}
 use Rattle.meaning.specs.Image.{program}
 use Rattle.meaning.specs.Calls.{Left, run, runOn, runRefusal, refused, answerNumber, refusalNumber, lending, Leaves}
@@ -19,12 +17,16 @@ use Rattle.laws.specs.Undoing.{base-numbered, run-keeps}
 use Rattle.meaning.specs.declared.Refusal.{Refusal}
 use Rattle.meaning.specs.declared.Refusal.the-variants.{ReportLength, NodeTableLength, EdgeTableLength, JournalLength, TooMuchFuel, ImageTooLong, BadHost, BadForm, BadReferences, BadPlacement, BadRecords}
 use Rattle.laws.specs.Layout.{base-sized}
-use Rattle.listing.specs.Listing.{letters, outcome, runOutcome, listed, listing}
-use Rattle.listing.specs.Text.{Adds, Lists, Ready}
-use Rattle.listing.specs.Reading.{Inside, Reading, inputIn}
-use Rattle.listing.specs.declared.Ends.{Ends}
-use Rattle.listing.specs.declared.Read.{Read}
-use Rattle.listing.specs.declared.Read.the-variants.{Accepted as accepting, Refused as refusing}
+use Rattle.writing.specs.Words.{letters}
+use Rattle.writing.specs.Text.{Adds, Lists}
+use Rattle.writing.specs.Laws.Rows.{lists}
+use Rattle.run_input.specs.Input.{Input}
+use Rattle.run_input.specs.Reading.{Inside, Reading, inputIn}
+use Rattle.listing.specs.Listing.{reportSize, outcome, runOutcome, listed, listing}
+use Rattle.listing.specs.Rooms.{listingRoom, Ready}
+use Rattle.run_input.specs.declared.Ends.{Ends}
+use Rattle.run_input.specs.declared.Read.{Read}
+use Rattle.run_input.specs.declared.Read.the-variants.{Accepted as accepting, Refused as refusing}
 
 -- no refusal answers 0
 refusal-answers : (w : Refusal) → refusalNumber w ≡ 0 → ⊥
@@ -51,7 +53,7 @@ module _ (nodes edges journal image : List ℕ) (fuel : ℕ) (report : List ℕ)
   result-accepted e = at (runRefusal base (lending nodes edges journal image fuel report)) refl e
     where
       at : (w : Option Refusal) → runRefusal base (lending nodes edges journal image fuel report) ≡ w
-          → answerNumber (runOn base w (program image) nodes edges journal fuel report .answer) ≡ 0 → Accepted base (lending nodes edges journal image fuel report)
+          → answerNumber (runOn base w (program image) (lending nodes edges journal image fuel report) .answer) ≡ 0 → Accepted base (lending nodes edges journal image fuel report)
       at (some w) q z = absurd (refusal-answers w z)
       at none q z = accepted base (lending nodes edges journal image fuel report) q
 
@@ -72,42 +74,32 @@ module _ (nodes edges journal image : List ℕ) (fuel : ℕ) (report : List ℕ)
 -- The listing is written.
 
 module _ {out : List ℕ} {r : ℕ} where
-  lists : (text : List ℕ) → take r out ≡ text → r ≤ 262144 → 262144 ≤ length out → Lists text out r
-  lists text e h k = record { written = e; within = omega arith; counts = sym (length-take-le r out (omega arith)) }
-
   pub run-listed : (nodes edges journal program : List ℕ) (fuel : ℕ) (L : Layout) (answer : ℕ) (n e j report : List ℕ) → L ≡ base
-      → Leaves (run base (lending nodes edges journal program fuel (replicate 8 0))) answer n e j report
-      → (take r out ≡ outcome L answer report n e) × (r ≤ 262144) → 262144 ≤ length out
+      → Leaves (run base (lending nodes edges journal program fuel (replicate reportSize 0))) answer n e j report
+      → (take r out ≡ outcome L answer report n e) × (r ≤ listingRoom) → listingRoom ≤ length out
       → Lists (runOutcome nodes edges journal program fuel) out r
   unfolding runOutcome
   run-listed nodes edges journal program fuel L answer n e j report i x w h =
-      lists (runOutcome nodes edges journal program fuel)
+      lists (runOutcome nodes edges journal program fuel) listingRoom
       (rw (← (x .numbered), ← (x .reportLeft), ← (x .nodesLeft), ← (x .edgesLeft), ← i) (w .0)) (w .1) h
 
-  module _ (bs : List ℕ) (e : Ends) (i : Inside bs e) where
-    pub parts-listed : (nodes edges journal program : List ℕ) (fuel count : ℕ)
-        → nodes ≡ take (e .nodes - 3) (drop 3 bs)
-        → edges ≡ take (e .edges - (e .nodes + 3)) (drop (e .nodes + 3) bs)
-        → count ≡ number (take 2 (drop (e .edges + 3) bs))
-        → journal ≡ replicate (28 * count) 0
-        → fuel ≡ number (take 4 (drop (e .records + 3) bs))
-        → program ≡ take (e .program - (e .fuel + 3)) (drop (e .fuel + 3) bs)
-        → Lists (runOutcome nodes edges journal program fuel) out r → Lists (listed (inputIn bs (accepting e))) out r
-    unfolding listed
-    parts-listed nodes edges journal program fuel count a b c d f p w =
-        let two : e .records - (e .edges + 3) ≡ 2 = omega (arith, i .records) in
-        let four : e .fuel - (e .records + 3) ≡ 4 = omega (arith, i .fuel) in
-        let k : 28 * count ≡ count * 28 = omega arith in
-        rw (two, four, ← a, ← b, ← c, ← f, ← p, ← k, ← d) w
+  pub input-listed : (x : Input) (nodes edges journal program : List ℕ) (fuel count : ℕ)
+      → nodes ≡ x .nodes → edges ≡ x .edges → count ≡ x .records → journal ≡ replicate (recordLength base * count) 0 → fuel ≡ x .fuel
+      → program ≡ x .program → Lists (runOutcome nodes edges journal program fuel) out r → Lists (listed (some x)) out r
+  unfolding listed
+  input-listed x nodes edges journal program fuel count a b c d f p w =
+      let k : recordLength base * count ≡ count * recordLength base = omega arith in
+      rw (← a, ← b, ← c, ← f, ← p, ← k, ← d) w
 
   module _ (bs : List ℕ) (x : Read) (w : Reading bs x) where
     pub image-listed : (e : Ends) → x ≡ accepting e → Lists (listed (inputIn bs (accepting e))) out r → Lists (listing bs) out r
     unfolding listing
     image-listed e q l = rw (← (w .same), q) l
 
-    pub image-refused : {before : List ℕ} → x ≡ refusing → Adds 14 (letters "input refused\n") before 0 out r → 262144 ≤ length out → Lists (listing bs) out r
+    pub image-refused : {before : List ℕ} {most : ℕ} → x ≡ refusing → Adds most (letters "input refused\n") before 0 out r → most ≤ listingRoom
+        → listingRoom ≤ length out → Lists (listing bs) out r
     unfolding listing listed
-    image-refused q a h = rw (← (w .same), q) (lists (letters "input refused\n") (a .written) (omega (arith, a .short)) h)
+    image-refused q a m h = rw (← (w .same), q) (lists (letters "input refused\n") listingRoom (a .written) (omega (arith, a .short)) h)
 
 pub reading-inside : (bs : List ℕ) (x : Read) (e : Ends) → x ≡ accepting e → Reading bs x → Inside bs e
 reading-inside bs x e q w = rw q at (w .within)

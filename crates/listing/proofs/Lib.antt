@@ -1,6 +1,4 @@
-mod Writing
-mod Walks
 mod Lines
-mod Decimals
-mod Inputs
+mod Walks
+mod Journals
 mod Finished

@@ -5,18 +5,21 @@ use mathlib.Core.List.{List, [], _∷_, _++_}
 use Prim.Native.Nat.{ℕ}
 use Rattle.meaning.specs.Computing.{computing}
 use Rattle.meaning.specs.ProvedSet.{field, nodeSlot, edgeSlot, turns, calls}
-use Rattle.listing.specs.Listing.{letters, digits, decimal, signed, markName, rootName, onward, nodeLine, edgeLine, liveLines, outcome, input, runOutcome, listed, listing}
+use Rattle.writing.specs.Words.{letters, digits, decimal, signed, markName, rootName}
+use Rattle.writing.specs.Lines.{onward}
+use Rattle.run_input.specs.Input.{nodesTag, edgesTag, recordsTag, fuelTag, programTag, input}
+use Rattle.listing.specs.Listing.{nodeLine, edgeLine, slotLine, liveLines, outcome, runOutcome, listed, listing}
 
 abbrev pub imageP : List ℕ
 imageP =
-    field 0x01 (nodeSlot 4 0 (1 ∷ 0 ∷ 0 ∷ 0 ∷ 5 ∷ []) ++ nodeSlot 4 0 (1 ∷ 0 ∷ 0 ∷ 0 ∷ 7 ∷ []))
-    ++ field 0x02 (edgeSlot 0 1)
-    ++ field 0x03 (0 ∷ 8 ∷ [])
-    ++ field 0x04 (0 ∷ 0 ∷ 0 ∷ 10 ∷ [])
-    ++ field 0x05 (turns ++ field 0x54 (calls 0))
+    field nodesTag (nodeSlot 4 0 (1 ∷ 0 ∷ 0 ∷ 0 ∷ 5 ∷ []) ++ nodeSlot 4 0 (1 ∷ 0 ∷ 0 ∷ 0 ∷ 7 ∷ []))
+    ++ field edgesTag (edgeSlot 0 1)
+    ++ field recordsTag (0 ∷ 8 ∷ [])
+    ++ field fuelTag (0 ∷ 0 ∷ 0 ∷ 10 ∷ [])
+    ++ field programTag (turns ++ field 0x54 (calls 0))
 
 pub case-p : listing imageP ≡ letters "answer 0 steps 3 records 4\nnode 0 red plain 5\nnode 1 blue plain 12\nedge 0 1 0 none\n"
-unfolding computing letters digits decimal signed markName rootName onward nodeLine edgeLine liveLines outcome input runOutcome listed listing
+unfolding computing letters digits decimal signed markName rootName onward nodeLine edgeLine slotLine liveLines outcome input runOutcome listed listing
 case-p = refl
 
 pub none-refused : listing [] ≡ letters "input refused\n"

@@ -1,4 +1,4 @@
 pub mod Listing
 pub mod CaseP
-pub mod Text
-pub mod Reading
+pub mod Tables
+pub mod Rooms

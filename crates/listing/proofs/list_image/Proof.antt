@@ -1,7 +1,7 @@
 -- `list_image` meets its contract: the input is what the definition reads.
 use native.Mathlib.Omega.{arith}
 use borrow.Author.Needs.{needs}
-use Rattle.listing.specs.Listing.{letters}
+use Rattle.writing.specs.Words.{letters}
 use Rattle.listing.proofs.Finished.{reading-inside, image-listed, image-refused}
 use Rattle.listing.proofs.list_image.Statement.{statement}
 use Rattle.listing.proofs.list_image.Tie as tie
@@ -44,7 +44,7 @@ returns-2 c =
     let s = c .before .before .before .before .before .before .before .before .before .before in
     let read-input = c .before .before .before .before .before .before .before .read-input in
     let put = c .before .before .put in
-    image-refused (s .args .image .now) (read-input .result) (read-input .ensures) (c .before .before .before .before .before .enum-told .given .1) (put .ensures) (omega (arith, s .pre, put .kept .0))
+    image-refused (s .args .image .now) (read-input .result) (read-input .ensures) (c .before .before .before .before .before .enum-told .given .1) (put .ensures) (omega arith) (omega (arith, s .pre, put .kept .0))
 
 pub list-image-spec : {M : Type 1} → statement M
 list-image-spec =

@@ -1,12 +1,14 @@
--- `list_parts` meets its contract: the copies are the payloads of the input, and they fit.
+-- `list_parts` meets its contract: the copies are the parts of the input, and they fit.
 use mathlib.Core.Path.{sym, _∙_}
-use Prim.Native.Nat.{_+_, _*_}
+use Prim.Native.Nat.{_*_}
 use native.Mathlib.Omega.{arith}
 use borrow.Author.Needs.{needs}
 use lib.Seq.{length-take-le}
-use Rattle.listing.proofs.Finished.{parts-listed}
-use Rattle.listing.proofs.Inputs.{part-short, few-records}
-use Rattle.listing.proofs.Writing.{zeros-front}
+use Rattle.meaning.specs.Layout.{base, recordLength}
+use Rattle.run_input.specs.Reading.{inputOf}
+use Rattle.listing.specs.Rooms.{fullJournal}
+use Rattle.listing.proofs.Finished.{input-listed}
+use Rattle.listing.proofs.Journals.{zeros-front}
 use Rattle.listing.proofs.list_parts.Statement.{statement}
 use Rattle.listing.proofs.list_parts.Tie as tie
 
@@ -22,103 +24,61 @@ empty-journal-requires c κs = search needs
 slice-aggregate-put : tie.Need-slice-aggregate-put
 slice-aggregate-put c = search needs
 
-part-requires : tie.Need-part-requires
-part-requires c κs = search needs
+nodes-of-requires : tie.Need-nodes-of-requires
+nodes-of-requires c κs = search needs
 
 put-requires : tie.Need-put-requires
-put-requires c κs =
-    let s = c .before .before .before .before .before .before .before in
-    omega (arith, part-short 3 (s .args .e .nodes) (s .args .image .now) _ (c .part .ensures) ((s .pre .1) .small), c .before .before .before .before .large-buffer .ensures)
+put-requires c κs = search needs
 
 slice-aggregate-put-2 : tie.Need-slice-aggregate-put-2
 slice-aggregate-put-2 c = search needs
 
-add-part : tie.Need-add-part
-add-part c = search needs
-
-part-requires-2 : tie.Need-part-requires-2
-part-requires-2 c κs = search needs
+edges-of-requires : tie.Need-edges-of-requires
+edges-of-requires c κs = search needs
 
 put-requires-2 : tie.Need-put-requires-2
-put-requires-2 c κs =
-    let s = c .before .before .before .before .before .before .before .before .before .before .before .before in
-    omega (arith, part-short (s .args .e .nodes + 3) (s .args .e .edges) (s .args .image .now) _ (c .part2 .ensures) ((s .pre .1) .small), c .before .before .before .before .before .before .before .before .large-buffer2 .ensures)
+put-requires-2 c κs = search needs
 
-add-number2 : tie.Need-add-number2
-add-number2 c = search needs
-
-number2-requires : tie.Need-number2-requires
-number2-requires c κs = search needs
+records-of-requires : tie.Need-records-of-requires
+records-of-requires c κs = search needs
 
 mul-j : tie.Need-mul-j
 mul-j c = search needs
 
-add-number4 : tie.Need-add-number4
-add-number4 c = omega (arith, (c .before .before .before .before .before .before .before .before .before .before .before .before .before .before .before .before .before .pre .1))
+fuel-of-requires : tie.Need-fuel-of-requires
+fuel-of-requires c κs = search needs
 
-number4-requires : tie.Need-number4-requires
-number4-requires c κs = omega (arith, (c .before .before .before .before .before .before .before .before .before .before .before .before .before .before .before .before .before .pre .1))
-
-cast-fuel : tie.Need-cast-fuel
-cast-fuel c = search needs
-
-add-part-2 : tie.Need-add-part-2
-add-part-2 c = omega (arith, (c .before .before .before .before .before .before .before .before .before .before .before .before .before .before .before .before .before .before .before .pre .1))
-
-part-requires-3 : tie.Need-part-requires-3
-part-requires-3 c κs =
-    let s = c .before .before .before .before .before .before .before .before .before .before .before .before .before .before .before .before .before .before .before in
-    (omega (arith, (s .pre .1)), omega (arith, (s .pre .1)))
+program-of-requires : tie.Need-program-of-requires
+program-of-requires c κs = search needs
 
 array-borrow-prefix-nodes : tie.Need-array-borrow-prefix-nodes
-array-borrow-prefix-nodes c =
-    let s = c .before .before .before .before .before .before .before .before .before .before .before .before .before .before .before .before .before .before .before .before in
-    let put = c .before .before .before .before .before .before .before .before .before .before .before .before .put in
-    omega (arith, put .ensures .short, part-short 3 (s .args .e .nodes) (s .args .image .now) _ (c .before .before .before .before .before .before .before .before .before .before .before .before .before .part .ensures) ((s .pre .1) .small), c .before .before .before .before .before .before .before .before .before .before .before .before .before .before .before .before .before .large-buffer .ensures, put .kept .0)
+array-borrow-prefix-nodes c = search needs
 
 slice-aggregate-list-run : tie.Need-slice-aggregate-list-run
-slice-aggregate-list-run c =
-    let s = c .before .before .before .before .before .before .before .before .before .before .before .before .before .before .before .before .before .before .before .before .before in
-    let put = c .before .before .before .before .before .before .before .before .before .before .before .before .before .put in
-    sym (length-take-le _ _ (omega (arith, put .ensures .short, part-short 3 (s .args .e .nodes) (s .args .image .now) _ (c .before .before .before .before .before .before .before .before .before .before .before .before .before .before .part .ensures) ((s .pre .1) .small), c .before .before .before .before .before .before .before .before .before .before .before .before .before .before .before .before .before .before .large-buffer .ensures, put .kept .0)))
+slice-aggregate-list-run c = sym (length-take-le _ _ (omega (arith, c .before .before .before .before .before .before .before .before .before .put .ensures .short, c .before .before .before .before .before .before .before .before .before .put .kept .0, c .before .before .before .before .before .before .before .before .before .before .nodes-of .ensures .small, c .before .before .before .before .before .before .before .before .before .before .before .before .before .before .large-buffer .ensures)))
 
 array-borrow-prefix-edges : tie.Need-array-borrow-prefix-edges
-array-borrow-prefix-edges c =
-    let s = c .before .before .before .before .before .before .before .before .before .before .before .before .before .before .before .before .before .before .before .before .before in
-    let put2 = c .before .before .before .before .before .before .before .before .put2 in
-    omega (arith, put2 .ensures .short, part-short (s .args .e .nodes + 3) (s .args .e .edges) (s .args .image .now) _ (c .before .before .before .before .before .before .before .before .before .part2 .ensures) ((s .pre .1) .small), c .before .before .before .before .before .before .before .before .before .before .before .before .before .before .before .before .before .large-buffer2 .ensures, put2 .kept .0)
+array-borrow-prefix-edges c = search needs
 
 slice-aggregate-list-run-2 : tie.Need-slice-aggregate-list-run-2
-slice-aggregate-list-run-2 c =
-    let s = c .before .before .before .before .before .before .before .before .before .before .before .before .before .before .before .before .before .before .before .before .before .before in
-    let put2 = c .before .before .before .before .before .before .before .before .before .put2 in
-    sym (length-take-le _ _ (omega (arith, put2 .ensures .short, part-short (s .args .e .nodes + 3) (s .args .e .edges) (s .args .image .now) _ (c .before .before .before .before .before .before .before .before .before .before .part2 .ensures) ((s .pre .1) .small), c .before .before .before .before .before .before .before .before .before .before .before .before .before .before .before .before .before .before .large-buffer2 .ensures, put2 .kept .0)))
+slice-aggregate-list-run-2 c = sym (length-take-le _ _ (omega (arith, c .before .before .before .before .before .before .put2 .ensures .short, c .before .before .before .before .before .before .put2 .kept .0, c .before .before .before .before .before .before .before .edges-of .ensures .small, c .before .before .before .before .before .before .before .before .before .before .before .before .before .before .large-buffer2 .ensures)))
 
 array-borrow-prefix-journal : tie.Need-array-borrow-prefix-journal
-array-borrow-prefix-journal c =
-    let s = c .before .before .before .before .before .before .before .before .before .before .before .before .before .before .before .before .before .before .before .before .before .before in
-    let number2 = c .before .before .before .before .before .before .number2 in
-    omega (arith, few-records (s .args .image .now) (s .args .e) (number2 .result) (s .pre .1) (number2 .ensures .0), c .before .before .before .before .before .before .before .before .before .before .before .before .before .before .before .before .before .empty-journal .ensures .long)
+array-borrow-prefix-journal c = search needs
 
 slice-aggregate-list-run-3 : tie.Need-slice-aggregate-list-run-3
-slice-aggregate-list-run-3 c =
-    let s = c .before .before .before .before .before .before .before .before .before .before .before .before .before .before .before .before .before .before .before .before .before .before .before in
-    let number2 = c .before .before .before .before .before .before .before .number2 in
-    sym (length-take-le _ _ (omega (arith, few-records (s .args .image .now) (s .args .e) (number2 .result) (s .pre .1) (number2 .ensures .0), c .before .before .before .before .before .before .before .before .before .before .before .before .before .before .before .before .before .before .empty-journal .ensures .long)))
+slice-aggregate-list-run-3 c = sym (length-take-le _ _ (omega (arith, c .before .before .before .before .before .records-of .ensures .1, c .before .before .before .before .before .before .before .before .before .before .before .before .before .before .empty-journal .ensures .long)))
 
 list-run-requires : tie.Need-list-run-requires
-list-run-requires c κs =
-    let s = c .before .before .before .before .before .before .before .before .before .before .before .before .before .before .before .before .before .before .before .before .before .before .before .before in
-    omega (arith, s .pre .0)
+list-run-requires c κs = search needs
 
 same-length : tie.Need-same-length
 same-length c = search needs
 
 returns : tie.Need-returns
 returns c =
-    let s = c .before .before .before .before .before .before .before .before .before .before .before .before .before .before .before .before .before .before .before .before .before .before .before .before .before .before .before .before .before .before in
-    let number2 = c .before .before .before .before .before .before .before .before .before .before .before .before .before .before .number2 in
-    parts-listed (s .args .image .now) (s .args .e) (s .pre .1) _ _ _ _ _ (number2 .result) (c .before .before .before .before .before .before .before .before .before .before .before .before .before .before .before .before .before .before .before .before .before .before .put .ensures .written ∙ c .before .before .before .before .before .before .before .before .before .before .before .before .before .before .before .before .before .before .before .before .before .before .before .part .ensures) (c .before .before .before .before .before .before .before .before .before .before .before .before .before .before .before .before .before .put2 .ensures .written ∙ c .before .before .before .before .before .before .before .before .before .before .before .before .before .before .before .before .before .before .part2 .ensures) (number2 .ensures .0) (zeros-front 28672 (28 * number2 .result) _ (c .before .before .before .before .before .before .before .before .before .before .before .before .before .before .before .before .before .before .before .before .before .before .before .before .before .empty-journal .ensures) (omega (arith, few-records (s .args .image .now) (s .args .e) (number2 .result) (s .pre .1) (number2 .ensures .0)))) (c .before .before .before .before .before .before .before .before .before .before .before .before .number4 .ensures .0) (c .before .before .before .before .before .before .before .before .before .before .part3 .ensures) (c .before .before .before .before .before .list-run .ensures)
+    let s = c .before .before .before .before .before .before .before .before .before .before .before .before .before .before .before .before .before .before .before .before .before .before .before .before .before .before in
+    input-listed (inputOf (s .args .image .now) (s .args .e)) _ _ _ _ _ (c .before .before .before .before .before .before .before .before .before .before .before .before .records-of .result) (c .before .before .before .before .before .before .before .before .before .before .before .before .before .before .before .before .before .before .put .ensures .written ∙ c .before .before .before .before .before .before .before .before .before .before .before .before .before .before .before .before .before .before .before .nodes-of .ensures .same) (c .before .before .before .before .before .before .before .before .before .before .before .before .before .before .put2 .ensures .written ∙ c .before .before .before .before .before .before .before .before .before .before .before .before .before .before .before .edges-of .ensures .same) (c .before .before .before .before .before .before .before .before .before .before .before .before .records-of .ensures .0) (zeros-front fullJournal (recordLength base * c .before .before .before .before .before .before .before .before .before .before .before .before .records-of .result) _ (c .before .before .before .before .before .before .before .before .before .before .before .before .before .before .before .before .before .before .before .before .before .empty-journal .ensures) (omega (arith, c .before .before .before .before .before .before .before .before .before .before .before .before .records-of .ensures .1))) (c .before .before .before .before .before .before .before .before .before .before .before .fuel-of .ensures) (c .before .before .before .before .before .before .before .before .before .before .program-of .ensures .same) (c .before .before .before .before .before .list-run .ensures)
 
 pub list-parts-spec : {M : Type 1} → statement M
 list-parts-spec =
@@ -128,20 +88,15 @@ list-parts-spec =
     large-buffer-requires-2
     empty-journal-requires
     slice-aggregate-put
-    part-requires
+    nodes-of-requires
     put-requires
     slice-aggregate-put-2
-    add-part
-    part-requires-2
+    edges-of-requires
     put-requires-2
-    add-number2
-    number2-requires
+    records-of-requires
     mul-j
-    add-number4
-    number4-requires
-    cast-fuel
-    add-part-2
-    part-requires-3
+    fuel-of-requires
+    program-of-requires
     array-borrow-prefix-nodes
     slice-aggregate-list-run
     array-borrow-prefix-edges

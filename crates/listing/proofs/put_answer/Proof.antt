@@ -1,7 +1,7 @@
 -- `put_answer` meets its contract: the words of the line, one after the other.
 use native.Mathlib.Omega.{arith}
 use borrow.Author.Needs.{needs}
-use Rattle.listing.specs.Listing.{letters}
+use Rattle.writing.specs.Words.{letters}
 use Rattle.listing.proofs.Lines.{answer-said}
 use Rattle.listing.proofs.put_answer.Statement.{statement}
 use Rattle.listing.proofs.put_answer.Tie as tie

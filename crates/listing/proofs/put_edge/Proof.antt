@@ -1,11 +1,17 @@
--- `put_edge` meets its contract: the words of the line, one after the other.
+-- `put_edge` meets its contract: the words of the line, one after the other, or nothing.
+use mathlib.Core.Path.{sym, _∙_}
 use native.Mathlib.Omega.{arith}
 use borrow.Author.Needs.{needs}
 use Rattle.labels.specs.Labels.{atomsIn}
-use Rattle.listing.specs.Listing.{letters}
+use Rattle.writing.specs.Words.{letters}
+use Rattle.writing.specs.Laws.Rows.{nothing}
 use Rattle.listing.proofs.Lines.{edge-said}
+use Rattle.listing.proofs.Walks.{slot-free, slot-edge}
 use Rattle.listing.proofs.put_edge.Statement.{statement}
 use Rattle.listing.proofs.put_edge.Tie as tie
+
+edge-live-requires : tie.Need-edge-live-requires
+edge-live-requires c κs = search needs
 
 edge-mark-requires : tie.Need-edge-mark-requires
 edge-mark-requires c κs = search needs
@@ -29,16 +35,16 @@ put-number-requires : tie.Need-put-number-requires
 put-number-requires c κs = search needs
 
 put-number-requires-2 : tie.Need-put-number-requires-2
-put-number-requires-2 c κs = search needs
+put-number-requires-2 c κs = omega (arith, c .before .before .before .before .before .before .before .before .before .before .before .before .before .before .before .before .before .before .before .pre .1 .1, c .before .before .before .before .before .before .before .put .ensures .short, c .before .before .before .put-number .ensures .short)
 
 put-number-requires-3 : tie.Need-put-number-requires-3
-put-number-requires-3 c κs = omega (arith, c .before .before .before .before .before .before .before .before .before .before .before .before .before .before .before .before .before .before .before .before .before .pre .1 .1, c .before .before .before .before .before .before .before .before .before .before .before .put .ensures .short, c .before .before .before .before .before .before .before .put-number .ensures .short, c .before .before .before .put-number2 .ensures .short)
+put-number-requires-3 c κs = omega (arith, c .before .before .before .before .before .before .before .before .before .before .before .before .before .before .before .before .before .before .before .before .before .before .before .pre .1 .1, c .before .before .before .before .before .before .before .before .before .before .before .put .ensures .short, c .before .before .before .before .before .before .before .put-number .ensures .short, c .before .before .before .put-number2 .ensures .short)
 
 put-mark-requires : tie.Need-put-mark-requires
-put-mark-requires c κs = omega (arith, c .before .before .before .before .before .before .before .before .before .before .before .before .before .before .before .before .before .before .before .before .before .before .before .before .before .pre .1 .1, c .before .before .before .before .before .before .before .before .before .before .before .before .before .before .before .put .ensures .short, c .before .before .before .before .before .before .before .before .before .before .before .put-number .ensures .short, c .before .before .before .before .before .before .before .put-number2 .ensures .short, c .before .before .before .put-number3 .ensures .short)
+put-mark-requires c κs = omega (arith, c .before .before .before .before .before .before .before .before .before .before .before .before .before .before .before .before .before .before .before .before .before .before .before .before .before .before .before .pre .1 .1, c .before .before .before .before .before .before .before .before .before .before .before .before .before .before .before .put .ensures .short, c .before .before .before .before .before .before .before .before .before .before .before .put-number .ensures .short, c .before .before .before .before .before .before .before .put-number2 .ensures .short, c .before .before .before .put-number3 .ensures .short)
 
 put-label-requires : tie.Need-put-label-requires
-put-label-requires c κs = (c .before .before .before .before .before .before .before .before .before .before .before .before .before .before .before .before .before .before .before .before .before .before .edge-label .ensures .held, omega (arith, c .before .before .before .before .before .before .before .before .before .before .before .before .before .before .before .before .before .before .before .before .before .before .before .before .before .before .before .before .before .pre .1 .1, c .before .before .before .before .before .before .before .before .before .before .before .before .before .before .before .before .before .before .before .put .ensures .short, c .before .before .before .before .before .before .before .before .before .before .before .before .before .before .before .put-number .ensures .short, c .before .before .before .before .before .before .before .before .before .before .before .put-number2 .ensures .short, c .before .before .before .before .before .before .before .put-number3 .ensures .short, c .before .before .before .put-mark .ensures .short))
+put-label-requires c κs = (c .before .before .before .before .before .before .before .before .before .before .before .before .before .before .before .before .before .before .before .before .before .before .edge-label .ensures .held, omega (arith, c .before .before .before .before .before .before .before .before .before .before .before .before .before .before .before .before .before .before .before .before .before .before .before .before .before .before .before .before .before .before .before .pre .1 .1, c .before .before .before .before .before .before .before .before .before .before .before .before .before .before .before .before .before .before .before .put .ensures .short, c .before .before .before .before .before .before .before .before .before .before .before .before .before .before .before .put-number .ensures .short, c .before .before .before .before .before .before .before .before .before .before .before .put-number2 .ensures .short, c .before .before .before .before .before .before .before .put-number3 .ensures .short, c .before .before .before .put-mark .ensures .short))
 
 same-length : tie.Need-same-length
 same-length c = search needs
@@ -46,16 +52,17 @@ same-length c = search needs
 returns : tie.Need-returns
 unfolding letters
 returns c =
-    let edge-source = c .before .before .before .before .before .before .before .before .before .before .before .before .before .before .before .before .before .before .before .before .before .before .before .before .before .before .before .edge-source in
-    let edge-target = c .before .before .before .before .before .before .before .before .before .before .before .before .before .before .before .before .before .before .before .before .before .before .before .before .before .before .edge-target in
-    let edge-mark = c .before .before .before .before .before .before .before .before .before .before .before .before .before .before .before .before .before .before .before .before .before .before .before .before .before .before .before .before .edge-mark in
-    let edge-label = c .before .before .before .before .before .before .before .before .before .before .before .before .before .before .before .before .before .before .before .before .before .before .before .before .before .edge-label in
-    edge-said (c .before .before .before .before .before .before .before .before .before .before .before .before .before .before .before .before .before .before .before .before .before .before .before .before .before .before .before .before .before .before .before .before .args .x) (edge-source .result) (edge-target .result) (edge-mark .result) (atomsIn (edge-label .result)) _ (edge-source .ensures) (edge-target .ensures) (edge-mark .ensures) (edge-label .ensures .atoms) (c .before .before .before .before .before .before .before .before .before .before .before .before .before .before .before .before .before .before .before .before .before .before .put .ensures) (c .before .before .before .before .before .before .before .before .before .before .before .before .before .before .before .before .before .before .put-number .ensures) (c .before .before .before .before .before .before .before .before .before .before .before .before .before .before .put-number2 .ensures) (c .before .before .before .before .before .before .before .before .before .before .put-number3 .ensures) (c .before .before .before .before .before .before .put-mark .ensures) (c .before .before .put-label .ensures)
+    rw (slot-edge (c .before .before .before .before .before .before .before .before .before .before .before .before .before .before .before .before .before .before .before .before .before .before .before .before .before .before .before .before .before .before .before .before .before .before .args .x) _ (sym (c .before .before .before .before .before .before .before .before .before .before .before .before .before .before .before .before .before .before .before .before .before .before .before .before .before .before .before .before .before .before .edge-live .ensures) ∙ c .before .before .before .before .before .before .before .before .before .before .before .before .before .before .before .before .before .before .before .before .before .before .before .before .before .before .before .before .before .if1 .taken))
+    (edge-said (c .before .before .before .before .before .before .before .before .before .before .before .before .before .before .before .before .before .before .before .before .before .before .before .before .before .before .before .before .before .before .before .before .before .before .args .x) (c .before .before .before .before .before .before .before .before .before .before .before .before .before .before .before .before .before .before .before .before .before .before .before .before .before .before .before .edge-source .result) (c .before .before .before .before .before .before .before .before .before .before .before .before .before .before .before .before .before .before .before .before .before .before .before .before .before .before .edge-target .result) (c .before .before .before .before .before .before .before .before .before .before .before .before .before .before .before .before .before .before .before .before .before .before .before .before .before .before .before .before .edge-mark .result) (atomsIn (c .before .before .before .before .before .before .before .before .before .before .before .before .before .before .before .before .before .before .before .before .before .before .before .before .before .edge-label .result)) _ (c .before .before .before .before .before .before .before .before .before .before .before .before .before .before .before .before .before .before .before .before .before .before .before .before .before .before .before .edge-source .ensures) (c .before .before .before .before .before .before .before .before .before .before .before .before .before .before .before .before .before .before .before .before .before .before .before .before .before .before .edge-target .ensures) (c .before .before .before .before .before .before .before .before .before .before .before .before .before .before .before .before .before .before .before .before .before .before .before .before .before .before .before .before .edge-mark .ensures) (c .before .before .before .before .before .before .before .before .before .before .before .before .before .before .before .before .before .before .before .before .before .before .before .before .before .edge-label .ensures .atoms) (c .before .before .before .before .before .before .before .before .before .before .before .before .before .before .before .before .before .before .before .before .before .before .put .ensures) (c .before .before .before .before .before .before .before .before .before .before .before .before .before .before .before .before .before .before .put-number .ensures) (c .before .before .before .before .before .before .before .before .before .before .before .before .before .before .put-number2 .ensures) (c .before .before .before .before .before .before .before .before .before .before .put-number3 .ensures) (c .before .before .before .before .before .before .put-mark .ensures) (c .before .before .put-label .ensures))
+
+returns-2 : tie.Need-returns-2
+returns-2 c = rw (slot-free _ (c .before .before .before .before .before .args .x) _ (sym (c .before .edge-live .ensures) ∙ c .if1 .left)) (nothing _ _ _)
 
 pub put-edge-spec : {M : Type 1} → statement M
 put-edge-spec =
     tie.close
     (tie.spec
+    edge-live-requires
     edge-mark-requires
     edge-source-requires
     edge-target-requires
@@ -68,4 +75,5 @@ put-edge-spec =
     put-mark-requires
     put-label-requires
     same-length
-    returns)
+    returns
+    returns-2)

@@ -1,11 +1,17 @@
--- `put_node` meets its contract: the words of the line, one after the other.
+-- `put_node` meets its contract: the words of the line, one after the other, or nothing.
+use mathlib.Core.Path.{sym, _∙_}
 use native.Mathlib.Omega.{arith}
 use borrow.Author.Needs.{needs}
 use Rattle.labels.specs.Labels.{atomsIn}
-use Rattle.listing.specs.Listing.{letters}
+use Rattle.writing.specs.Words.{letters}
+use Rattle.writing.specs.Laws.Rows.{nothing}
 use Rattle.listing.proofs.Lines.{node-said}
+use Rattle.listing.proofs.Walks.{slot-free, slot-node}
 use Rattle.listing.proofs.put_node.Statement.{statement}
 use Rattle.listing.proofs.put_node.Tie as tie
+
+node-live-requires : tie.Need-node-live-requires
+node-live-requires c κs = search needs
 
 node-mark-requires : tie.Need-node-mark-requires
 node-mark-requires c κs = search needs
@@ -29,10 +35,10 @@ put-mark-requires : tie.Need-put-mark-requires
 put-mark-requires c κs = search needs
 
 put-root-requires : tie.Need-put-root-requires
-put-root-requires c κs = search needs
+put-root-requires c κs = omega (arith, c .before .before .before .before .before .before .before .before .before .before .before .before .before .before .before .before .before .before .before .before .before .before .pre .1 .1, c .before .before .before .before .before .before .before .before .before .before .before .put .ensures .short, c .before .before .before .before .before .before .before .put-number .ensures .short, c .before .before .before .put-mark .ensures .short)
 
 put-label-requires : tie.Need-put-label-requires
-put-label-requires c κs = (c .before .before .before .before .before .before .before .before .before .before .before .before .before .before .before .before .before .before .node-label .ensures .held, omega (arith, c .before .before .before .before .before .before .before .before .before .before .before .before .before .before .before .before .before .before .before .before .before .before .before .before .pre .1 .1, c .before .before .before .before .before .before .before .before .before .before .before .before .before .before .before .put .ensures .short, c .before .before .before .before .before .before .before .before .before .before .before .put-number .ensures .short, c .before .before .before .before .before .before .before .put-mark .ensures .short, c .before .before .before .put-root .ensures .short))
+put-label-requires c κs = (c .before .before .before .before .before .before .before .before .before .before .before .before .before .before .before .before .before .before .node-label .ensures .held, omega (arith, c .before .before .before .before .before .before .before .before .before .before .before .before .before .before .before .before .before .before .before .before .before .before .before .before .before .before .pre .1 .1, c .before .before .before .before .before .before .before .before .before .before .before .before .before .before .before .put .ensures .short, c .before .before .before .before .before .before .before .before .before .before .before .put-number .ensures .short, c .before .before .before .before .before .before .before .put-mark .ensures .short, c .before .before .before .put-root .ensures .short))
 
 same-length : tie.Need-same-length
 same-length c = search needs
@@ -40,15 +46,17 @@ same-length c = search needs
 returns : tie.Need-returns
 unfolding letters
 returns c =
-    let node-mark = c .before .before .before .before .before .before .before .before .before .before .before .before .before .before .before .before .before .before .before .before .before .before .before .node-mark in
-    let node-root = c .before .before .before .before .before .before .before .before .before .before .before .before .before .before .before .before .before .before .before .before .before .before .node-root in
-    let node-label = c .before .before .before .before .before .before .before .before .before .before .before .before .before .before .before .before .before .before .before .before .before .node-label in
-    node-said (c .before .before .before .before .before .before .before .before .before .before .before .before .before .before .before .before .before .before .before .before .before .before .before .before .before .before .before .args .x) (node-mark .result) (node-root .result) (atomsIn (node-label .result)) _ (node-mark .ensures) (node-root .ensures) (node-label .ensures .atoms) (c .before .before .before .before .before .before .before .before .before .before .before .before .before .before .before .before .before .before .put .ensures) (c .before .before .before .before .before .before .before .before .before .before .before .before .before .before .put-number .ensures) (c .before .before .before .before .before .before .before .before .before .before .put-mark .ensures) (c .before .before .before .before .before .before .put-root .ensures) (c .before .before .put-label .ensures)
+    rw (slot-node (c .before .before .before .before .before .before .before .before .before .before .before .before .before .before .before .before .before .before .before .before .before .before .before .before .before .before .before .before .before .args .x) _ (sym (c .before .before .before .before .before .before .before .before .before .before .before .before .before .before .before .before .before .before .before .before .before .before .before .before .before .node-live .ensures) ∙ c .before .before .before .before .before .before .before .before .before .before .before .before .before .before .before .before .before .before .before .before .before .before .before .before .if1 .taken))
+    (node-said (c .before .before .before .before .before .before .before .before .before .before .before .before .before .before .before .before .before .before .before .before .before .before .before .before .before .before .before .before .before .args .x) (c .before .before .before .before .before .before .before .before .before .before .before .before .before .before .before .before .before .before .before .before .before .before .before .node-mark .result) (c .before .before .before .before .before .before .before .before .before .before .before .before .before .before .before .before .before .before .before .before .before .before .node-root .result) (atomsIn (c .before .before .before .before .before .before .before .before .before .before .before .before .before .before .before .before .before .before .before .before .before .node-label .result)) _ (c .before .before .before .before .before .before .before .before .before .before .before .before .before .before .before .before .before .before .before .before .before .before .before .node-mark .ensures) (c .before .before .before .before .before .before .before .before .before .before .before .before .before .before .before .before .before .before .before .before .before .before .node-root .ensures) (c .before .before .before .before .before .before .before .before .before .before .before .before .before .before .before .before .before .before .before .before .before .node-label .ensures .atoms) (c .before .before .before .before .before .before .before .before .before .before .before .before .before .before .before .before .before .before .put .ensures) (c .before .before .before .before .before .before .before .before .before .before .before .before .before .before .put-number .ensures) (c .before .before .before .before .before .before .before .before .before .before .put-mark .ensures) (c .before .before .before .before .before .before .put-root .ensures) (c .before .before .put-label .ensures))
+
+returns-2 : tie.Need-returns-2
+returns-2 c = rw (slot-free _ (c .before .before .before .before .before .args .x) _ (sym (c .before .node-live .ensures) ∙ c .if1 .left)) (nothing _ _ _)
 
 pub put-node-spec : {M : Type 1} → statement M
 put-node-spec =
     tie.close
     (tie.spec
+    node-live-requires
     node-mark-requires
     node-root-requires
     node-label-requires
@@ -59,4 +67,5 @@ put-node-spec =
     put-root-requires
     put-label-requires
     same-length
-    returns)
+    returns
+    returns-2)

@@ -8,17 +8,17 @@ use Rattle.listing.proofs.put_outcome.Tie as tie
 put-answer-requires : tie.Need-put-answer-requires
 put-answer-requires c κs = search needs
 
-put-nodes-requires : tie.Need-put-nodes-requires
-put-nodes-requires c κs =
+put-table-requires : tie.Need-put-table-requires
+put-table-requires c κs =
     let s = c .before .before .before .before .before .before .before .before .before .before in
-    let if1 = c .before .if1 in
-    ((s .pre .1 .1 (if1 .taken)) .legal, omega (arith, (s .pre .1 .1 (if1 .taken)) .room, s .pre .0, c .before .before .before .before .put-answer .ensures .short))
+    let ready = s .pre .1 .1 (c .before .if1 .taken) in
+    (ready .legal, omega (arith, ready .room, s .pre .0, c .before .before .before .before .put-answer .ensures .short))
 
-put-edges-requires : tie.Need-put-edges-requires
-put-edges-requires c κs =
+put-table-requires-2 : tie.Need-put-table-requires-2
+put-table-requires-2 c κs =
     let s = c .before .before .before .before .before .before .before .before .before .before .before .before .before .before in
-    let if1 = c .before .before .before .before .before .if1 in
-    ((s .pre .1 .1 (if1 .taken)) .legal, omega (arith, (s .pre .1 .1 (if1 .taken)) .room, s .pre .0, c .before .before .before .before .before .before .before .before .put-answer .ensures .short, c .before .before .before .put-nodes .ensures .short))
+    let ready = s .pre .1 .1 (c .before .before .before .before .before .if1 .taken) in
+    (ready .legal, omega (arith, ready .room, s .pre .0, c .before .before .before .before .before .before .before .before .put-answer .ensures .short, c .before .before .before .put-table .ensures .short))
 
 same-length : tie.Need-same-length
 same-length c = search needs
@@ -26,8 +26,7 @@ same-length c = search needs
 returns : tie.Need-returns
 returns c =
     let s = c .before .before .before .before .before .before .before .before .before .before .before .before .before .before .before .before .before in
-    let if1 = c .before .before .before .before .before .before .before .before .if1 in
-    outcome-result (s .args .l) (s .args .answer) (s .args .report .now) (s .args .nodes .now) (s .args .edges .now) (c .before .before .before .before .before .before .before .before .before .before .before .put-answer .ensures) (if1 .taken) (c .before .before .before .before .before .before .put-nodes .ensures) (c .before .before .put-edges .ensures) (omega (arith, (s .pre .1 .1 (if1 .taken)) .room))
+    outcome-result (s .args .l) (s .args .answer) (s .args .report .now) (s .args .nodes .now) (s .args .edges .now) (c .before .before .before .before .before .before .before .before .before .before .before .put-answer .ensures) (c .before .before .before .before .before .before .before .before .if1 .taken) (c .before .before .before .before .before .before .put-table .ensures) (c .before .before .put-table2 .ensures) (s .pre .1 .1 (c .before .before .before .before .before .before .before .before .if1 .taken) .room)
 
 same-length-2 : tie.Need-same-length-2
 same-length-2 c = search needs
@@ -42,8 +41,8 @@ put-outcome-spec =
     tie.close
     (tie.spec
     put-answer-requires
-    put-nodes-requires
-    put-edges-requires
+    put-table-requires
+    put-table-requires-2
     same-length
     returns
     same-length-2

@@ -1,0 +1,30 @@
+-- The two tables of a host, by name: how many slots one has, and the lines of its live slots. Rests on Listing and Rooms.
+use mathlib.Core.List.{List}
+use Prim.Native.Nat.{ℕ}
+use lib.ListN.{length, getD, drop}
+use Rattle.meaning.specs.Layout.{free, readNodes, readEdges}
+use Rattle.meaning.specs.declared.Layout.{Layout}
+use Rattle.listing.specs.Listing.{nodeLine, edgeLine, slotLine, liveLines}
+use Rattle.listing.specs.Rooms.{nodeSize, edgeSize}
+use Rattle.listing.specs.declared.Table.{Table}
+use Rattle.listing.specs.declared.Table.the-variants.{Nodes, Edges}
+
+-- the most bytes of a slot's line
+abbrev pub lineSize : Table → ℕ
+lineSize Nodes = nodeSize
+lineSize Edges = edgeSize
+
+module _ (L : Layout) (nodes edges : List ℕ) where
+  abbrev pub slotsIn : Table → ℕ
+  slotsIn Nodes = length (readNodes L nodes)
+  slotsIn Edges = length (readEdges L edges)
+
+  -- the line of slot x, where it is live
+  abbrev pub slotText : Table → ℕ → List ℕ
+  slotText Nodes x = slotLine nodeLine x (getD (readNodes L nodes) x free)
+  slotText Edges x = slotLine edgeLine x (getD (readEdges L edges) x free)
+
+  -- the lines from slot x on
+  abbrev pub linesFrom : Table → ℕ → List ℕ
+  linesFrom Nodes x = liveLines nodeLine x (drop x (readNodes L nodes))
+  linesFrom Edges x = liveLines edgeLine x (drop x (readEdges L edges))

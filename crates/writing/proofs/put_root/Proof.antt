@@ -1,0 +1,45 @@
+-- `put_root` meets its contract.
+use borrow.Author.Needs.{needs}
+use Rattle.writing.specs.Words.{letters}
+use Rattle.writing.proofs.Words.{root-plain, root-root}
+use Rattle.writing.proofs.put_root.Statement.{statement}
+use Rattle.writing.proofs.put_root.Tie as tie
+
+slice-aggregate-put : tie.Need-slice-aggregate-put
+slice-aggregate-put c = search needs
+
+put-requires : tie.Need-put-requires
+put-requires c κs = search needs
+
+same-length : tie.Need-same-length
+same-length c = search needs
+
+returns : tie.Need-returns
+unfolding letters
+returns c = root-plain (c .before .before .before .before .before .before .before .args .root) (c .before .before .before .before .before .if1 .taken) (c .before .before .put .ensures)
+
+slice-aggregate-put-2 : tie.Need-slice-aggregate-put-2
+slice-aggregate-put-2 c = search needs
+
+put-requires-2 : tie.Need-put-requires-2
+put-requires-2 c κs = search needs
+
+same-length-2 : tie.Need-same-length-2
+same-length-2 c = search needs
+
+returns-2 : tie.Need-returns-2
+unfolding letters
+returns-2 c = root-root (c .before .before .before .before .before .before .before .args .root) (c .before .before .before .before .before .if1 .left) (c .before .before .put2 .ensures)
+
+pub put-root-spec : {M : Type 1} → statement M
+put-root-spec =
+    tie.close
+    (tie.spec
+    slice-aggregate-put
+    put-requires
+    same-length
+    returns
+    slice-aggregate-put-2
+    put-requires-2
+    same-length-2
+    returns-2)
