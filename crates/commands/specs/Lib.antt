@@ -1,5 +1,2 @@
 pub mod Program
 pub mod Cycle
-pub mod Parts
-pub mod States
-pub mod Turns

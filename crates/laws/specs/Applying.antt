@@ -25,11 +25,6 @@ pub store-host : (c : Change (Slot Node) (Slot Edge)) (g : Ledger) → store c g
 unfolding store
 store-host c g = refl
 
-pub store-journal : (c : Change (Slot Node) (Slot Edge)) (g : Ledger)
-    → store c g .journal ≡ standing c (g .host) ∷ g .journal
-unfolding store
-store-journal c g = refl
-
 pub stores-append : (a b : List (Change (Slot Node) (Slot Edge))) (g : Ledger)
     → stores (a ++ b) g ≡ stores b (stores a g)
 unfolding stores

@@ -198,25 +198,6 @@ module _ (most room : ℕ) (rules : List Rule) where
   pub exec-from : (c : Command) (s : State) → From (s .ledger) (exec most room rules c s .state .ledger)
   exec-from c s = exec-kept _ from-kept c s
 
-  pub work-from : (c : Command) (s : State) → From (s .ledger) (work most room rules c s .state .ledger)
-  work-from c s = work-kept _ from-kept c s
-
-  pub works-from : (cs : Commands) (s : State) → From (s .ledger) (works most room rules cs s .state .ledger)
-  works-from cs s = works-kept _ from-kept cs s
-
-  pub rounds-from : (n : ℕ) (c : Command) (s : State)
-      → From (s .ledger) (rounds n (exec most room rules c) s .state .ledger)
-  rounds-from n c s = rounds-kept _ from-kept n (exec most room rules c) (exec-from c) s
-
-  -- a table's length stays
-  pub exec-nodes : (c : Command) (s : State)
-      → length (exec most room rules c s .state .ledger .host .nodes) ≡ length (s .ledger .host .nodes)
-  exec-nodes c s = from-nodes _ _ (exec-from c s)
-
-  pub exec-edges : (c : Command) (s : State)
-      → length (exec most room rules c s .state .ledger .host .edges) ≡ length (s .ledger .host .edges)
-  exec-edges c s = from-edges _ _ (exec-from c s)
-
   -- The records stay within the room.
 
   pub room-kept : Kept (λ s t. length (s .ledger .journal) ≤ room → length (t .ledger .journal) ≤ room)

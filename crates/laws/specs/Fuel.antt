@@ -46,13 +46,6 @@ module _ (most room : ℕ) (rules : List Rule) where
   pub works-counted : (cs : Commands) (s : State) → Counted s (works most room rules cs s .state)
   works-counted cs s = works-kept most room rules Counted counted-kept cs s
 
-  pub rounds-counted : (n : ℕ) (c : Command) (s : State) → Counted s (rounds n (exec most room rules c) s .state)
-  rounds-counted n c s = rounds-kept most room rules Counted counted-kept n (exec most room rules c) (exec-counted c) s
-
-  -- no more steps than the fuel that was given
-  pub exec-steps : (c : Command) (s : State) → exec most room rules c s .state .steps ≤ s .steps + s .fuel
-  exec-steps c s = let h = exec-counted c s in omega (arith, h .total)
-
 -- A command spends: it stops at once with no fuel, and else at least one is gone.
 
 pub record Spending (body : State → Out) : Type 0 where
@@ -76,15 +69,6 @@ enter-spending k h =
 
 pub exec-spending : (most room : ℕ) (rules : List Rule) (c : Command) → Spending (exec most room rules c)
 exec-spending most room rules c = enter-spending _ (λ s. work-counted most room rules c s .less)
-
--- less is left, unless fuel ran out
-pub spends-less : (body : State → Out) → Spending body → (s : State) → (body s .end ≡ Stopped OutOfFuel → ⊥)
-    → body s .state .fuel < s .fuel
-spends-less body b s h = at (ℕ-discrete (s .fuel) 0)
-  where
-    at : Dec (s .fuel ≡ 0) → body s .state .fuel < s .fuel
-    at (yes e) = absurd (h (ap (λ (o : Out). o .end) (b .empty s e)))
-    at (no n) = omega (arith, b .spends s)
 
 -- Out of fuel.
 
@@ -189,12 +173,6 @@ module _ (most room : ℕ) (rules : List Rule) where
     works-spent : (cs : Commands) (s : State) → Spent (works most room rules cs s)
     works-spent stop s = tt
     works-spent (then c cs) s = next-spent _ _ _ (enter-spent (s .fuel) _ (λ t. work-spent c t) s refl) (works-spent cs _)
-
-  pub exec-spent : (c : Command) (s : State) → exec most room rules c s .end ≡ Stopped OutOfFuel
-      → exec most room rules c s .state .fuel ≡ 0
-  exec-spent c s e =
-      let h = enter-spent (s .fuel) (λ t. work most room rules c t) (work-spent c) s refl in
-      rw e at h
 
 -- The rounds of a loop do not depend on their bound where that is at least the fuel.
 

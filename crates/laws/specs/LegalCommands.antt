@@ -62,14 +62,6 @@ module _ (L : Layout) (m n : ℕ) (fewNodes : m ≤ 256 ^ L .width) (fewEdges : 
         → LegalLedger L m n (exec (L .atoms) room rules c s .state .ledger)
     exec-legal c s h = exec-kept (L .atoms) room rules _ legal-kept c s h
 
-    pub work-legal : (c : Command) (s : State) → LegalLedger L m n (s .ledger)
-        → LegalLedger L m n (work (L .atoms) room rules c s .state .ledger)
-    work-legal c s h = work-kept (L .atoms) room rules _ legal-kept c s h
-
-    pub works-legal : (cs : Commands) (s : State) → LegalLedger L m n (s .ledger)
-        → LegalLedger L m n (works (L .atoms) room rules cs s .state .ledger)
-    works-legal cs s h = works-kept (L .atoms) room rules _ legal-kept cs s h
-
     -- and none ends with answer 7
     after-attached : (a : Applied) (s : State) → (a ≡ hindered EdgeOnFreeNode → ⊥) → OnStop (λ w. w ≡ EdgeOnFreeNode → ⊥) (afterApplying a s .end)
     unfolding afterApplying

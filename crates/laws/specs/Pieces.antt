@@ -50,18 +50,6 @@ getD-pieces w (suc n) bs zero h = rw zero-mul
 getD-pieces w (suc n) bs (suc i) h =
     getD-pieces w n (drop w bs) i (omega arith) ∙ rw (drop-drop (i * w) w bs, suc-mul i w, add-comm (i * w) w)
 
--- byte j of piece i, and the piece as a part of the bytes
-pub getD-slot : (w i j : ℕ) (bs : List ℕ) → j < w → getD (take w (drop (i * w) bs)) j 0 ≡ getD bs (i * w + j) 0
-getD-slot w i j bs h = getD-take w (drop (i * w) bs) j 0 h ∙ getD-drop (i * w) bs j 0
-
-pub slice-slot : (w i : ℕ) (bs : List ℕ) → slice (i * w) (i * w + w) bs ≡ take w (drop (i * w) bs)
-slice-slot w i bs = at (i * w) bs
-  where
-    at : (n : ℕ) (l : List ℕ) → drop n (take (n + w) l) ≡ take w (drop n l)
-    at zero l = rw (zero-add w)
-    at (suc n) [] = rw (suc-add n w) (sym (take-nil w))
-    at (suc n) (a ∷ l) = rw (suc-add n w) (at n l)
-
 -- each list has w elements
 abbrev pub Wide : ℕ → List (List ℕ) → Type 0
 Wide w ls = (i : ℕ) → i < length ls → length (getD ls i []) ≡ w
@@ -181,27 +169,6 @@ stored-suc w i b l bs h =
 pub length-stored : (w i : ℕ) (b bs : List ℕ) → i * w + w ≤ length bs → length b ≡ w → length (stored w i b bs) ≡ length bs
 length-stored w i b bs h k = simp (length-append, length-take, length-drop) (omega arith)
 
--- a copy of w bytes to piece i, and a store of its byte j
-pub paste-stored : (w i : ℕ) (b bs : List ℕ) → length b ≡ w → paste bs (i * w) b w ≡ stored w i b bs
-paste-stored w i b bs h = rw (take-all w b (omega arith))
-
-pub set-stored : (w i j : ℕ) (bs : List ℕ) (v : ℕ) → i * w + w ≤ length bs → j < w
-    → set bs (i * w + j) v ≡ stored w i (set (take w (drop (i * w) bs)) j v) bs
-set-stored w i j bs v h k =
-    sym (take-append-drop (i * w) (set bs (i * w + j) v))
-    ∙ rw (take-set-le (i * w) bs (i * w + j) v (omega arith), drop-set-add (i * w) bs j v)
-    (ap (λ (l : List ℕ). take (i * w) bs ++ l) inside)
-    ∙ sym (append-assoc (take (i * w) bs) (set (take w (drop (i * w) bs)) j v) (drop (i * w + w) bs))
-  where
-    piece : length (take w (drop (i * w) bs)) ≡ w
-    piece = length-take-le w (drop (i * w) bs) (rw length-drop (omega arith))
-
-    inside : set (drop (i * w) bs) j v ≡ set (take w (drop (i * w) bs)) j v ++ drop (i * w + w) bs
-    inside =
-        ap (λ (l : List ℕ). set l j v) (sym (take-append-drop w (drop (i * w) bs)))
-        ∙ set-append-left (take w (drop (i * w) bs)) (drop w (drop (i * w) bs)) j v (omega (arith, piece))
-        ∙ ap (λ (l : List ℕ). set (take w (drop (i * w) bs)) j v ++ l) (drop-drop w (i * w) bs)
-
 pub pieces-stored : (w n i : ℕ) (b bs : List ℕ) → i < n → n * w ≤ length bs → length b ≡ w
     → pieces w n (stored w i b bs) ≡ set (pieces w n bs) i b
 pieces-stored w zero i b bs h k l = absurd (omega arith)
@@ -236,12 +203,6 @@ module _ {A : Type 0} (w : ℕ) (read : List ℕ → A) where
   pub length-read : (bs : List ℕ) → length (map read (cut w bs)) ≡ length bs / w
   length-read bs = length-map (cut w bs) read ∙ length-pieces w (length bs / w) bs
 
-  -- slot i, read from its own bytes
-  pub getD-read : (bs : List ℕ) (i : ℕ) (d : A) → i < length bs / w → getD (map read (cut w bs)) i d ≡ read (take w (drop (i * w) bs))
-  getD-read bs i d h =
-      getD-map read (cut w bs) i [] d (rw (length-pieces w (length bs / w) bs) h)
-      ∙ ap read (getD-pieces w (length bs / w) bs i h)
-
   pub read-stored : (i : ℕ) (b bs : List ℕ) → i < length bs / w → length b ≡ w
       → map read (cut w (stored w i b bs)) ≡ set (map read (cut w bs)) i (read b)
   read-stored i b bs h k = ap (map read) (cut-stored w i b bs h k) ∙ map-set read (cut w bs) i b
@@ -274,12 +235,6 @@ module _ {A : Type 0} (w : ℕ) (write : A → List ℕ) (l : List A) (d : A)
 
   pub cut-write : 0 < w → cut w (concat (map write l)) ≡ map write l
   cut-write h = cut-concat w (map write l) h Wide-write
-
-  pub fits-write : (most : ℕ) → 0 < w → length l ≤ most → fitsTable w most (concat (map write l)) ≡ true
-  unfolding fitsTable
-  fits-write most h k =
-      rw (length-write, mul-div-cancel (length l) h)
-      (both-of _ _ (eq-eqb _ 0 (mul-mod-left (length l) w)) (le-leb (length l) most k))
 
   -- slots that are read as they were written
   pub read-write : 0 < w → (read : List ℕ → A) → ((i : ℕ) → i < length l → read (write (getD l i d)) ≡ getD l i d)

@@ -132,14 +132,6 @@ unfoldable pub Within : {A B : Type 0} → ℕ → ℕ → Change A B → Type 0
 Within m n (ofNode i a) = i < m
 Within m n (ofEdge i b) = i < n
 
-pub within-record : (L : Layout) (m n : ℕ) (b : List ℕ) → keepsRecord L m n b ≡ true → Within m n (readRecord L b)
-unfolding Within
-within-record L m n b e = at (keepsRecord-true L b m n e)
-  where
-    at : ((getD b 0 0 ≡ 1) × (slotOf L b < m)) ⊎ ((getD b 0 0 ≡ 2) × (slotOf L b < n)) → Within m n (readRecord L b)
-    at (inl k) = rw (readRecord-node L b (k .0)) (k .1)
-    at (inr k) = rw (readRecord-edge L b (k .0)) (k .1)
-
 pub keepsRecord-write : (L : Layout) → 0 < L .width → (m n : ℕ) (c : Change (Slot Node) (Slot Edge))
     → LegalChange L c → Within m n c → keepsRecord L m n (writeRecord L c) ≡ true
 unfolding keepsRecord clauses writeRecord LegalChange Within
@@ -165,9 +157,6 @@ module _ (L : Layout) (n : ℕ) (journal : List ℕ) (h : suc n * recordLength L
   length-recordAt : length (recordAt L n journal) ≡ recordLength L
   length-recordAt = simp (length-take, length-drop) (omega (arith, suc-mul n (recordLength L)))
 
-  pub length-before : (w : ℕ) → w ≤ edgeLength L → length (take w (drop (2 * L .width) (recordAt L n journal))) ≡ w
-  length-before w k = length-take-le w _ (rw (length-drop (2 * L .width) (recordAt L n journal), length-recordAt) (omega arith))
-
 pub records-suc : (L : Layout) (n : ℕ) (journal : List ℕ)
     → reverse (map (readRecord L) (counted L (suc n) journal))
     ≡ readRecord L (recordAt L n journal) ∷ reverse (map (readRecord L) (counted L n journal))
@@ -181,34 +170,12 @@ module _ (L : Layout) (nodes edges journal : List ℕ) where
   abbrev earlier : ℕ → List (Change (List ℕ) (List ℕ))
   earlier n = reverse (map (readRecord L) (counted L n journal))
 
-  pub undo-none : tablesUndone L nodes edges journal 0 ≡ record { nodes = cut (nodeLength L) nodes; edges = cut (edgeLength L) edges }
-  unfolding tablesUndone undone pieces
-  undo-none = refl
-
   undo-last : (n : ℕ) (c : Change (List ℕ) (List ℕ)) → readRecord L (recordAt L n journal) ≡ c
       → tablesUndone L nodes edges journal (suc n) ≡ undone (earlier n) (put c slots)
   unfolding tablesUndone undone
   undo-last n c e =
       ap (λ (cs : List (Change (List ℕ) (List ℕ))). undone cs slots) (records-suc L n journal)
       ∙ ap (λ (d : Change (List ℕ) (List ℕ)). undone (earlier n) (put d slots)) e
-
-  pub undo-node : (n i : ℕ) (b : List ℕ) → readRecord L (recordAt L n journal) ≡ ofNode i b
-      → i < length nodes / nodeLength L → length b ≡ nodeLength L
-      → tablesUndone L nodes edges journal (suc n) ≡ tablesUndone L (stored (nodeLength L) i b nodes) edges journal n
-  unfolding tablesUndone put
-  undo-node n i b e h k =
-      undo-last n (ofNode i b) e
-      ∙ ap (λ (l : List (List ℕ)). undone (earlier n) (record { nodes = l; edges = slots .edges }))
-      (sym (cut-stored (nodeLength L) i b nodes h k))
-
-  pub undo-edge : (n i : ℕ) (b : List ℕ) → readRecord L (recordAt L n journal) ≡ ofEdge i b
-      → i < length edges / edgeLength L → length b ≡ edgeLength L
-      → tablesUndone L nodes edges journal (suc n) ≡ tablesUndone L nodes (stored (edgeLength L) i b edges) journal n
-  unfolding tablesUndone put
-  undo-edge n i b e h k =
-      undo-last n (ofEdge i b) e
-      ∙ ap (λ (l : List (List ℕ)). undone (earlier n) (record { nodes = slots .nodes; edges = l }))
-      (sym (cut-stored (edgeLength L) i b edges h k))
 
 -- Undo of written records is undo of slots.
 

@@ -48,12 +48,6 @@ from-new a b f =
     let e : length (f .new) ≡ length (b .journal) - length (a .journal) = omega (arith, from-count a b f) in
     rw (← e, f .recorded) (take-append-seam (f .new) (a .journal))
 
-pub from-journal : (a b : Ledger) → From a b
-    → drop (length (b .journal) - length (a .journal)) (b .journal) ≡ a .journal
-from-journal a b f =
-    let e : length (f .new) ≡ length (b .journal) - length (a .journal) = omega (arith, from-count a b f) in
-    rw (← e, f .recorded) (drop-append-seam (f .new) (a .journal))
-
 pub from-host : (a b : Ledger) → From a b
     → undone (take (length (b .journal) - length (a .journal)) (b .journal)) (b .host) ≡ a .host
 from-host a b f = rw (from-new a b f) (f .restores)

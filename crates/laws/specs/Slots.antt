@@ -111,34 +111,6 @@ unfolding put
 put-edges (ofNode i a) t = refl
 put-edges (ofEdge i b) t = length-set (t .edges) i b
 
-pub put-node-same : {A B : Type 0} (i : ℕ) (a d : A) (t : Tables A B) → i < length (t .nodes)
-    → getD (put (ofNode i a) t .nodes) i d ≡ a
-unfolding put
-put-node-same i a d t h = getD-set-same (t .nodes) i a d h
-
-pub put-node-other : {A B : Type 0} (i j : ℕ) (a d : A) (t : Tables A B) → (j ≡ i → ⊥)
-    → getD (put (ofNode i a) t .nodes) j d ≡ getD (t .nodes) j d
-unfolding put
-put-node-other i j a d t h = getD-set-other (t .nodes) i j a d h
-
-pub put-node-edges : {A B : Type 0} (i : ℕ) (a : A) (t : Tables A B) → put (ofNode i a) t .edges ≡ t .edges
-unfolding put
-put-node-edges i a t = refl
-
-pub put-edge-same : {A B : Type 0} (i : ℕ) (b d : B) (t : Tables A B) → i < length (t .edges)
-    → getD (put (ofEdge i b) t .edges) i d ≡ b
-unfolding put
-put-edge-same i b d t h = getD-set-same (t .edges) i b d h
-
-pub put-edge-other : {A B : Type 0} (i j : ℕ) (b d : B) (t : Tables A B) → (j ≡ i → ⊥)
-    → getD (put (ofEdge i b) t .edges) j d ≡ getD (t .edges) j d
-unfolding put
-put-edge-other i j b d t h = getD-set-other (t .edges) i j b d h
-
-pub put-edge-nodes : {A B : Type 0} (i : ℕ) (b : B) (t : Tables A B) → put (ofEdge i b) t .nodes ≡ t .nodes
-unfolding put
-put-edge-nodes i b t = refl
-
 -- Putting back.
 
 pub undone-append : {A B : Type 0} (a b : List (Change A B)) (t : Tables A B)

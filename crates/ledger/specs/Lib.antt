@@ -1,7 +1,6 @@
 pub mod Running
 pub mod Steps
 pub mod Changes
-pub mod Free
 pub mod Whole
 pub mod Rooms
 pub mod Applications

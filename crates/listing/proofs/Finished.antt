@@ -22,8 +22,9 @@ use Rattle.writing.specs.Text.{Adds, Lists}
 use Rattle.writing.specs.Laws.Rows.{lists}
 use Rattle.run_input.specs.Input.{Input}
 use Rattle.run_input.specs.Reading.{Inside, Reading, inputIn}
-use Rattle.listing.specs.Listing.{reportSize, outcome, runOutcome, listed, listing}
-use Rattle.listing.specs.Rooms.{listingRoom, Ready}
+use Rattle.lines.specs.Lines.{reportSize, outcome}
+use Rattle.listing.specs.Listing.{runOutcome, listed, listing}
+use Rattle.lines.specs.Rooms.{listingRoom, Ready}
 use Rattle.run_input.specs.declared.Ends.{Ends}
 use Rattle.run_input.specs.declared.Read.{Read}
 use Rattle.run_input.specs.declared.Read.the-variants.{Accepted as accepting, Refused as refusing}

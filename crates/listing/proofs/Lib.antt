@@ -1,4 +1,2 @@
-mod Lines
-mod Walks
 mod Journals
 mod Finished

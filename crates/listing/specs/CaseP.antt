@@ -8,7 +8,8 @@ use Rattle.meaning.specs.ProvedSet.{field, nodeSlot, edgeSlot, turns, calls}
 use Rattle.writing.specs.Words.{letters, digits, decimal, signed, markName, rootName}
 use Rattle.writing.specs.Lines.{onward}
 use Rattle.run_input.specs.Input.{nodesTag, edgesTag, recordsTag, fuelTag, programTag, input}
-use Rattle.listing.specs.Listing.{nodeLine, edgeLine, slotLine, liveLines, outcome, runOutcome, listed, listing}
+use Rattle.lines.specs.Lines.{nodeLine, edgeLine, slotLine, liveLines, outcome}
+use Rattle.listing.specs.Listing.{runOutcome, listed, listing}
 
 abbrev pub imageP : List ℕ
 imageP =

@@ -1,4 +1,3 @@
 pub mod Listing
 pub mod CaseP
-pub mod Tables
 pub mod Rooms

@@ -1,27 +1,9 @@
--- The most bytes of the lines of a listing, and the rooms that the listing of a run asks for. Rests on writing's Words.
+-- The journal that a listing's run is lent: its most bytes, and zeros. Rests on the meaning's Layout.
 use mathlib.Core.Path.{_≡_}
 use mathlib.Core.List.{List}
-use Prim.Native.Nat.{ℕ, _+_, _*_, _≤_}
+use Prim.Native.Nat.{ℕ, _*_}
 use lib.ListN.{length, getD}
-use Rattle.meaning.specs.Layout.{base, recordLength, readNodes, readEdges}
-use Rattle.meaning.specs.declared.Layout.{Layout}
-use Rattle.graph.specs.Graph.{Legal}
-use Rattle.writing.specs.Words.{numberSize, markSize, rootSize, labelSize}
-
--- Lines, word by word. The numbers written out are the lengths of the words that are always the same.
-
-abbrev pub answerSize : ℕ
-answerSize = 6 + numberSize + 6 + numberSize + 8 + numberSize + 1
-
-abbrev pub nodeSize : ℕ
-nodeSize = 4 + numberSize + markSize + rootSize + labelSize
-
-abbrev pub edgeSize : ℕ
-edgeSize = 4 + numberSize + numberSize + numberSize + markSize + labelSize
-
--- room for every listing
-abbrev pub listingRoom : ℕ
-listingRoom = 262144
+use Rattle.meaning.specs.Layout.{base, recordLength}
 
 -- the bytes of the longest journal
 abbrev pub fullJournal : ℕ
@@ -31,8 +13,3 @@ fullJournal = base .records * recordLength base
 pub record Zeros (n : ℕ) (l : List ℕ) : Type 0 where
   pub long : length l ≡ n
   pub zero : (i : ℕ) → getD l i 0 ≡ 0
-
--- the tables keep the layout, and the lines of their slots have room
-pub record Ready (L : Layout) (nodes edges : List ℕ) : Type 0 where
-  pub legal : Legal L nodes edges
-  pub room : answerSize + nodeSize * length (readNodes L nodes) + edgeSize * length (readEdges L edges) ≤ listingRoom

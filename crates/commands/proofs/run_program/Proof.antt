@@ -1,8 +1,8 @@
 -- `run_program` meets its contract.
 use mathlib.Core.Path.{sym}
 use borrow.Author.Needs.{needs}
-use Rattle.commands.specs.Parts.{main-known}
-use Rattle.commands.specs.Turns.{runs-main}
+use Rattle.commands.proofs.Parts.{main-known}
+use Rattle.commands.proofs.Turns.{runs-main}
 use Rattle.commands.proofs.run_program.Statement.{statement}
 use Rattle.commands.proofs.run_program.Tie as tie
 

@@ -1,8 +1,8 @@
 -- `run_set` meets its contract.
 use mathlib.Core.Path.{refl}
 use borrow.Author.Needs.{needs}
-use Rattle.commands.specs.Parts.{listed}
-use Rattle.commands.specs.Turns.{out-of-fuel, begun-spent, paid-call}
+use Rattle.commands.proofs.Parts.{listed}
+use Rattle.commands.proofs.Turns.{out-of-fuel, begun-spent, paid-call}
 use Rattle.commands.proofs.run_set.Statement.{statement}
 use Rattle.commands.proofs.run_set.Tie as tie
 

@@ -1,6 +1,6 @@
 -- `ledger::add_edge` meets its contract.
 use borrow.Author.Needs.{needs}
-use Rattle.ledger.specs.Free.{edge-lowest-in, edge-lowest}
+use Rattle.ledger.proofs.Free.{edge-lowest-in, edge-lowest}
 use Rattle.ledger.proofs.add_edge.Statement.{statement}
 use Rattle.ledger.proofs.add_edge.Tie as tie
 

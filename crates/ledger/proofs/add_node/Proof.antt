@@ -1,6 +1,6 @@
 -- `ledger::add_node` meets its contract.
 use borrow.Author.Needs.{needs}
-use Rattle.ledger.specs.Free.{node-lowest-in, node-lowest}
+use Rattle.ledger.proofs.Free.{node-lowest-in, node-lowest}
 use Rattle.ledger.proofs.add_node.Statement.{statement}
 use Rattle.ledger.proofs.add_node.Tie as tie
 

@@ -9,7 +9,7 @@ use lib.ListN.{length}
 use Rattle.meaning.specs.Basics.{any}
 use Rattle.meaning.specs.Layout.{readNodes, readEdges}
 use Rattle.meaning.specs.Applying.{onFreeNode}
-use Rattle.ledger.specs.Free.{edges-count, none-yet, none-more, found}
+use Rattle.ledger.proofs.Free.{edges-count, none-yet, none-more, found}
 use Rattle.ledger.proofs.edge_on_free_node.Statement.{statement}
 use Rattle.ledger.proofs.edge_on_free_node.Tie as tie
 

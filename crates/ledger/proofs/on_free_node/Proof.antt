@@ -4,7 +4,7 @@ use borrow.Author.Tests.{not-true, not-false}
 use mathlib.Core.Path.{sym, ap, _∙_}
 use Rattle.meaning.specs.Layout.{liveAt, readNodes, hostOf}
 use Rattle.slots.specs.Held.{edge-there, edge-source, edge-target}
-use Rattle.ledger.specs.Free.{edge-alive, node-alive, gone-edge, loose-source, held-source}
+use Rattle.ledger.proofs.Free.{edge-alive, node-alive, gone-edge, loose-source, held-source}
 use Rattle.ledger.proofs.on_free_node.Statement.{statement}
 use Rattle.ledger.proofs.on_free_node.Tie as tie
 

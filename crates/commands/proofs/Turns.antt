@@ -32,8 +32,8 @@ use Rattle.ends.specs.declared.Kind.{Kind}
 use Rattle.commands.specs.Program.{Runnable, RunsProgram}
 use Rattle.ends.specs.Ends.{LeafTag, Tagged, isDone, partAfter, settled, Earlier, Settled, Closed}
 use Rattle.commands.specs.Cycle.{Known, Row, at, runsCommand, runsRow, runsGuarded, runsLoop, Begun, Comes}
-use Rattle.commands.specs.Parts.{in-range, rule-set-is, row-of, row-is, guarded-of, guarded-is, loop-of, loop-is, leafOf, leaf-is, nth-known, main-known}
-use Rattle.commands.specs.States.{done-is, settled-fuel, settled-steps, enter-none, enter-paid, leaf-work, row-more, row-ends, row-done, guarded-runs, guarded-stops, loop-out, loop-more, loop-closes}
+use Rattle.commands.proofs.Parts.{in-range, rule-set-is, row-of, row-is, guarded-of, guarded-is, loop-of, loop-is, leafOf, leaf-is, nth-known, main-known}
+use Rattle.commands.proofs.States.{done-is, settled-fuel, settled-steps, enter-none, enter-paid, leaf-work, row-more, row-ends, row-done, guarded-runs, guarded-stops, loop-out, loop-more, loop-closes}
 
 -- the kind of a command that is known
 pub is-kind : {image : List ℕ} {tag : ℕ} {bs : List ℕ} {kind : Kind} → Known image tag bs → (80 ≤ tag → tag ≤ 87 → Tagged tag kind) → (k : Kind) → kind ≡ k → Tagged tag k

@@ -13,8 +13,8 @@ use Rattle.writing.specs.Words.{letters, lineFeed, space, decimal, signed, mark
 use Rattle.writing.specs.Lines.{onward}
 use Rattle.writing.specs.Text.{Adds}
 use Rattle.writing.specs.Laws.Rows.{then, word}
-use Rattle.listing.specs.Listing.{answerLine, nodeLine, edgeLine, liveLines, graphLines, outcome}
-use Rattle.listing.specs.Rooms.{answerSize, nodeSize, edgeSize, listingRoom}
+use Rattle.lines.specs.Lines.{answerLine, nodeLine, edgeLine, liveLines, graphLines, outcome}
+use Rattle.lines.specs.Rooms.{answerSize, nodeSize, edgeSize, listingRoom}
 
 -- Lines.
 

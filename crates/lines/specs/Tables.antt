@@ -1,13 +1,13 @@
--- The two tables of a host, by name: how many slots one has, and the lines of its live slots. Rests on Listing and Rooms.
+-- The two tables of a host, by name: how many slots one has, and the lines of its live slots. Rests on Lines and Rooms.
 use mathlib.Core.List.{List}
 use Prim.Native.Nat.{ℕ}
 use lib.ListN.{length, getD, drop}
 use Rattle.meaning.specs.Layout.{free, readNodes, readEdges}
 use Rattle.meaning.specs.declared.Layout.{Layout}
-use Rattle.listing.specs.Listing.{nodeLine, edgeLine, slotLine, liveLines}
-use Rattle.listing.specs.Rooms.{nodeSize, edgeSize}
-use Rattle.listing.specs.declared.Table.{Table}
-use Rattle.listing.specs.declared.Table.the-variants.{Nodes, Edges}
+use Rattle.lines.specs.Lines.{nodeLine, edgeLine, slotLine, liveLines}
+use Rattle.lines.specs.Rooms.{nodeSize, edgeSize}
+use Rattle.lines.specs.declared.Table.{Table}
+use Rattle.lines.specs.declared.Table.the-variants.{Nodes, Edges}
 
 -- the most bytes of a slot's line
 abbrev pub lineSize : Table → ℕ

@@ -5,10 +5,10 @@ use borrow.Author.Needs.{needs}
 use Rattle.labels.specs.Labels.{atomsIn}
 use Rattle.writing.specs.Words.{letters}
 use Rattle.writing.specs.Laws.Rows.{nothing}
-use Rattle.listing.proofs.Lines.{node-said}
-use Rattle.listing.proofs.Walks.{slot-free, slot-node}
-use Rattle.listing.proofs.put_node.Statement.{statement}
-use Rattle.listing.proofs.put_node.Tie as tie
+use Rattle.lines.proofs.Lines.{node-said}
+use Rattle.lines.proofs.Walks.{slot-free, slot-node}
+use Rattle.lines.proofs.put_node.Statement.{statement}
+use Rattle.lines.proofs.put_node.Tie as tie
 
 node-live-requires : tie.Need-node-live-requires
 node-live-requires c κs = search needs

@@ -4,10 +4,10 @@ use Prim.Native.Nat.{ℕ, _+_, _-_, _*_, _≤_}
 use native.Mathlib.Omega.{arith}
 use borrow.Author.Needs.{needs}
 use Rattle.writing.specs.Laws.Walks.{Coming, coming-start, coming-more, coming-end}
-use Rattle.listing.specs.Tables.{lineSize, slotsIn, linesFrom}
-use Rattle.listing.proofs.Walks.{table-next, table-end, line-room}
-use Rattle.listing.proofs.put_table.Statement.{statement}
-use Rattle.listing.proofs.put_table.Tie as tie
+use Rattle.lines.specs.Tables.{lineSize, slotsIn, linesFrom}
+use Rattle.lines.proofs.Walks.{table-next, table-end, line-room}
+use Rattle.lines.proofs.put_table.Statement.{statement}
+use Rattle.lines.proofs.put_table.Tie as tie
 
 abbrev Inv-loop : tie.InvT-loop
 Inv-loop l nodes edges table out₀ start n at₀ x₀ out at x =

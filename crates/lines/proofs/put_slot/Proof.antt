@@ -1,7 +1,7 @@
 -- `put_slot` meets its contract, table by table.
 use borrow.Author.Needs.{needs}
-use Rattle.listing.proofs.put_slot.Statement.{statement}
-use Rattle.listing.proofs.put_slot.Tie as tie
+use Rattle.lines.proofs.put_slot.Statement.{statement}
+use Rattle.lines.proofs.put_slot.Tie as tie
 
 enum-told : tie.Need-enum-told
 enum-told c = search needs

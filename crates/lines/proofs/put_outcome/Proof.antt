@@ -1,9 +1,9 @@
 -- `put_outcome` meets its contract: the first line alone, or the graph behind it.
 use native.Mathlib.Omega.{arith}
 use borrow.Author.Needs.{needs}
-use Rattle.listing.proofs.Lines.{outcome-other, outcome-result}
-use Rattle.listing.proofs.put_outcome.Statement.{statement}
-use Rattle.listing.proofs.put_outcome.Tie as tie
+use Rattle.lines.proofs.Lines.{outcome-other, outcome-result}
+use Rattle.lines.proofs.put_outcome.Statement.{statement}
+use Rattle.lines.proofs.put_outcome.Tie as tie
 
 put-answer-requires : tie.Need-put-answer-requires
 put-answer-requires c κs = search needs

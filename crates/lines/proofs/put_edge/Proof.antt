@@ -5,10 +5,10 @@ use borrow.Author.Needs.{needs}
 use Rattle.labels.specs.Labels.{atomsIn}
 use Rattle.writing.specs.Words.{letters}
 use Rattle.writing.specs.Laws.Rows.{nothing}
-use Rattle.listing.proofs.Lines.{edge-said}
-use Rattle.listing.proofs.Walks.{slot-free, slot-edge}
-use Rattle.listing.proofs.put_edge.Statement.{statement}
-use Rattle.listing.proofs.put_edge.Tie as tie
+use Rattle.lines.proofs.Lines.{edge-said}
+use Rattle.lines.proofs.Walks.{slot-free, slot-edge}
+use Rattle.lines.proofs.put_edge.Statement.{statement}
+use Rattle.lines.proofs.put_edge.Tie as tie
 
 edge-live-requires : tie.Need-edge-live-requires
 edge-live-requires c κs = search needs

@@ -2,9 +2,9 @@
 use native.Mathlib.Omega.{arith}
 use borrow.Author.Needs.{needs}
 use Rattle.writing.specs.Words.{letters}
-use Rattle.listing.proofs.Lines.{answer-said}
-use Rattle.listing.proofs.put_answer.Statement.{statement}
-use Rattle.listing.proofs.put_answer.Tie as tie
+use Rattle.lines.proofs.Lines.{answer-said}
+use Rattle.lines.proofs.put_answer.Statement.{statement}
+use Rattle.lines.proofs.put_answer.Tie as tie
 
 number4-requires : tie.Need-number4-requires
 number4-requires c κs = search needs

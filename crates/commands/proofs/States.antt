@@ -16,7 +16,7 @@ use Rattle.meaning.specs.declared.Stop.the-variants.{OutOfFuel}
 use Rattle.meaning.specs.declared.End.{End}
 use Rattle.meaning.specs.declared.End.the-variants.{Done, Failed, Broke, Stopped}
 use Rattle.ends.specs.Ends.{LeafTag, isDone, partAfter, settled, closed}
-use Rattle.commands.specs.Parts.{leafOf}
+use Rattle.commands.proofs.Parts.{leafOf}
 
 -- Ends.
 

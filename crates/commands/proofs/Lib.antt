@@ -1,0 +1,3 @@
+mod Parts
+mod States
+mod Turns
