@@ -56,25 +56,50 @@ read (Guarded depth) tag bs = command depth tag bs
 read (Loop depth) tag bs = command depth tag bs
 read Nothing tag bs = none
 
--- the tag of every item, 0 where any tag may stand
+-- What a row takes: the tag of every item (0 where any may stand), how many at least and at most, and the row behind it. Rows fall
+-- by rank: those in an item, and those behind a row, are below it.
+pub record Takes : Type 0 where
+  pub tag : ℕ
+  pub least : ℕ
+  pub most : ℕ
+  pub next : Row
+  pub rank : ℕ
+
+abbrev takes : ℕ → ℕ → ℕ → Row → ℕ → Takes
+takes tag least most next rank = record { tag = tag; least = least; most = most; next = next; rank = rank }
+
+abbrev table : Row → Takes
+table Rules = takes ruleTag 0 (limits .rules) Main 18
+table Main = takes 0 1 1 Nothing 17
+table Variables = takes variablesTag 1 1 Left 9
+table Left = takes leftTag 1 1 Right 8
+table Right = takes rightTag 1 1 Interface 7
+table Interface = takes interfaceTag 1 1 Conditions 6
+table Conditions = takes testsTag 1 1 Nothing 5
+table Nodes = takes nodeTag 0 (limits .nodes) Edges 4
+table Edges = takes edgeTag 0 (limits .edges) Nothing 3
+table Tests = takes 0 0 (limits .tests) Nothing 2
+table Elements = takes 0 0 (limits .elements) Nothing 2
+table Operands = takes 0 2 2 Nothing 1
+table (Sequence depth) = takes 0 1 (limits .commands) Nothing (suc depth)
+table (Guarded depth) = takes 0 3 3 Nothing (suc depth)
+table (Loop depth) = takes 0 1 1 Nothing (suc depth)
+table Nothing = takes 0 0 0 Nothing 0
 
 abbrev pub tagOf : Row → ℕ
-tagOf Rules = ruleTag
-tagOf Main = 0
-tagOf Variables = variablesTag
-tagOf Left = leftTag
-tagOf Right = rightTag
-tagOf Interface = interfaceTag
-tagOf Conditions = testsTag
-tagOf Nodes = nodeTag
-tagOf Edges = edgeTag
-tagOf Tests = 0
-tagOf Elements = 0
-tagOf Operands = 0
-tagOf (Sequence depth) = 0
-tagOf (Guarded depth) = 0
-tagOf (Loop depth) = 0
-tagOf Nothing = 0
+tagOf row = table row .tag
+
+abbrev pub leastOf : Row → ℕ
+leastOf row = table row .least
+
+abbrev pub mostOf : Row → ℕ
+mostOf row = table row .most
+
+abbrev pub nextOf : Row → Row
+nextOf row = table row .next
+
+abbrev pub rank : Row → ℕ
+rank row = table row .rank
 
 abbrev pub passing : ℕ → ℕ → Bool
 passing zero tag = true
@@ -83,67 +108,9 @@ passing (suc t) tag = eqb (suc t) tag
 abbrev pub passesOf : Row → ℕ → Bool
 passesOf row tag = passing (tagOf row) tag
 
--- the least and the most items
-
-abbrev pub leastOf : Row → ℕ
-leastOf Rules = 0
-leastOf Main = 1
-leastOf Variables = 1
-leastOf Left = 1
-leastOf Right = 1
-leastOf Interface = 1
-leastOf Conditions = 1
-leastOf Nodes = 0
-leastOf Edges = 0
-leastOf Tests = 0
-leastOf Elements = 0
-leastOf Operands = 2
-leastOf (Sequence depth) = 1
-leastOf (Guarded depth) = 3
-leastOf (Loop depth) = 1
-leastOf Nothing = 0
-
-abbrev pub mostOf : Row → ℕ
-mostOf Rules = limits .rules
-mostOf Main = 1
-mostOf Variables = 1
-mostOf Left = 1
-mostOf Right = 1
-mostOf Interface = 1
-mostOf Conditions = 1
-mostOf Nodes = limits .nodes
-mostOf Edges = limits .edges
-mostOf Tests = limits .tests
-mostOf Elements = limits .elements
-mostOf Operands = 2
-mostOf (Sequence depth) = limits .commands
-mostOf (Guarded depth) = 3
-mostOf (Loop depth) = 1
-mostOf Nothing = 0
-
 -- one more item begins at a place, where there are n
 unfoldable pub belonging : Row → ℕ → List ℕ → ℕ → Bool
 belonging row n bs at = both (ltb at (length bs)) (both (ltb n (mostOf row)) (passesOf row (getD bs at 0)))
-
--- the row behind it
-
-abbrev pub nextOf : Row → Row
-nextOf Rules = Main
-nextOf Main = Nothing
-nextOf Variables = Left
-nextOf Left = Right
-nextOf Right = Interface
-nextOf Interface = Conditions
-nextOf Conditions = Nothing
-nextOf Nodes = Edges
-nextOf Edges = Nothing
-nextOf Tests = Nothing
-nextOf Elements = Nothing
-nextOf Operands = Nothing
-nextOf (Sequence depth) = Nothing
-nextOf (Guarded depth) = Nothing
-nextOf (Loop depth) = Nothing
-nextOf Nothing = Nothing
 
 -- A row is read, it has enough items, and what is behind it is as it should be.
 
@@ -175,26 +142,6 @@ behind Nothing = isEmpty
 -- the bytes are a row and those behind it
 abbrev pub fits : Row → List ℕ → Bool
 fits row bs = opens row (behind row) bs
-
--- Rows fall: those in an item, and those behind a row, are below it.
-
-abbrev pub rank : Row → ℕ
-rank Rules = 18
-rank Main = 17
-rank Variables = 9
-rank Left = 8
-rank Right = 7
-rank Interface = 6
-rank Conditions = 5
-rank Nodes = 4
-rank Edges = 3
-rank Tests = 2
-rank Elements = 2
-rank Operands = 1
-rank (Sequence depth) = suc depth
-rank (Guarded depth) = suc depth
-rank (Loop depth) = suc depth
-rank Nothing = 0
 
 -- the first bytes of an item tell whether it has the form, or the row, below `most`, that the rest must begin with
 pub record Holds (most : ℕ) (form : Bool) (bs : List ℕ) (row : Row) (from : ℕ) : Type 0 where
