@@ -1,4 +1,3 @@
-pub mod Loops
-pub mod Checks
-pub mod Rules
-pub mod Commands
+mod Insides
+mod Rows
+mod Walks

@@ -1,63 +1,154 @@
--- What the checks of form find: places behind runs of fields, and counts of commands. Rests on the meaning's Image.
-use mathlib.Core.Bool.{Bool, false}
+-- The rows of fields that an image is made of: how the items of each are read, how many it takes, and what is behind it; and
+-- what the first bytes of an item tell. Rests on the meaning's Image.
+use mathlib.Core.Path.{_≡_}
+use mathlib.Core.Bool.{Bool, true, false}
 use mathlib.Core.Option.{Option, some, none}
 use mathlib.Core.List.{List}
-use Prim.Native.Nat.{ℕ, _-_}
+use Prim.Native.Nat.{ℕ, zero, suc, _<_, _≤_}
 use lib.ListN.{length, getD, drop}
-use lib.Dec.{eqb, ltb, leb}
-use Rattle.meaning.specs.Basics.{choose, ensure, _>>_, _>>=_}
-use Rattle.meaning.specs.Image.{Field, Read, RuleNode, RuleEdge, Rule, Command, leading, only, anyTag, limits, expect, ruleNode, ruleEdge, twoOperands, relation, test, rule, command}
-use Rattle.meaning.specs.declared.Condition.{Condition}
+use lib.Dec.{eqb, leb, ltb}
+use Rattle.meaning.specs.Basics.{both, isEmpty}
+use Rattle.meaning.specs.Tags.{ruleTag, variablesTag, leftTag, rightTag, interfaceTag, testsTag, nodeTag, edgeTag}
+use Rattle.meaning.specs.Image.{Read, RuleNode, RuleEdge, RuleGraph, Rule, Command, limits, leading, only, anyTag, oneByte, operand, element, ruleNode, ruleEdge, ruleGraph, test, types, rule, command}
+use Rattle.meaning.specs.declared.Operand.{Operand}
+use Rattle.meaning.specs.declared.Element.{Element}
 use Rattle.meaning.specs.declared.Test.{Test}
-use Rattle.image.specs.declared.Ended.{Ended}
-use Rattle.image.specs.declared.Ended.the-variants.{At, Bad}
-use Rattle.image.specs.declared.Parts.{Parts}
-use Rattle.image.specs.declared.Parts.the-variants.{Count, Bad as badParts}
+use Rattle.image.specs.declared.Row.{Row}
+use Rattle.image.specs.declared.Row.the-variants.{Rules, Main, Variables, Left, Right, Interface, Conditions, Nodes, Edges, Tests, Elements, Operands, Sequence, Guarded, Loop, Nothing}
+use Rattle.image.specs.declared.Inside.{Inside}
+use Rattle.image.specs.declared.Inside.the-variants.{Known, From}
 
--- the place, in n bytes, at which what is left begins
-unfoldable pub endOf : {A : Type 0} → ℕ → Option (Read A) → Ended
-endOf n none = Bad
-endOf n (some r) = At (n - length (r .rest))
+-- how an item of a row is read
 
-abbrev pub nodesOf : List ℕ → Option (Read RuleNode)
-nodesOf bs = leading (eqb 0x20) (λ tag. ruleNode) (limits .nodes) bs
+abbrev pub Value : Row → Type 0
+Value Rules = Rule
+Value Main = Command
+Value Variables = List ℕ
+Value Left = RuleGraph
+Value Right = RuleGraph
+Value Interface = ℕ
+Value Conditions = List Test
+Value Nodes = RuleNode
+Value Edges = RuleEdge
+Value Tests = Test
+Value Elements = Element
+Value Operands = Operand
+Value (Sequence depth) = Command
+Value (Guarded depth) = Command
+Value (Loop depth) = Command
+Value Nothing = ℕ
 
-abbrev pub endOfNodes : List ℕ → Ended
-endOfNodes bs = endOf (length bs) (nodesOf bs)
+abbrev pub read : (row : Row) → ℕ → List ℕ → Option (Value row)
+read Rules tag bs = rule bs
+read Main tag bs = command (limits .depth) tag bs
+read Variables tag bs = types bs
+read Left tag bs = ruleGraph bs
+read Right tag bs = ruleGraph bs
+read Interface tag bs = oneByte bs
+read Conditions tag bs = only anyTag test (limits .tests) bs
+read Nodes tag bs = ruleNode bs
+read Edges tag bs = ruleEdge bs
+read Tests tag bs = test tag bs
+read Elements tag bs = element tag bs
+read Operands tag bs = operand tag bs
+read (Sequence depth) tag bs = command depth tag bs
+read (Guarded depth) tag bs = command depth tag bs
+read (Loop depth) tag bs = command depth tag bs
+read Nothing tag bs = none
 
-abbrev pub edgesOf : List ℕ → Option (List RuleEdge)
-edgesOf bs = only (eqb 0x21) (λ tag. ruleEdge) (limits .edges) bs
+-- What a row takes: the tag of every item (0 where any may stand), how many at least and at most, and the row behind it. Rows fall
+-- by rank: those in an item, and those behind a row, are below it.
+pub record Takes : Type 0 where
+  pub tag : ℕ
+  pub least : ℕ
+  pub most : ℕ
+  pub next : Row
+  pub rank : ℕ
 
--- a relation of two operands, from the bytes behind a test's first
-abbrev pub relationOf : List ℕ → Option Condition
-relationOf bs = ensure (leb 1 (length bs)) >> (twoOperands (drop 1 bs) >>= relation (getD bs 0 0))
+abbrev takes : ℕ → ℕ → ℕ → Row → ℕ → Takes
+takes tag least most next rank = record { tag = tag; least = least; most = most; next = next; rank = rank }
 
-abbrev pub testsOf : List ℕ → Option (List Test)
-testsOf bs = only anyTag test (limits .tests) bs
+abbrev table : Row → Takes
+table Rules = takes ruleTag 0 (limits .rules) Main 18
+table Main = takes 0 1 1 Nothing 17
+table Variables = takes variablesTag 1 1 Left 9
+table Left = takes leftTag 1 1 Right 8
+table Right = takes rightTag 1 1 Interface 7
+table Interface = takes interfaceTag 1 1 Conditions 6
+table Conditions = takes testsTag 1 1 Nothing 5
+table Nodes = takes nodeTag 0 (limits .nodes) Edges 4
+table Edges = takes edgeTag 0 (limits .edges) Nothing 3
+table Tests = takes 0 0 (limits .tests) Nothing 2
+table Elements = takes 0 0 (limits .elements) Nothing 2
+table Operands = takes 0 2 2 Nothing 1
+table (Sequence depth) = takes 0 1 (limits .commands) Nothing (suc depth)
+table (Guarded depth) = takes 0 3 3 Nothing (suc depth)
+table (Loop depth) = takes 0 1 1 Nothing (suc depth)
+table Nothing = takes 0 0 0 Nothing 0
 
-abbrev pub rulesOf : List ℕ → Option (Read Rule)
-rulesOf bs = leading (eqb 0x10) (λ tag. rule) (limits .rules) bs
+abbrev pub tagOf : Row → ℕ
+tagOf row = table row .tag
 
-abbrev pub endOfRules : List ℕ → Ended
-endOfRules bs = endOf (length bs) (rulesOf bs)
+abbrev pub leastOf : Row → ℕ
+leastOf row = table row .least
 
--- the place behind the field at a place, if it has the tag
-unfoldable pub behindField : ℕ → Option Field → Ended
-behindField n none = Bad
-behindField n (some d) = At (n - length (d .rest))
+abbrev pub mostOf : Row → ℕ
+mostOf row = table row .most
 
-abbrev pub fieldEnd : List ℕ → ℕ → ℕ → Ended
-fieldEnd bs at tag = behindField (length bs) (expect tag (drop at bs))
+abbrev pub nextOf : Row → Row
+nextOf row = table row .next
 
--- so many commands are what a tag takes
-unfoldable pub takesParts : ℕ → ℕ → Bool
-takesParts tag n =
-    choose (eqb tag 0x51) (ltb 0 n)
-    (choose (eqb tag 0x52) (eqb n 3) (choose (eqb tag 0x53) (eqb n 3) (choose (eqb tag 0x54) (eqb n 1) false)))
+abbrev pub rank : Row → ℕ
+rank row = table row .rank
 
-unfoldable pub countOf : Option (List Command) → Parts
-countOf none = badParts
-countOf (some l) = Count (length l)
+abbrev pub passing : ℕ → ℕ → Bool
+passing zero tag = true
+passing (suc t) tag = eqb (suc t) tag
 
-abbrev pub partsOf : ℕ → List ℕ → Parts
-partsOf depth bs = countOf (only anyTag (command depth) (limits .commands) bs)
+abbrev pub passesOf : Row → ℕ → Bool
+passesOf row tag = passing (tagOf row) tag
+
+-- one more item begins at a place, where there are n
+unfoldable pub belonging : Row → ℕ → List ℕ → ℕ → Bool
+belonging row n bs at = both (ltb at (length bs)) (both (ltb n (mostOf row)) (passesOf row (getD bs at 0)))
+
+-- A row is read, it has enough items, and what is behind it is as it should be.
+
+unfoldable pub met : {A : Type 0} → (ℕ → Bool) → (List ℕ → Bool) → Option (Read A) → Bool
+met enough later none = false
+met enough later (some r) = both (enough (length (r .items))) (later (r .rest))
+
+abbrev pub opens : Row → (List ℕ → Bool) → List ℕ → Bool
+opens row later bs = met (leb (leastOf row)) later (leading (passesOf row) (read row) (mostOf row) bs)
+
+unfoldable pub behind : Row → List ℕ → Bool
+behind Rules = opens Main isEmpty
+behind Main = isEmpty
+behind Variables = opens Left (opens Right (opens Interface (opens Conditions isEmpty)))
+behind Left = opens Right (opens Interface (opens Conditions isEmpty))
+behind Right = opens Interface (opens Conditions isEmpty)
+behind Interface = opens Conditions isEmpty
+behind Conditions = isEmpty
+behind Nodes = opens Edges isEmpty
+behind Edges = isEmpty
+behind Tests = isEmpty
+behind Elements = isEmpty
+behind Operands = isEmpty
+behind (Sequence depth) = isEmpty
+behind (Guarded depth) = isEmpty
+behind (Loop depth) = isEmpty
+behind Nothing = isEmpty
+
+-- the bytes are a row and those behind it
+abbrev pub fits : Row → List ℕ → Bool
+fits row bs = opens row (behind row) bs
+
+-- the first bytes of an item tell whether it has the form, or the row, below `most`, that the rest must begin with
+pub record Holds (most : ℕ) (form : Bool) (bs : List ℕ) (row : Row) (from : ℕ) : Type 0 where
+  pub lower : rank row < most
+  pub inside : from ≤ length bs
+  pub same : fits row (drop from bs) ≡ form
+
+abbrev pub Tells : ℕ → Bool → List ℕ → Inside → Type 0
+Tells most form bs (Known ok) = ok ≡ form
+Tells most form bs (From row from) = Holds most form bs row from
