@@ -7,6 +7,7 @@ use mathlib.Core.List.{List, [], _∷_}
 use Prim.Native.Nat.{ℕ, zero, suc, _+_, _-_, _<_, _≤_}
 use native.Mathlib.Omega.{arith}
 use lib.ListN.{length, length-take}
+use Rattle.meaning.specs.Tags.{ifTag, loopTag, ruleSetTag, sequenceTag, tryTag}
 use Rattle.meaning.specs.Basics.{choose, both, every}
 use Rattle.meaning.specs.Image.{Command, ruleSet, sequence, guarded, loop, skip, fail, break, only, anyTag, inOrder, command}
 use Rattle.meaning.specs.References.{rulesExist, allRulesExist, references}
@@ -58,16 +59,16 @@ module _ {image : List ℕ} {tag : ℕ} {bs : List ℕ} (w : Known image tag bs)
 
   -- Rule sets.
 
-  pub rule-set-is : tag ≡ 0x50 → w .cmd ≡ ruleSet bs
+  pub rule-set-is : tag ≡ ruleSetTag → w .cmd ≡ ruleSet bs
   rule-set-is h = command-50 (w .deep - 1) tag bs (w .cmd) deeper h .0
 
-  pub listed : tag ≡ 0x50 → Listed image bs
+  pub listed : tag ≡ ruleSetTag → Listed image bs
   unfolding rulesExist
   listed h = record { programmed = w .programmed; exist = exist-as (ruleSet bs) (rule-set-is h) }
 
   -- Commands in order.
 
-  unfoldable pub row-of : tag ≡ 0x51 → Row 1 image bs
+  unfoldable pub row-of : tag ≡ sequenceTag → Row 1 image bs
   unfolding rulesExist
   row-of h =
       let s = command-51 (w .deep - 1) tag bs (w .cmd) deeper h in
@@ -80,18 +81,18 @@ module _ {image : List ℕ} {tag : ℕ} {bs : List ℕ} (w : Known image tag bs)
         enough = s .2;
       }
 
-  pub row-is : (h : tag ≡ 0x51) → w .cmd ≡ sequence (inOrder (row-of h .cmds))
+  pub row-is : (h : tag ≡ sequenceTag) → w .cmd ≡ sequence (inOrder (row-of h .cmds))
   unfolding row-of
   row-is h = command-51 (w .deep - 1) tag bs (w .cmd) deeper h .4
 
   -- If and try.
 
-  pub three : (keep : Bool) → tag ≡ choose keep 0x53 0x52 → (a b c : Command) × (only anyTag (command (w .deep - 1)) 16 bs ≡ some (a ∷ b ∷ c ∷ [])) × (w .cmd ≡ guarded keep a b c)
+  pub three : (keep : Bool) → tag ≡ choose keep tryTag ifTag → (a b c : Command) × (only anyTag (command (w .deep - 1)) 16 bs ≡ some (a ∷ b ∷ c ∷ [])) × (w .cmd ≡ guarded keep a b c)
   unfolding choose
   three true h = command-53 (w .deep - 1) tag bs (w .cmd) deeper h
   three false h = command-52 (w .deep - 1) tag bs (w .cmd) deeper h
 
-  unfoldable pub guarded-of : (keep : Bool) → tag ≡ choose keep 0x53 0x52 → Row 3 image bs
+  unfoldable pub guarded-of : (keep : Bool) → tag ≡ choose keep tryTag ifTag → Row 3 image bs
   unfolding rulesExist every both
   guarded-of keep h =
       let s = three keep h in
@@ -107,13 +108,13 @@ module _ {image : List ℕ} {tag : ℕ} {bs : List ℕ} (w : Known image tag bs)
         enough = omega arith;
       }
 
-  pub guarded-is : (keep : Bool) (h : tag ≡ choose keep 0x53 0x52) → w .cmd ≡ guarded keep (at (guarded-of keep h) 0) (at (guarded-of keep h) 1) (at (guarded-of keep h) 2)
+  pub guarded-is : (keep : Bool) (h : tag ≡ choose keep tryTag ifTag) → w .cmd ≡ guarded keep (at (guarded-of keep h) 0) (at (guarded-of keep h) 1) (at (guarded-of keep h) 2)
   unfolding guarded-of
   guarded-is keep h = three keep h .4
 
   -- Loops.
 
-  unfoldable pub loop-of : tag ≡ 0x54 → Row 1 image bs
+  unfoldable pub loop-of : tag ≡ loopTag → Row 1 image bs
   unfolding rulesExist every both
   loop-of h =
       let s = command-54 (w .deep - 1) tag bs (w .cmd) deeper h in
@@ -126,7 +127,7 @@ module _ {image : List ℕ} {tag : ℕ} {bs : List ℕ} (w : Known image tag bs)
         enough = omega arith;
       }
 
-  pub loop-is : (h : tag ≡ 0x54) → w .cmd ≡ loop (at (loop-of h) 0)
+  pub loop-is : (h : tag ≡ loopTag) → w .cmd ≡ loop (at (loop-of h) 0)
   unfolding loop-of
   loop-is h = command-54 (w .deep - 1) tag bs (w .cmd) deeper h .2
 

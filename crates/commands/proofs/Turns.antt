@@ -7,6 +7,7 @@ use mathlib.Core.List.{List, [], _∷_}
 use Prim.Native.Nat.{ℕ, _+_, _-_, _/_, _<_, _≤_}
 use native.Mathlib.Omega.{arith}
 use lib.ListN.{length, take, drop, length-take}
+use Rattle.meaning.specs.Tags.{ifTag, loopTag, ruleSetTag, sequenceTag, tryTag}
 use Rattle.meaning.specs.Basics.{choose, every}
 use Rattle.meaning.specs.Layout.{recordLength}
 use Rattle.meaning.specs.Image.{Program, Command, ruleSet, sequence, guarded, loop, field, inOrder, command}
@@ -120,22 +121,22 @@ module _ (L : Layout) where
             running = run;
           }
 
-      pub paid-call : tag ≡ 0x50 → Called L image bs nodes edges journal s r nodes′ edges′ journal′
+      pub paid-call : tag ≡ ruleSetTag → Called L image bs nodes edges journal s r nodes′ edges′ journal′
           → Comes L (Known image tag bs) (runsCommand L) nodes edges journal t r nodes′ edges′ journal′
       unfolding work
       paid-call q m = paid (λ w. ruleSet bs) (λ w. rule-set-is w q) (λ w. m .right (w .programmed .tree) (w .programmed .is)) (m .running)
 
-      pub paid-row : tag ≡ 0x51 → Comes L (Row 1 image bs) (runsRow L) nodes edges journal s r nodes′ edges′ journal′
+      pub paid-row : tag ≡ sequenceTag → Comes L (Row 1 image bs) (runsRow L) nodes edges journal s r nodes′ edges′ journal′
           → Comes L (Known image tag bs) (runsCommand L) nodes edges journal t r nodes′ edges′ journal′
       unfolding work row-of
       paid-row q m = paid (λ w. sequence (inOrder (row-of w q .cmds))) (λ w. row-is w q) (λ w. m .right (row-of w q)) (m .running)
 
-      pub paid-guarded : (keep : Bool) → tag ≡ choose keep 0x53 0x52 → Comes L (Row 3 image bs) (runsGuarded L keep) nodes edges journal s r nodes′ edges′ journal′
+      pub paid-guarded : (keep : Bool) → tag ≡ choose keep tryTag ifTag → Comes L (Row 3 image bs) (runsGuarded L keep) nodes edges journal s r nodes′ edges′ journal′
           → Comes L (Known image tag bs) (runsCommand L) nodes edges journal t r nodes′ edges′ journal′
       unfolding guarded-of
       paid-guarded keep q m = paid (λ w. guarded keep (at (guarded-of w keep q) 0) (at (guarded-of w keep q) 1) (at (guarded-of w keep q) 2)) (λ w. guarded-is w keep q) (λ w. m .right (guarded-of w keep q)) (m .running)
 
-      pub paid-loop : tag ≡ 0x54 → Comes L (Row 1 image bs) (runsLoop L) nodes edges journal s r nodes′ edges′ journal′
+      pub paid-loop : tag ≡ loopTag → Comes L (Row 1 image bs) (runsLoop L) nodes edges journal s r nodes′ edges′ journal′
           → Comes L (Known image tag bs) (runsCommand L) nodes edges journal t r nodes′ edges′ journal′
       unfolding loop-of
       paid-loop q m = paid (λ w. loop (at (loop-of w q) 0)) (λ w. loop-is w q) (λ w. m .right (loop-of w q)) (m .running)

@@ -13,7 +13,7 @@ use lib.Seq.{length-take-le, getD-drop, drop-drop, drop-cons}
 use Rattle.meaning.specs.Basics.{choose, both, either, every, isEmpty, isSome, ensure, _>>_, _>>=_}
 use Rattle.meaning.specs.Layout.{isNodeMark, isEdgeMark}
 use Rattle.meaning.specs.Image.{RuleNode, Rule, Command, Field, Read, Pair, stated, field, expect, leading, only, anyTag, constant, oneByte, operand, asPair, twoOperands, element, label, ruleNode, ruleEdge, ruleGraph, relation, condition, test, isType, types, rule, leaf, asRuleSet, asSequence, asGuarded, asLoop, command, program}
-use Rattle.meaning.specs.Tags.{anyMark}
+use Rattle.meaning.specs.Tags.{anyMark, breakTag, constantTag, differenceTag, edgeTag, edgeTestTag, failTag, ifTag, inDegreeTag, interfaceTag, leftTag, loopTag, nodeTag, outDegreeTag, relationTag, rightTag, ruleSetTag, ruleTag, sequenceTag, skipTag, sumTag, testsTag, tryTag, variableTag, variablesTag}
 use Rattle.meaning.specs.Image.Command.{skip, fail, break}
 use Rattle.meaning.specs.declared.Operand.{Operand}
 use Rattle.meaning.specs.declared.Condition.the-variants.{Equal, Less}
@@ -300,37 +300,37 @@ module _ {A : Type 0} {passes : ℕ → Bool} {item : ℕ → List ℕ → Optio
 -- When the readers succeed. Operands and labels.
 
 module _ (tag : ℕ) (bs : List ℕ) where
-  pub operand-constant : tag ≡ 0x30 → isSome (operand tag bs) ≡ eqb (length bs) 4
+  pub operand-constant : tag ≡ constantTag → isSome (operand tag bs) ≡ eqb (length bs) 4
   unfolding operand choose constant
   operand-constant h = rw h (isSome-map (constant bs) _ ∙ isSome-ensure _ _)
 
-  pub operand-variable : tag ≡ 0x31 → isSome (operand tag bs) ≡ eqb (length bs) 1
+  pub operand-variable : tag ≡ variableTag → isSome (operand tag bs) ≡ eqb (length bs) 1
   unfolding operand choose oneByte
   operand-variable h = rw h (isSome-map (oneByte bs) _ ∙ isSome-ensure _ _)
 
-  pub operand-other : (tag ≡ 0x30 → ⊥) → (tag ≡ 0x31 → ⊥) → operand tag bs ≡ none
+  pub operand-other : (tag ≡ constantTag → ⊥) → (tag ≡ variableTag → ⊥) → operand tag bs ≡ none
   unfolding operand
-  operand-other h k = choose-ne tag 0x30 _ _ h ∙ choose-ne tag 0x31 _ _ k
+  operand-other h k = choose-ne tag constantTag _ _ h ∙ choose-ne tag variableTag _ _ k
 
-  pub element-constant : tag ≡ 0x30 → isSome (element tag bs) ≡ eqb (length bs) 4
+  pub element-constant : tag ≡ constantTag → isSome (element tag bs) ≡ eqb (length bs) 4
   unfolding element choose constant
   element-constant h = rw h (isSome-map (constant bs) _ ∙ isSome-ensure _ _)
 
-  pub element-variable : tag ≡ 0x31 → isSome (element tag bs) ≡ eqb (length bs) 1
+  pub element-variable : tag ≡ variableTag → isSome (element tag bs) ≡ eqb (length bs) 1
   unfolding element choose oneByte
   element-variable h = rw h (isSome-map (oneByte bs) _ ∙ isSome-ensure _ _)
 
-  pub element-sum : tag ≡ 0x32 → isSome (element tag bs) ≡ isSome (twoOperands bs)
+  pub element-sum : tag ≡ sumTag → isSome (element tag bs) ≡ isSome (twoOperands bs)
   unfolding element choose
   element-sum h = rw h (isSome-map (twoOperands bs) _)
 
-  pub element-difference : tag ≡ 0x33 → isSome (element tag bs) ≡ isSome (twoOperands bs)
+  pub element-difference : tag ≡ differenceTag → isSome (element tag bs) ≡ isSome (twoOperands bs)
   unfolding element choose
   element-difference h = rw h (isSome-map (twoOperands bs) _)
 
-  pub element-other : (tag ≡ 0x30 → ⊥) → (tag ≡ 0x31 → ⊥) → (tag ≡ 0x32 → ⊥) → (tag ≡ 0x33 → ⊥) → element tag bs ≡ none
+  pub element-other : (tag ≡ constantTag → ⊥) → (tag ≡ variableTag → ⊥) → (tag ≡ sumTag → ⊥) → (tag ≡ differenceTag → ⊥) → element tag bs ≡ none
   unfolding element
-  element-other h0 h1 h2 h3 = choose-ne tag 0x30 _ _ h0 ∙ choose-ne tag 0x31 _ _ h1 ∙ choose-ne tag 0x32 _ _ h2 ∙ choose-ne tag 0x33 _ _ h3
+  element-other h0 h1 h2 h3 = choose-ne tag constantTag _ _ h0 ∙ choose-ne tag variableTag _ _ h1 ∙ choose-ne tag sumTag _ _ h2 ∙ choose-ne tag differenceTag _ _ h3
 
 asPair-ok : (l : List Operand) → isSome (asPair l) ≡ eqb (length l) 2
 unfolding asPair isSome
@@ -359,11 +359,11 @@ pub ruleEdge-ok : (bs : List ℕ)
 unfolding ruleEdge
 ruleEdge-ok bs = isSome-after _ _ _ (isSome-after _ _ _ (isSome-map _ _))
 
-pub ruleGraph-no : (bs : List ℕ) → leading (eqb 0x20) (λ tag. ruleNode) 6 bs ≡ none → ruleGraph bs ≡ none
+pub ruleGraph-no : (bs : List ℕ) → leading (eqb nodeTag) (λ tag. ruleNode) 6 bs ≡ none → ruleGraph bs ≡ none
 unfolding ruleGraph
 ruleGraph-no bs e = bind-none _ _ e
 
-pub ruleGraph-ok : (bs : List ℕ) (n : Read RuleNode) → leading (eqb 0x20) (λ tag. ruleNode) 6 bs ≡ some n → isSome (ruleGraph bs) ≡ isSome (only (eqb 0x21) (λ tag. ruleEdge) 6 (n .rest))
+pub ruleGraph-ok : (bs : List ℕ) (n : Read RuleNode) → leading (eqb nodeTag) (λ tag. ruleNode) 6 bs ≡ some n → isSome (ruleGraph bs) ≡ isSome (only (eqb edgeTag) (λ tag. ruleEdge) 6 (n .rest))
 unfolding ruleGraph
 ruleGraph-ok bs n e = ap isSome (bind-yes _ _ n e) ∙ isSome-map _ _
 
@@ -382,25 +382,25 @@ pub related-ok : (kind : ℕ) (bs : List ℕ) → isSome (twoOperands bs >>= rel
 related-ok kind bs = isSome-then _ _ _ (relation-ok kind)
 
 module _ (tag : ℕ) (bs : List ℕ) where
-  pub condition-edge : tag ≡ 0x40 → isSome (condition tag bs) ≡ eqb (length bs) 2
+  pub condition-edge : tag ≡ edgeTestTag → isSome (condition tag bs) ≡ eqb (length bs) 2
   unfolding condition choose
   condition-edge h = rw h (isSome-ensure _ _)
 
-  pub condition-in : tag ≡ 0x41 → isSome (condition tag bs) ≡ eqb (length bs) 3
+  pub condition-in : tag ≡ inDegreeTag → isSome (condition tag bs) ≡ eqb (length bs) 3
   unfolding condition choose
   condition-in h = rw h (isSome-ensure _ _)
 
-  pub condition-out : tag ≡ 0x42 → isSome (condition tag bs) ≡ eqb (length bs) 3
+  pub condition-out : tag ≡ outDegreeTag → isSome (condition tag bs) ≡ eqb (length bs) 3
   unfolding condition choose
   condition-out h = rw h (isSome-ensure _ _)
 
-  pub condition-relation : tag ≡ 0x43 → condition tag bs ≡ (ensure (leb 1 (length bs)) >> (twoOperands (drop 1 bs) >>= relation (getD bs 0 0)))
+  pub condition-relation : tag ≡ relationTag → condition tag bs ≡ (ensure (leb 1 (length bs)) >> (twoOperands (drop 1 bs) >>= relation (getD bs 0 0)))
   unfolding condition choose
   condition-relation h = rw h
 
-  pub condition-other : (tag ≡ 0x40 → ⊥) → (tag ≡ 0x41 → ⊥) → (tag ≡ 0x42 → ⊥) → (tag ≡ 0x43 → ⊥) → condition tag bs ≡ none
+  pub condition-other : (tag ≡ edgeTestTag → ⊥) → (tag ≡ inDegreeTag → ⊥) → (tag ≡ outDegreeTag → ⊥) → (tag ≡ relationTag → ⊥) → condition tag bs ≡ none
   unfolding condition
-  condition-other h0 h1 h2 h3 = choose-ne tag 0x40 _ _ h0 ∙ choose-ne tag 0x41 _ _ h1 ∙ choose-ne tag 0x42 _ _ h2 ∙ choose-ne tag 0x43 _ _ h3
+  condition-other h0 h1 h2 h3 = choose-ne tag edgeTestTag _ _ h0 ∙ choose-ne tag inDegreeTag _ _ h1 ∙ choose-ne tag outDegreeTag _ _ h2 ∙ choose-ne tag relationTag _ _ h3
 
   pub test-ok : isSome (test tag bs) ≡ both (leb 1 (length bs)) (both (leb (getD bs 0 0) 1) (isSome (condition tag (drop 1 bs))))
   unfolding test
@@ -413,31 +413,31 @@ unfolding types
 types-ok bs = isSome-after _ _ _ (isSome-ensure _ _)
 
 module _ (bs : List ℕ) where
-  pub rule-no-1 : expect 0x11 bs ≡ none → rule bs ≡ none
+  pub rule-no-1 : expect variablesTag bs ≡ none → rule bs ≡ none
   unfolding rule
   rule-no-1 e = bind-none _ _ e
 
-  module _ (v : Field) (e1 : expect 0x11 bs ≡ some v) where
-    pub rule-no-2 : expect 0x12 (v .rest) ≡ none → rule bs ≡ none
+  module _ (v : Field) (e1 : expect variablesTag bs ≡ some v) where
+    pub rule-no-2 : expect leftTag (v .rest) ≡ none → rule bs ≡ none
     unfolding rule
     rule-no-2 e = bind-yes _ _ v e1 ∙ bind-none _ _ e
 
-    module _ (l : Field) (e2 : expect 0x12 (v .rest) ≡ some l) where
-      pub rule-no-3 : expect 0x13 (l .rest) ≡ none → rule bs ≡ none
+    module _ (l : Field) (e2 : expect leftTag (v .rest) ≡ some l) where
+      pub rule-no-3 : expect rightTag (l .rest) ≡ none → rule bs ≡ none
       unfolding rule
       rule-no-3 e = bind-yes _ _ v e1 ∙ bind-yes _ _ l e2 ∙ bind-none _ _ e
 
-      module _ (r : Field) (e3 : expect 0x13 (l .rest) ≡ some r) where
-        pub rule-no-4 : expect 0x14 (r .rest) ≡ none → rule bs ≡ none
+      module _ (r : Field) (e3 : expect rightTag (l .rest) ≡ some r) where
+        pub rule-no-4 : expect interfaceTag (r .rest) ≡ none → rule bs ≡ none
         unfolding rule
         rule-no-4 e = bind-yes _ _ v e1 ∙ bind-yes _ _ l e2 ∙ bind-yes _ _ r e3 ∙ bind-none _ _ e
 
-        module _ (k : Field) (e4 : expect 0x14 (r .rest) ≡ some k) where
-          pub rule-no-5 : expect 0x15 (k .rest) ≡ none → rule bs ≡ none
+        module _ (k : Field) (e4 : expect interfaceTag (r .rest) ≡ some k) where
+          pub rule-no-5 : expect testsTag (k .rest) ≡ none → rule bs ≡ none
           unfolding rule
           rule-no-5 e = bind-yes _ _ v e1 ∙ bind-yes _ _ l e2 ∙ bind-yes _ _ r e3 ∙ bind-yes _ _ k e4 ∙ bind-none _ _ e
 
-          pub rule-ok : (t : Field) → expect 0x15 (k .rest) ≡ some t
+          pub rule-ok : (t : Field) → expect testsTag (k .rest) ≡ some t
               → isSome (rule bs) ≡ both (isEmpty (t .rest)) (both (isSome (types (v .payload))) (both (isSome (ruleGraph (l .payload))) (both (isSome (ruleGraph (r .payload))) (both (isSome (oneByte (k .payload))) (isSome (only anyTag test 4 (t .payload)))))))
           unfolding rule
           rule-ok t e5 =
@@ -483,58 +483,58 @@ command-no-depth tag bs = refl
 
 -- a command by its tag
 module _ (n tag : ℕ) (bs : List ℕ) where
-  pub command-ruleSet : tag ≡ 0x50 → command (suc n) tag bs ≡ asRuleSet bs
+  pub command-ruleSet : tag ≡ ruleSetTag → command (suc n) tag bs ≡ asRuleSet bs
   unfolding command choose
   command-ruleSet h = rw h
 
-  pub command-sequence : tag ≡ 0x51 → command (suc n) tag bs ≡ (only anyTag (command n) 16 bs >>= asSequence)
+  pub command-sequence : tag ≡ sequenceTag → command (suc n) tag bs ≡ (only anyTag (command n) 16 bs >>= asSequence)
   unfolding command choose
   command-sequence h = rw h
 
-  pub command-if : tag ≡ 0x52 → command (suc n) tag bs ≡ (only anyTag (command n) 16 bs >>= asGuarded false)
+  pub command-if : tag ≡ ifTag → command (suc n) tag bs ≡ (only anyTag (command n) 16 bs >>= asGuarded false)
   unfolding command choose
   command-if h = rw h
 
-  pub command-try : tag ≡ 0x53 → command (suc n) tag bs ≡ (only anyTag (command n) 16 bs >>= asGuarded true)
+  pub command-try : tag ≡ tryTag → command (suc n) tag bs ≡ (only anyTag (command n) 16 bs >>= asGuarded true)
   unfolding command choose
   command-try h = rw h
 
-  pub command-loop : tag ≡ 0x54 → command (suc n) tag bs ≡ (only anyTag (command n) 16 bs >>= asLoop)
+  pub command-loop : tag ≡ loopTag → command (suc n) tag bs ≡ (only anyTag (command n) 16 bs >>= asLoop)
   unfolding command choose
   command-loop h = rw h
 
-  pub command-skip : tag ≡ 0x55 → command (suc n) tag bs ≡ leaf skip bs
+  pub command-skip : tag ≡ skipTag → command (suc n) tag bs ≡ leaf skip bs
   unfolding command choose
   command-skip h = rw h
 
-  pub command-fail : tag ≡ 0x56 → command (suc n) tag bs ≡ leaf fail bs
+  pub command-fail : tag ≡ failTag → command (suc n) tag bs ≡ leaf fail bs
   unfolding command choose
   command-fail h = rw h
 
-  pub command-break : tag ≡ 0x57 → command (suc n) tag bs ≡ leaf break bs
+  pub command-break : tag ≡ breakTag → command (suc n) tag bs ≡ leaf break bs
   unfolding command choose
   command-break h = rw h
 
-  pub command-other : (0x50 ≤ tag → tag ≤ 0x57 → ⊥) → command (suc n) tag bs ≡ none
+  pub command-other : (ruleSetTag ≤ tag → tag ≤ breakTag → ⊥) → command (suc n) tag bs ≡ none
   unfolding command
   command-other h =
-      choose-ne tag 0x50 _ _ (λ e. h (omega arith) (omega arith))
-      ∙ choose-ne tag 0x51 _ _ (λ e. h (omega arith) (omega arith))
-      ∙ choose-ne tag 0x52 _ _ (λ e. h (omega arith) (omega arith))
-      ∙ choose-ne tag 0x53 _ _ (λ e. h (omega arith) (omega arith))
-      ∙ choose-ne tag 0x54 _ _ (λ e. h (omega arith) (omega arith))
-      ∙ choose-ne tag 0x55 _ _ (λ e. h (omega arith) (omega arith))
-      ∙ choose-ne tag 0x56 _ _ (λ e. h (omega arith) (omega arith))
-      ∙ choose-ne tag 0x57 _ _ (λ e. h (omega arith) (omega arith))
+      choose-ne tag ruleSetTag _ _ (λ e. h (omega arith) (omega arith))
+      ∙ choose-ne tag sequenceTag _ _ (λ e. h (omega arith) (omega arith))
+      ∙ choose-ne tag ifTag _ _ (λ e. h (omega arith) (omega arith))
+      ∙ choose-ne tag tryTag _ _ (λ e. h (omega arith) (omega arith))
+      ∙ choose-ne tag loopTag _ _ (λ e. h (omega arith) (omega arith))
+      ∙ choose-ne tag skipTag _ _ (λ e. h (omega arith) (omega arith))
+      ∙ choose-ne tag failTag _ _ (λ e. h (omega arith) (omega arith))
+      ∙ choose-ne tag breakTag _ _ (λ e. h (omega arith) (omega arith))
 
 -- The whole.
 
 module _ (bs : List ℕ) where
-  pub program-no-rules : leading (eqb 0x10) (λ tag. rule) 32 bs ≡ none → program bs ≡ none
+  pub program-no-rules : leading (eqb ruleTag) (λ tag. rule) 32 bs ≡ none → program bs ≡ none
   unfolding program
   program-no-rules e = bind-none _ _ e
 
-  module _ (r : Read Rule) (e : leading (eqb 0x10) (λ tag. rule) 32 bs ≡ some r) where
+  module _ (r : Read Rule) (e : leading (eqb ruleTag) (λ tag. rule) 32 bs ≡ some r) where
     pub program-no-field : field (r .rest) ≡ none → program bs ≡ none
     unfolding program
     program-no-field q = bind-yes _ _ r e ∙ bind-none _ _ q

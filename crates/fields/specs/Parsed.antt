@@ -14,7 +14,7 @@ use Rattle.meaning.specs.Basics.{either, every, isEmpty, _>>=_}
 use Rattle.meaning.specs.Numbers.{number}
 use Rattle.meaning.specs.Layout.{isNodeMark, isEdgeMark}
 use Rattle.meaning.specs.Image.{RuleEdge, RuleGraph, Program, Commands, stop, then, inOrder, RuleNode, Rule, Command, Field, Read, Pair, field, expect, leading, only, anyTag, constant, oneByte, operand, asPair, twoOperands, element, label, ruleNode, ruleEdge, ruleGraph, relation, condition, test, isType, types, rule, leaf, asRuleSet, asSequence, asGuarded, asLoop, command, program}
-use Rattle.meaning.specs.Tags.{anyMark}
+use Rattle.meaning.specs.Tags.{anyMark, breakTag, constantTag, differenceTag, edgeTag, edgeTestTag, failTag, ifTag, inDegreeTag, interfaceTag, leftTag, loopTag, nodeTag, outDegreeTag, relationTag, rightTag, ruleSetTag, ruleTag, sequenceTag, skipTag, sumTag, testsTag, tryTag, variableTag, variablesTag}
 use Rattle.meaning.specs.Image.Command.{ruleSet, sequence, guarded, loop, skip, fail, break}
 use Rattle.meaning.specs.declared.Operand.{Operand}
 use Rattle.meaning.specs.declared.Operand.the-variants.{Constant as constantOperand, Variable as variableOperand}
@@ -121,44 +121,44 @@ module _ (bs : List ℕ) where
       t .1 ∙ ap some (pair-is (t .0) p (t .2))
 
 module _ (tag : ℕ) (bs : List ℕ) where
-  pub operand-30 : (x : Operand) → tag ≡ 0x30 → operand tag bs ≡ some x → (length bs ≡ 4) × (x ≡ constantOperand (number bs))
+  pub operand-30 : (x : Operand) → tag ≡ constantTag → operand tag bs ≡ some x → (length bs ≡ 4) × (x ≡ constantOperand (number bs))
   unfolding operand
   operand-30 x h e =
-      let t = bind-some (constant bs) _ x (sym (choose-eq tag 0x30 _ _ h) ∙ e) in
+      let t = bind-some (constant bs) _ x (sym (choose-eq tag constantTag _ _ h) ∙ e) in
       let c = constant-is bs (t .0) (t .1) in
       (c .0, sym (some-inj _ x (t .2)) ∙ ap constantOperand (c .1))
 
-  pub operand-31 : (x : Operand) → tag ≡ 0x31 → operand tag bs ≡ some x → (length bs ≡ 1) × (x ≡ variableOperand (getD bs 0 0))
+  pub operand-31 : (x : Operand) → tag ≡ variableTag → operand tag bs ≡ some x → (length bs ≡ 1) × (x ≡ variableOperand (getD bs 0 0))
   unfolding operand
   operand-31 x h e =
-      let t = bind-some (oneByte bs) _ x (sym (choose-ne tag 0x30 _ _ (λ q. omega arith) ∙ choose-eq tag 0x31 _ _ h) ∙ e) in
+      let t = bind-some (oneByte bs) _ x (sym (choose-ne tag constantTag _ _ (λ q. omega arith) ∙ choose-eq tag variableTag _ _ h) ∙ e) in
       let c = oneByte-is bs (t .0) (t .1) in
       (c .0, sym (some-inj _ x (t .2)) ∙ ap variableOperand (c .1))
 
-  pub element-30 : (x : Element) → tag ≡ 0x30 → element tag bs ≡ some x → (length bs ≡ 4) × (x ≡ Constant (number bs))
+  pub element-30 : (x : Element) → tag ≡ constantTag → element tag bs ≡ some x → (length bs ≡ 4) × (x ≡ Constant (number bs))
   unfolding element
   element-30 x h e =
-      let t = bind-some (constant bs) _ x (sym (choose-eq tag 0x30 _ _ h) ∙ e) in
+      let t = bind-some (constant bs) _ x (sym (choose-eq tag constantTag _ _ h) ∙ e) in
       let c = constant-is bs (t .0) (t .1) in
       (c .0, sym (some-inj _ x (t .2)) ∙ ap Constant (c .1))
 
-  pub element-31 : (x : Element) → tag ≡ 0x31 → element tag bs ≡ some x → (length bs ≡ 1) × (x ≡ Variable (getD bs 0 0))
+  pub element-31 : (x : Element) → tag ≡ variableTag → element tag bs ≡ some x → (length bs ≡ 1) × (x ≡ Variable (getD bs 0 0))
   unfolding element
   element-31 x h e =
-      let t = bind-some (oneByte bs) _ x (sym (choose-ne tag 0x30 _ _ (λ q. omega arith) ∙ choose-eq tag 0x31 _ _ h) ∙ e) in
+      let t = bind-some (oneByte bs) _ x (sym (choose-ne tag constantTag _ _ (λ q. omega arith) ∙ choose-eq tag variableTag _ _ h) ∙ e) in
       let c = oneByte-is bs (t .0) (t .1) in
       (c .0, sym (some-inj _ x (t .2)) ∙ ap Variable (c .1))
 
-  pub element-32 : (x : Element) → tag ≡ 0x32 → element tag bs ≡ some x → (p : Pair) × (twoOperands bs ≡ some p) × (x ≡ Sum (p .first) (p .second))
+  pub element-32 : (x : Element) → tag ≡ sumTag → element tag bs ≡ some x → (p : Pair) × (twoOperands bs ≡ some p) × (x ≡ Sum (p .first) (p .second))
   unfolding element
   element-32 x h e =
-      let t = bind-some (twoOperands bs) _ x (sym (choose-ne tag 0x30 _ _ (λ q. omega arith) ∙ choose-ne tag 0x31 _ _ (λ q. omega arith) ∙ choose-eq tag 0x32 _ _ h) ∙ e) in
+      let t = bind-some (twoOperands bs) _ x (sym (choose-ne tag constantTag _ _ (λ q. omega arith) ∙ choose-ne tag variableTag _ _ (λ q. omega arith) ∙ choose-eq tag sumTag _ _ h) ∙ e) in
       (t .0, t .1, sym (some-inj _ x (t .2)))
 
-  pub element-33 : (x : Element) → tag ≡ 0x33 → element tag bs ≡ some x → (p : Pair) × (twoOperands bs ≡ some p) × (x ≡ Difference (p .first) (p .second))
+  pub element-33 : (x : Element) → tag ≡ differenceTag → element tag bs ≡ some x → (p : Pair) × (twoOperands bs ≡ some p) × (x ≡ Difference (p .first) (p .second))
   unfolding element
   element-33 x h e =
-      let t = bind-some (twoOperands bs) _ x (sym (choose-ne tag 0x30 _ _ (λ q. omega arith) ∙ choose-ne tag 0x31 _ _ (λ q. omega arith) ∙ choose-ne tag 0x32 _ _ (λ q. omega arith) ∙ choose-eq tag 0x33 _ _ h) ∙ e) in
+      let t = bind-some (twoOperands bs) _ x (sym (choose-ne tag constantTag _ _ (λ q. omega arith) ∙ choose-ne tag variableTag _ _ (λ q. omega arith) ∙ choose-ne tag sumTag _ _ (λ q. omega arith) ∙ choose-eq tag differenceTag _ _ h) ∙ e) in
       (t .0, t .1, sym (some-inj _ x (t .2)))
 
 -- Graphs.
@@ -198,16 +198,16 @@ ruleEdge-is bs x e =
 
 pub record IsGraph (bs : List ℕ) (x : RuleGraph) : Type 0 where
   pub behind : List ℕ
-  pub nodes : leading (eqb 0x20) (λ tag. ruleNode) 6 bs ≡ some (record { items = x .nodes; rest = behind })
-  pub edges : only (eqb 0x21) (λ tag. ruleEdge) 6 behind ≡ some (x .edges)
+  pub nodes : leading (eqb nodeTag) (λ tag. ruleNode) 6 bs ≡ some (record { items = x .nodes; rest = behind })
+  pub edges : only (eqb edgeTag) (λ tag. ruleEdge) 6 behind ≡ some (x .edges)
   pub fewNodes : length (x .nodes) ≤ 6
   pub fewEdges : length (x .edges) ≤ 6
 
 pub ruleGraph-is : (bs : List ℕ) (x : RuleGraph) → ruleGraph bs ≡ some x → IsGraph bs x
 unfolding ruleGraph
 ruleGraph-is bs x e =
-    let t = bind-some (leading (eqb 0x20) (λ tag. ruleNode) 6 bs) _ x e in
-    let u = bind-some (only (eqb 0x21) (λ tag. ruleEdge) 6 (t .0 .rest)) _ x (t .2) in
+    let t = bind-some (leading (eqb nodeTag) (λ tag. ruleNode) 6 bs) _ x e in
+    let u = bind-some (only (eqb edgeTag) (λ tag. ruleEdge) 6 (t .0 .rest)) _ x (t .2) in
     rw (← (some-inj _ x (u .2))) (record { behind = t .0 .rest; nodes = t .1; edges = u .1; fewNodes = leading-led _ _ 6 bs (t .0) (t .1) .few; fewEdges = only-few _ _ 6 (t .0 .rest) (u .0) (u .1) })
 
 -- Tests.
@@ -227,25 +227,25 @@ test-is tag bs x e =
     rw (← (some-inj _ x (w .2))) (record { long = leb-true _ _ (t .0); flag = leb-true _ _ (u .0); negated = refl; condition = w .1 })
 
 module _ (tag : ℕ) (bs : List ℕ) (x : Condition) (e : condition tag bs ≡ some x) where
-  pub condition-40 : tag ≡ 0x40 → (length bs ≡ 2) × (x ≡ Edge (getD bs 0 0) (getD bs 1 0))
+  pub condition-40 : tag ≡ edgeTestTag → (length bs ≡ 2) × (x ≡ Edge (getD bs 0 0) (getD bs 1 0))
   unfolding condition
   condition-40 h =
-      let t = ensure-some _ _ x (sym (choose-eq tag 0x40 _ _ h) ∙ e) in
+      let t = ensure-some _ _ x (sym (choose-eq tag edgeTestTag _ _ h) ∙ e) in
       (eqb-true _ _ (t .0), sym (some-inj _ x (t .1)))
 
-  pub condition-41 : tag ≡ 0x41 → (length bs ≡ 3) × (x ≡ InDegree (getD bs 0 0) (number (drop 1 bs)))
+  pub condition-41 : tag ≡ inDegreeTag → (length bs ≡ 3) × (x ≡ InDegree (getD bs 0 0) (number (drop 1 bs)))
   unfolding condition
   condition-41 h =
-      let t = ensure-some _ _ x (sym (choose-ne tag 0x40 _ _ (λ q. omega arith) ∙ choose-eq tag 0x41 _ _ h) ∙ e) in
+      let t = ensure-some _ _ x (sym (choose-ne tag edgeTestTag _ _ (λ q. omega arith) ∙ choose-eq tag inDegreeTag _ _ h) ∙ e) in
       (eqb-true _ _ (t .0), sym (some-inj _ x (t .1)))
 
-  pub condition-42 : tag ≡ 0x42 → (length bs ≡ 3) × (x ≡ OutDegree (getD bs 0 0) (number (drop 1 bs)))
+  pub condition-42 : tag ≡ outDegreeTag → (length bs ≡ 3) × (x ≡ OutDegree (getD bs 0 0) (number (drop 1 bs)))
   unfolding condition
   condition-42 h =
-      let t = ensure-some _ _ x (sym (choose-ne tag 0x40 _ _ (λ q. omega arith) ∙ choose-ne tag 0x41 _ _ (λ q. omega arith) ∙ choose-eq tag 0x42 _ _ h) ∙ e) in
+      let t = ensure-some _ _ x (sym (choose-ne tag edgeTestTag _ _ (λ q. omega arith) ∙ choose-ne tag inDegreeTag _ _ (λ q. omega arith) ∙ choose-eq tag outDegreeTag _ _ h) ∙ e) in
       (eqb-true _ _ (t .0), sym (some-inj _ x (t .1)))
 
-  pub condition-43 : tag ≡ 0x43 → (p : Pair) × (1 ≤ length bs) × (twoOperands (drop 1 bs) ≡ some p) × (relation (getD bs 0 0) p ≡ some x)
+  pub condition-43 : tag ≡ relationTag → (p : Pair) × (1 ≤ length bs) × (twoOperands (drop 1 bs) ≡ some p) × (relation (getD bs 0 0) p ≡ some x)
   condition-43 h =
       let t = ensure-some _ _ x (sym (condition-relation tag bs h) ∙ e) in
       let u = bind-some (twoOperands (drop 1 bs)) _ x (t .1) in
@@ -286,11 +286,11 @@ pub record IsRule (bs : List ℕ) (x : Rule) : Type 0 where
   pub r : Field
   pub k : Field
   pub t : Field
-  pub at-v : expect 0x11 bs ≡ some v
-  pub at-l : expect 0x12 (v .rest) ≡ some l
-  pub at-r : expect 0x13 (l .rest) ≡ some r
-  pub at-k : expect 0x14 (r .rest) ≡ some k
-  pub at-t : expect 0x15 (k .rest) ≡ some t
+  pub at-v : expect variablesTag bs ≡ some v
+  pub at-l : expect leftTag (v .rest) ≡ some l
+  pub at-r : expect rightTag (l .rest) ≡ some r
+  pub at-k : expect interfaceTag (r .rest) ≡ some k
+  pub at-t : expect testsTag (k .rest) ≡ some t
   pub last : t .rest ≡ []
   pub variables : types (v .payload) ≡ some (x .variables)
   pub left : ruleGraph (l .payload) ≡ some (x .left)
@@ -301,11 +301,11 @@ pub record IsRule (bs : List ℕ) (x : Rule) : Type 0 where
 pub rule-is : (bs : List ℕ) (x : Rule) → rule bs ≡ some x → IsRule bs x
 unfolding rule
 rule-is bs x e =
-    let v = bind-some (expect 0x11 bs) _ x e in
-    let l = bind-some (expect 0x12 (v .0 .rest)) _ x (v .2) in
-    let r = bind-some (expect 0x13 (l .0 .rest)) _ x (l .2) in
-    let k = bind-some (expect 0x14 (r .0 .rest)) _ x (r .2) in
-    let t = bind-some (expect 0x15 (k .0 .rest)) _ x (k .2) in
+    let v = bind-some (expect variablesTag bs) _ x e in
+    let l = bind-some (expect leftTag (v .0 .rest)) _ x (v .2) in
+    let r = bind-some (expect rightTag (l .0 .rest)) _ x (l .2) in
+    let k = bind-some (expect interfaceTag (r .0 .rest)) _ x (r .2) in
+    let t = bind-some (expect testsTag (k .0 .rest)) _ x (k .2) in
     let z = ensure-some (isEmpty (t .0 .rest)) _ x (t .2) in
     let a = bind-some (types (v .0 .payload)) _ x (z .1) in
     let b = bind-some (ruleGraph (l .0 .payload)) _ x (a .2) in
@@ -356,14 +356,14 @@ unfolding leaf
 leaf-is c bs x e = let t = ensure-some _ _ x e in (empty-true bs (t .0), sym (some-inj c x (t .1)))
 
 module _ (n tag : ℕ) (bs : List ℕ) (x : Command) (e : command (suc n) tag bs ≡ some x) where
-  pub command-50 : tag ≡ 0x50 → (x ≡ ruleSet bs) × (1 ≤ length bs) × (length bs ≤ 8)
+  pub command-50 : tag ≡ ruleSetTag → (x ≡ ruleSet bs) × (1 ≤ length bs) × (length bs ≤ 8)
   unfolding asRuleSet
   command-50 h =
       let t = ensure-some _ _ x (sym (command-ruleSet n tag bs h) ∙ e) in
       let b = both-true (leb 1 (length bs)) _ (t .0) in
       (sym (some-inj _ x (t .1)), leb-true _ _ (b .0), leb-true _ _ (b .1))
 
-  pub command-51 : tag ≡ 0x51 → (l : List Command) × (only anyTag (command n) 16 bs ≡ some l) × (1 ≤ length l) × (length l ≤ 16) × (x ≡ sequence (inOrder l))
+  pub command-51 : tag ≡ sequenceTag → (l : List Command) × (only anyTag (command n) 16 bs ≡ some l) × (1 ≤ length l) × (length l ≤ 16) × (x ≡ sequence (inOrder l))
   command-51 h =
       let t = bind-some (only anyTag (command n) 16 bs) _ x (sym (command-sequence n tag bs h) ∙ e) in
       let s = asSequence-is (t .0) x (t .2) in
@@ -375,42 +375,42 @@ module _ (n tag : ℕ) (bs : List ℕ) (x : Command) (e : command (suc n) tag bs
       let s = asGuarded-is keep (t .0) x (t .2) in
       (s .0, s .1, s .2, t .1 ∙ ap some (s .3), s .4)
 
-  pub command-52 : tag ≡ 0x52 → (a b c : Command) × (only anyTag (command n) 16 bs ≡ some (a ∷ b ∷ c ∷ [])) × (x ≡ guarded false a b c)
+  pub command-52 : tag ≡ ifTag → (a b c : Command) × (only anyTag (command n) 16 bs ≡ some (a ∷ b ∷ c ∷ [])) × (x ≡ guarded false a b c)
   command-52 h = three false (command-if n tag bs h)
 
-  pub command-53 : tag ≡ 0x53 → (a b c : Command) × (only anyTag (command n) 16 bs ≡ some (a ∷ b ∷ c ∷ [])) × (x ≡ guarded true a b c)
+  pub command-53 : tag ≡ tryTag → (a b c : Command) × (only anyTag (command n) 16 bs ≡ some (a ∷ b ∷ c ∷ [])) × (x ≡ guarded true a b c)
   command-53 h = three true (command-try n tag bs h)
 
-  pub command-54 : tag ≡ 0x54 → (c : Command) × (only anyTag (command n) 16 bs ≡ some (c ∷ [])) × (x ≡ loop c)
+  pub command-54 : tag ≡ loopTag → (c : Command) × (only anyTag (command n) 16 bs ≡ some (c ∷ [])) × (x ≡ loop c)
   command-54 h =
       let t = bind-some (only anyTag (command n) 16 bs) _ x (sym (command-loop n tag bs h) ∙ e) in
       let s = asLoop-is (t .0) x (t .2) in
       (s .0, t .1 ∙ ap some (s .1), s .2)
 
-  pub command-55 : tag ≡ 0x55 → (bs ≡ []) × (x ≡ skip)
+  pub command-55 : tag ≡ skipTag → (bs ≡ []) × (x ≡ skip)
   command-55 h = leaf-is skip bs x (sym (command-skip n tag bs h) ∙ e)
 
-  pub command-56 : tag ≡ 0x56 → (bs ≡ []) × (x ≡ fail)
+  pub command-56 : tag ≡ failTag → (bs ≡ []) × (x ≡ fail)
   command-56 h = leaf-is fail bs x (sym (command-fail n tag bs h) ∙ e)
 
-  pub command-57 : tag ≡ 0x57 → (bs ≡ []) × (x ≡ break)
+  pub command-57 : tag ≡ breakTag → (bs ≡ []) × (x ≡ break)
   command-57 h = leaf-is break bs x (sym (command-break n tag bs h) ∙ e)
 
 -- a command has a tag, and there is depth for it
-pub command-tag : (n tag : ℕ) (bs : List ℕ) (x : Command) → command n tag bs ≡ some x → (0 < n) × (0x50 ≤ tag) × (tag ≤ 0x57)
+pub command-tag : (n tag : ℕ) (bs : List ℕ) (x : Command) → command n tag bs ≡ some x → (0 < n) × (ruleSetTag ≤ tag) × (tag ≤ breakTag)
 command-tag zero tag bs x e =
     let h = command-no-depth tag bs in
     let z : _≡_ {A = ℕ} 0 1 = cc in
     absurd (omega arith)
-command-tag (suc n) tag bs x e = at (decLt tag 0x50) (decLt 0x57 tag)
+command-tag (suc n) tag bs x e = at (decLt tag ruleSetTag) (decLt breakTag tag)
   where
-    none-of : ((0x50 ≤ tag → tag ≤ 0x57 → ⊥)) → ⊥
+    none-of : ((ruleSetTag ≤ tag → tag ≤ breakTag → ⊥)) → ⊥
     none-of h =
         let k = command-other n tag bs h in
         let z : _≡_ {A = ℕ} 0 1 = cc in
         omega arith
 
-    at : Dec (tag < 0x50) → Dec (0x57 < tag) → (0 < suc n) × (0x50 ≤ tag) × (tag ≤ 0x57)
+    at : Dec (tag < ruleSetTag) → Dec (breakTag < tag) → (0 < suc n) × (ruleSetTag ≤ tag) × (tag ≤ breakTag)
     at (yes h) k = absurd (none-of (λ a b. omega arith))
     at (no h) (yes k) = absurd (none-of (λ a b. omega arith))
     at (no h) (no k) = (omega arith, omega arith, omega arith)
@@ -444,11 +444,11 @@ or-more {P} tag k h f g = at (ℕ-discrete tag k)
     at (no e) = g (omega arith)
 
 module _ (n tag : ℕ) (bs : List ℕ) (x : Command) (e : command (suc n) tag bs ≡ some x) (below : (l : List Command) → only anyTag (command n) 16 bs ≡ some l → Every (λ c. height c ≤ n) l) where
-  height-50 : tag ≡ 0x50 → height x ≤ suc n
+  height-50 : tag ≡ ruleSetTag → height x ≤ suc n
   unfolding height
   height-50 h = rw (command-50 n tag bs x e h .0) (omega arith)
 
-  height-51 : tag ≡ 0x51 → height x ≤ suc n
+  height-51 : tag ≡ sequenceTag → height x ≤ suc n
   unfolding height
   height-51 h =
       let s = command-51 n tag bs x e h in
@@ -461,7 +461,7 @@ module _ (n tag : ℕ) (bs : List ℕ) (x : Command) (e : command (suc n) tag bs
       let k = below _ (s .3) in
       rw (s .4) (omega (arith, k .0, k .1 .0, k .1 .1 .0))
 
-  height-54 : tag ≡ 0x54 → height x ≤ suc n
+  height-54 : tag ≡ loopTag → height x ≤ suc n
   unfolding height
   height-54 h =
       let s = command-54 n tag bs x e h in
@@ -475,12 +475,12 @@ module _ (n tag : ℕ) (bs : List ℕ) (x : Command) (e : command (suc n) tag bs
   unfolding height
   height-at =
       let t = command-tag (suc n) tag bs x e in
-      or-more tag 0x50 (t .1) height-50 (λ h. or-more tag 0x51 h height-51
-      (λ h. or-more tag 0x52 h (λ q. height-three false (command-52 n tag bs x e q))
-      (λ h. or-more tag 0x53 h (λ q. height-three true (command-53 n tag bs x e q))
-      (λ h. or-more tag 0x54 h height-54
-      (λ h. or-more tag 0x55 h (λ q. height-leaf skip refl (command-55 n tag bs x e q .1))
-      (λ h. or-more tag 0x56 h (λ q. height-leaf fail refl (command-56 n tag bs x e q .1))
+      or-more tag ruleSetTag (t .1) height-50 (λ h. or-more tag sequenceTag h height-51
+      (λ h. or-more tag ifTag h (λ q. height-three false (command-52 n tag bs x e q))
+      (λ h. or-more tag tryTag h (λ q. height-three true (command-53 n tag bs x e q))
+      (λ h. or-more tag loopTag h height-54
+      (λ h. or-more tag skipTag h (λ q. height-leaf skip refl (command-55 n tag bs x e q .1))
+      (λ h. or-more tag failTag h (λ q. height-leaf fail refl (command-56 n tag bs x e q .1))
       (λ h. height-leaf break refl (command-57 n tag bs x e (omega (arith, t .2)) .1))))))))
 
 pub command-height : (n tag : ℕ) (bs : List ℕ) (x : Command) → command n tag bs ≡ some x → height x ≤ n
@@ -492,7 +492,7 @@ command-height (suc n) tag bs x e =
 
 pub record IsProgram (bs : List ℕ) (x : Program) : Type 0 where
   pub behind : List ℕ
-  pub rules : leading (eqb 0x10) (λ tag. rule) 32 bs ≡ some (record { items = x .rules; rest = behind })
+  pub rules : leading (eqb ruleTag) (λ tag. rule) 32 bs ≡ some (record { items = x .rules; rest = behind })
   pub few : length (x .rules) ≤ 32
   pub whole : Field
   pub at-command : field behind ≡ some whole
@@ -502,7 +502,7 @@ pub record IsProgram (bs : List ℕ) (x : Program) : Type 0 where
 pub program-is : (bs : List ℕ) (x : Program) → program bs ≡ some x → IsProgram bs x
 unfolding program
 program-is bs x e =
-    let r = bind-some (leading (eqb 0x10) (λ tag. rule) 32 bs) _ x e in
+    let r = bind-some (leading (eqb ruleTag) (λ tag. rule) 32 bs) _ x e in
     let d = bind-some (field (r .0 .rest)) _ x (r .2) in
     let z = ensure-some (isEmpty (d .0 .rest)) _ x (d .2) in
     let c = bind-some (command 16 (d .0 .tag) (d .0 .payload)) _ x (z .1) in

@@ -8,6 +8,7 @@ use mathlib.Core.Option.{Option, some}
 use native.Mathlib.Omega.{arith}
 use borrow.Author.Tests.{eqb-true, leb-true}
 use lib.ListN.{length, drop}
+use Rattle.meaning.specs.Tags.{interfaceTag, leftTag, rightTag, testsTag, variablesTag}
 use Rattle.meaning.specs.Basics.{choose, every, _>>=_}
 use Rattle.meaning.specs.Numbers.{number, whole}
 use Rattle.meaning.specs.Image.{RuleNode, RuleEdge, RuleGraph, Rule, Program, limits, Field, Read, stated, field, expect, leading, only, anyTag, constant, oneByte, twoOperands, element, label, ruleNode, ruleEdge, ruleGraph, isType, types, test, rule, program}
@@ -156,14 +157,14 @@ types-hold bs l e =
 pub rule-formed : (bs : List ℕ) (r : Rule) → Bytes bs → rule bs ≡ some r → Formed r
 unfolding rule
 rule-formed bs r h e =
-    after (expect 0x11 bs) _ r e (λ v ev e. after (expect 0x12 (v .rest)) _ r e (λ l el e.
-    after (expect 0x13 (l .rest)) _ r e (λ g eg e. after (expect 0x14 (g .rest)) _ r e (λ k ek e.
-    after (expect 0x15 (k .rest)) _ r e (λ t et e. after (types (v .payload)) _ r (ensure-some _ _ r e .1) (λ a ea e.
+    after (expect variablesTag bs) _ r e (λ v ev e. after (expect leftTag (v .rest)) _ r e (λ l el e.
+    after (expect rightTag (l .rest)) _ r e (λ g eg e. after (expect interfaceTag (g .rest)) _ r e (λ k ek e.
+    after (expect testsTag (k .rest)) _ r e (λ t et e. after (types (v .payload)) _ r (ensure-some _ _ r e .1) (λ a ea e.
     after (ruleGraph (l .payload)) _ r e (λ b eb e. after (ruleGraph (g .payload)) _ r e (λ c ec e.
     after (oneByte (k .payload)) _ r e (λ i ei e. after (only anyTag test (limits .tests) (t .payload)) _ r e (λ s es e.
-    let hv = expect-bytes 0x11 bs v h ev in
-    let hl = expect-bytes 0x12 (v .rest) l (hv .1) el in
-    let hg = expect-bytes 0x13 (l .rest) g (hl .1) eg in
+    let hv = expect-bytes variablesTag bs v h ev in
+    let hl = expect-bytes leftTag (v .rest) l (hv .1) el in
+    let hg = expect-bytes rightTag (l .rest) g (hl .1) eg in
     let q = ruleGraph-legal (g .payload) c (hg .0) ec in
     rw (← (some-inj _ r e)) (record { nodes = q .0; edges = q .1; types = types-hold (v .payload) a ea })))))))))))
 

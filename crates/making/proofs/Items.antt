@@ -8,7 +8,7 @@ use native.Mathlib.Omega.{arith}
 use lib.ListN.{length, getD, take, length-map, length-take, List·getD-eq-default}
 use lib.Seq.{getD-take}
 use Rattle.meaning.specs.Layout.{Node, Edge, free, live, ofNode, ofEdge, readNodes}
-use Rattle.meaning.specs.Tags.{anyMark}
+use Rattle.meaning.specs.Tags.{anyMark, edgeTag, nodeTag}
 use Rattle.meaning.specs.Image.{ruleNode, ruleEdge, mostItems}
 use Rattle.meaning.specs.Matching.{nodeIn}
 use Rattle.meaning.specs.Assigned.{assigned}
@@ -40,7 +40,7 @@ abbrev pub edgeInHand : List ℕ → Valued → ℕ → ℕ → Edge
 edgeInHand p v a b = record { mark = getD p 0 0; source = a; target = b; label = atomsIn (v .label) }
 
 module _ {L : Layout} {p lens atoms : List ℕ} (v : Valued)
-    (f : For (graphItem 0x20 p) (λ i. valueIn v ≡ labelValue (L .atoms) (valuesOf lens atoms) (itemLabel i)))
+    (f : For (graphItem nodeTag p) (λ i. valueIn v ≡ labelValue (L .atoms) (valuesOf lens atoms) (itemLabel i)))
     (w : NodeMade L p lens atoms)
     (m : ℕ)
     (e : m ≡ w .node .mark)
@@ -71,7 +71,7 @@ module _ {L : Layout} {p lens atoms places : List ℕ} (w : Joins L p lens atoms
   pub target-is : getD p 2 0 ≡ w .edge .target
   target-is = sym (w .target ∙ edge-form .target)
 
-  module _ (v : Valued) (f : For (graphItem 0x21 p) (λ i. valueIn v ≡ labelValue (L .atoms) (valuesOf lens atoms) (itemLabel i)))
+  module _ (v : Valued) (f : For (graphItem edgeTag p) (λ i. valueIn v ≡ labelValue (L .atoms) (valuesOf lens atoms) (itemLabel i)))
       (s t : ℕ)
       (d : s ≡ getD p 1 0)
       (e : t ≡ getD p 2 0)

@@ -10,6 +10,7 @@ use borrow.Author.Tests.{eq-eqb}
 use lib.Dec.{eqb, leb, lit<}
 use lib.ListN.{length, getD, take, drop, length-drop}
 use lib.Seq.{take-all}
+use Rattle.meaning.specs.Tags.{constantTag, differenceTag, edgeTestTag, inDegreeTag, outDegreeTag, relationTag, sumTag, variableTag}
 use Rattle.meaning.specs.Basics.{ensure, _>>_, _>>=_}
 use Rattle.meaning.specs.Numbers.{number}
 use Rattle.meaning.specs.Image.{only, anyTag, constant, operand, twoOperands, element, relation, condition, test}
@@ -50,15 +51,15 @@ never h e = let z : _≡_ {A = ℕ} 0 1 = cc in absurd (omega arith)
 -- Operands.
 
 module _ (tag : ℕ) (bs : List ℕ) where
-  pub operand-first : (w : ℕ) → tag ≡ 0x30 → For (constant bs) (λ c. w ≡ c) → For (operand tag bs) (λ o. constantOperand w ≡ o)
+  pub operand-first : (w : ℕ) → tag ≡ constantTag → For (constant bs) (λ c. w ≡ c) → For (operand tag bs) (λ o. constantOperand w ≡ o)
   operand-first w h q o e =
       let t = operand-30 tag bs o h e in
       ap constantOperand (q (number bs) (constant-there bs (t .0))) ∙ sym (t .1)
 
-  pub operand-second : (v : ℕ) → (tag ≡ 0x30 → ⊥) → v ≡ getD bs 0 0 → For (operand tag bs) (λ o. variableOperand v ≡ o)
-  operand-second v h q o e = at (ℕ-discrete tag 0x31)
+  pub operand-second : (v : ℕ) → (tag ≡ constantTag → ⊥) → v ≡ getD bs 0 0 → For (operand tag bs) (λ o. variableOperand v ≡ o)
+  operand-second v h q o e = at (ℕ-discrete tag variableTag)
     where
-      at : Dec (tag ≡ 0x31) → variableOperand v ≡ o
+      at : Dec (tag ≡ variableTag) → variableOperand v ≡ o
       at (yes k) = ap variableOperand q ∙ sym (operand-31 tag bs o k e .1)
       at (no k) = never (operand-other tag bs h k) e
 
@@ -75,16 +76,16 @@ module _ (bs : List ℕ) (a b : Operand) (ha : Nth bs 0 a) (hb : Nth bs 1 b) whe
   -- Elements.
 
   module _ (tag : ℕ) where
-    pub element-sum-is : tag ≡ 0x32 → For (element tag bs) (λ e. Sum a b ≡ e)
+    pub element-sum-is : tag ≡ sumTag → For (element tag bs) (λ e. Sum a b ≡ e)
     element-sum-is h e q =
         let t = element-32 tag bs e h q in
         let u = pair-is (t .0) (t .1) in
         rw (u .0, u .1) (sym (t .2))
 
-    pub element-difference-is : (tag ≡ 0x30 → ⊥) → (tag ≡ 0x31 → ⊥) → (tag ≡ 0x32 → ⊥) → For (element tag bs) (λ e. Difference a b ≡ e)
-    element-difference-is h0 h1 h2 e q = at (ℕ-discrete tag 0x33)
+    pub element-difference-is : (tag ≡ constantTag → ⊥) → (tag ≡ variableTag → ⊥) → (tag ≡ sumTag → ⊥) → For (element tag bs) (λ e. Difference a b ≡ e)
+    element-difference-is h0 h1 h2 e q = at (ℕ-discrete tag differenceTag)
       where
-        at : Dec (tag ≡ 0x33) → Difference a b ≡ e
+        at : Dec (tag ≡ differenceTag) → Difference a b ≡ e
         at (yes h) =
             let t = element-33 tag bs e h q in
             let u = pair-is (t .0) (t .1) in
@@ -100,12 +101,12 @@ module _ (bs : List ℕ) (a b : Operand) (ha : Nth bs 0 a) (hb : Nth bs 1 b) whe
       rw (u .0, u .1) (t .2)
 
 module _ (tag : ℕ) (bs : List ℕ) where
-  pub element-constant-is : (w : ℕ) → tag ≡ 0x30 → For (constant bs) (λ c. w ≡ c) → For (element tag bs) (λ e. Constant w ≡ e)
+  pub element-constant-is : (w : ℕ) → tag ≡ constantTag → For (constant bs) (λ c. w ≡ c) → For (element tag bs) (λ e. Constant w ≡ e)
   element-constant-is w h q e x =
       let t = element-30 tag bs e h x in
       ap Constant (q (number bs) (constant-there bs (t .0))) ∙ sym (t .1)
 
-  pub element-variable-is : (v : ℕ) → tag ≡ 0x31 → v ≡ getD bs 0 0 → For (element tag bs) (λ e. Variable v ≡ e)
+  pub element-variable-is : (v : ℕ) → tag ≡ variableTag → v ≡ getD bs 0 0 → For (element tag bs) (λ e. Variable v ≡ e)
   element-variable-is v k q e x = ap Variable q ∙ sym (element-31 tag bs e k x .1)
 
 -- Relations.
@@ -129,24 +130,24 @@ module _ (bs rest : List ℕ) (kind : ℕ) (a b : Operand) (hk : kind ≡ getD b
 -- Conditions and tests.
 
 module _ (tag : ℕ) (bs : List ℕ) where
-  pub condition-relation-is : (r : Condition) → tag ≡ 0x43 → For (relationOf bs) (λ c. r ≡ c) → For (condition tag bs) (λ c. r ≡ c)
+  pub condition-relation-is : (r : Condition) → tag ≡ relationTag → For (relationOf bs) (λ c. r ≡ c) → For (condition tag bs) (λ c. r ≡ c)
   unfolding relationOf
   condition-relation-is r h q c e = q c (sym (condition-relation tag bs h) ∙ e)
 
   module _ (a : ℕ) (ha : a ≡ getD bs 0 0) where
-    pub condition-edge-is : (b : ℕ) → b ≡ getD bs 1 0 → tag ≡ 0x40 → For (condition tag bs) (λ c. Edge a b ≡ c)
+    pub condition-edge-is : (b : ℕ) → b ≡ getD bs 1 0 → tag ≡ edgeTestTag → For (condition tag bs) (λ c. Edge a b ≡ c)
     condition-edge-is b hb h c e = rw (ha, hb) (sym (condition-40 tag bs c e h .1))
 
     module _ (n : ℕ) (hn : length bs ≡ 3 → n ≡ number (drop 1 bs)) where
-      pub condition-in-is : tag ≡ 0x41 → For (condition tag bs) (λ c. InDegree a n ≡ c)
+      pub condition-in-is : tag ≡ inDegreeTag → For (condition tag bs) (λ c. InDegree a n ≡ c)
       condition-in-is h c e =
           let t = condition-41 tag bs c e h in
           rw (ha, hn (t .0)) (sym (t .1))
 
-      pub condition-out-is : (tag ≡ 0x43 → ⊥) → (tag ≡ 0x40 → ⊥) → (tag ≡ 0x41 → ⊥) → For (condition tag bs) (λ c. OutDegree a n ≡ c)
-      condition-out-is h3 h0 h1 c e = at (ℕ-discrete tag 0x42)
+      pub condition-out-is : (tag ≡ relationTag → ⊥) → (tag ≡ edgeTestTag → ⊥) → (tag ≡ inDegreeTag → ⊥) → For (condition tag bs) (λ c. OutDegree a n ≡ c)
+      condition-out-is h3 h0 h1 c e = at (ℕ-discrete tag outDegreeTag)
         where
-          at : Dec (tag ≡ 0x42) → OutDegree a n ≡ c
+          at : Dec (tag ≡ outDegreeTag) → OutDegree a n ≡ c
           at (yes h) =
               let t = condition-42 tag bs c e h in
               rw (ha, hn (t .0)) (sym (t .1))

@@ -11,6 +11,7 @@ use borrow.Author.Tests.{eqb-true}
 use lib.Dec.{eqb, lit<}
 use lib.ListN.{length, getD, drop, length-append, length-map, List·getD-map, List·getD-append, List·getD-eq-default}
 use lib.Seq.{getD-append-add, getD-at}
+use Rattle.meaning.specs.Tags.{edgeTag, interfaceTag, leftTag, nodeTag, rightTag, ruleTag, testsTag, variablesTag}
 use Rattle.meaning.specs.Basics.{choose, isEmpty, _>>=_}
 use Rattle.meaning.specs.Image.{RuleNode, RuleEdge, RuleGraph, Rule, Command, Program, Field, field, expect, leading, only, anyTag, oneByte, label, ruleNode, ruleEdge, ruleGraph, test, types, rule, command, program}
 use Rattle.meaning.specs.Laws.Tests.{choose-true, choose-eq, choose-ne, some-inj, bind-some, ensure-some, empty-true}
@@ -152,71 +153,71 @@ pub data Item : Type 0 where
 
 unfoldable pub graphItem : ℕ → List ℕ → Option Item
 graphItem tag bs =
-    choose (eqb tag 0x20) (ruleNode bs >>= λ n. some (node n))
-    (choose (eqb tag 0x21) (ruleEdge bs >>= λ e. some (edge e)) none)
+    choose (eqb tag nodeTag) (ruleNode bs >>= λ n. some (node n))
+    (choose (eqb tag edgeTag) (ruleEdge bs >>= λ e. some (edge e)) none)
 
 abbrev pub items : RuleGraph → List Item
 items g = map node (g .nodes) ++ map edge (g .edges)
 
-node-item : (tag : ℕ) (bs : List ℕ) (n : RuleNode) → tagged 0x20 ruleNode tag bs ≡ some n → graphItem tag bs ≡ some (node n)
+node-item : (tag : ℕ) (bs : List ℕ) (n : RuleNode) → tagged nodeTag ruleNode tag bs ≡ some n → graphItem tag bs ≡ some (node n)
 unfolding graphItem choose
 node-item tag bs n e =
-    let t = tagged-some 0x20 ruleNode tag bs n e in
+    let t = tagged-some nodeTag ruleNode tag bs n e in
     rw (← (t .0)) (bind-yes _ _ n (t .1))
 
-edge-item : (tag : ℕ) (bs : List ℕ) (n : RuleEdge) → tagged 0x21 ruleEdge tag bs ≡ some n → graphItem tag bs ≡ some (edge n)
+edge-item : (tag : ℕ) (bs : List ℕ) (n : RuleEdge) → tagged edgeTag ruleEdge tag bs ≡ some n → graphItem tag bs ≡ some (edge n)
 unfolding graphItem choose
 edge-item tag bs n e =
-    let t = tagged-some 0x21 ruleEdge tag bs n e in
+    let t = tagged-some edgeTag ruleEdge tag bs n e in
     rw (← (t .0)) (bind-yes _ _ n (t .1))
 
 pub graph-run : (bs : List ℕ) (g : RuleGraph) → ruleGraph bs ≡ some g → Run graphItem (items g) [] bs
 graph-run bs g e =
     let i = ruleGraph-is bs g e in
-    let ns = leading-run (eqb 0x20) (λ tag. ruleNode) (tagged 0x20 ruleNode) (tagged-yes 0x20 ruleNode) 6 bs _ (i .nodes) in
-    let es = only-run (eqb 0x21) (λ tag. ruleEdge) (tagged 0x21 ruleEdge) (tagged-yes 0x21 ruleEdge) 6 (i .behind) (g .edges) (i .edges) in
+    let ns = leading-run (eqb nodeTag) (λ tag. ruleNode) (tagged nodeTag ruleNode) (tagged-yes nodeTag ruleNode) 6 bs _ (i .nodes) in
+    let es = only-run (eqb edgeTag) (λ tag. ruleEdge) (tagged edgeTag ruleEdge) (tagged-yes edgeTag ruleEdge) 6 (i .behind) (g .edges) (i .edges) in
     run-append graphItem (map node (g .nodes)) (map edge (g .edges)) (i .behind) bs []
-    (run-map (tagged 0x20 ruleNode) graphItem node node-item (g .nodes) (i .behind) bs ns)
-    (run-map (tagged 0x21 ruleEdge) graphItem edge edge-item (g .edges) [] (i .behind) es)
+    (run-map (tagged nodeTag ruleNode) graphItem node node-item (g .nodes) (i .behind) bs ns)
+    (run-map (tagged edgeTag ruleEdge) graphItem edge edge-item (g .edges) [] (i .behind) es)
 
 -- what an item that is read says of its tag and bytes
 abbrev pub IsItem : ℕ → List ℕ → Item → Type 0
-IsItem tag bs (node n) = (tag ≡ 0x20) × (ruleNode bs ≡ some n)
-IsItem tag bs (edge e) = (tag ≡ 0x21) × (ruleEdge bs ≡ some e)
+IsItem tag bs (node n) = (tag ≡ nodeTag) × (ruleNode bs ≡ some n)
+IsItem tag bs (edge e) = (tag ≡ edgeTag) × (ruleEdge bs ≡ some e)
 
 pub item-is : (tag : ℕ) (bs : List ℕ) (i : Item) → graphItem tag bs ≡ some i → IsItem tag bs i
 unfolding graphItem
-item-is tag bs i e = at (ℕ-discrete tag 0x20) (ℕ-discrete tag 0x21)
+item-is tag bs i e = at (ℕ-discrete tag nodeTag) (ℕ-discrete tag edgeTag)
   where
-    at : Dec (tag ≡ 0x20) → Dec (tag ≡ 0x21) → IsItem tag bs i
+    at : Dec (tag ≡ nodeTag) → Dec (tag ≡ edgeTag) → IsItem tag bs i
     at (yes h) k =
-        let t = bind-some (ruleNode bs) _ i (sym (choose-eq tag 0x20 _ _ h) ∙ e) in
+        let t = bind-some (ruleNode bs) _ i (sym (choose-eq tag nodeTag _ _ h) ∙ e) in
         rw (← (some-inj (node (t .0)) i (t .2))) (h, t .1)
     at (no h) (yes k) =
-        let t = bind-some (ruleEdge bs) _ i (sym (choose-ne tag 0x20 _ _ h ∙ choose-eq tag 0x21 _ _ k) ∙ e) in
+        let t = bind-some (ruleEdge bs) _ i (sym (choose-ne tag nodeTag _ _ h ∙ choose-eq tag edgeTag _ _ k) ∙ e) in
         rw (← (some-inj (edge (t .0)) i (t .2))) (k, t .1)
     at (no h) (no k) =
-        let f = sym (choose-ne tag 0x20 _ _ h ∙ choose-ne tag 0x21 _ _ k) ∙ e in
+        let f = sym (choose-ne tag nodeTag _ _ h ∙ choose-ne tag edgeTag _ _ k) ∙ e in
         let z : _≡_ {A = ℕ} 0 1 = cc in
         absurd (omega arith)
 
 unfoldable itemTag : Item → ℕ
-itemTag (node n) = 0x20
-itemTag (edge e) = 0x21
+itemTag (node n) = nodeTag
+itemTag (edge e) = edgeTag
 
 item-tag : (tag : ℕ) (bs : List ℕ) (i : Item) → graphItem tag bs ≡ some i → tagItem tag bs ≡ some (itemTag i)
 unfolding itemTag
 item-tag tag bs (node n) e = ap some (item-is tag bs (node n) e .0)
 item-tag tag bs (edge n) e = ap some (item-is tag bs (edge n) e .0)
 
-front-items : (ns : List RuleNode) (es : List RuleEdge) → front 0x20 (map itemTag (map node ns ++ map edge es)) ≡ length ns
+front-items : (ns : List RuleNode) (es : List RuleEdge) → front nodeTag (map itemTag (map node ns ++ map edge es)) ≡ length ns
 unfolding front itemTag choose
 front-items [] [] = refl
 front-items [] (e ∷ es) = refl
 front-items (n ∷ ns) es = ap suc (front-items ns es)
 
 -- the tags at the front are as many as there are nodes
-pub graph-count : (bs : List ℕ) (r : ℕ) → ((l : List ℕ) → Run tagItem l [] bs → r ≡ front 0x20 l) → For (ruleGraph bs) (λ g. r ≡ length (g .nodes))
+pub graph-count : (bs : List ℕ) (r : ℕ) → ((l : List ℕ) → Run tagItem l [] bs → r ≡ front nodeTag l) → For (ruleGraph bs) (λ g. r ≡ length (g .nodes))
 graph-count bs r h g e =
     h (map itemTag (items g)) (run-map graphItem tagItem itemTag item-tag (items g) [] bs (graph-run bs g e)) ∙ front-items (g .nodes) (g .edges)
 
@@ -314,58 +315,58 @@ pub data Part : Type 0 where
 
 unfoldable pub imagePart : ℕ → List ℕ → Option Part
 imagePart tag bs =
-    choose (eqb tag 0x10) (rule bs >>= λ x. some (ruleOf x)) (command 16 tag bs >>= λ c. some (mainOf tag c))
+    choose (eqb tag ruleTag) (rule bs >>= λ x. some (ruleOf x)) (command 16 tag bs >>= λ c. some (mainOf tag c))
 
 abbrev pub imageParts : ℕ → Program → List Part
 imageParts tag p = map ruleOf (p .rules) ++ mainOf tag (p .main) ∷ []
 
 abbrev pub IsPart : ℕ → List ℕ → Part → Type 0
-IsPart tag bs (ruleOf x) = (tag ≡ 0x10) × (rule bs ≡ some x)
+IsPart tag bs (ruleOf x) = (tag ≡ ruleTag) × (rule bs ≡ some x)
 IsPart tag bs (mainOf t c) = (tag ≡ t) × (command 16 tag bs ≡ some c)
 
 pub part-is : (tag : ℕ) (bs : List ℕ) (i : Part) → imagePart tag bs ≡ some i → IsPart tag bs i
 unfolding imagePart
-part-is tag bs i e = at (ℕ-discrete tag 0x10)
+part-is tag bs i e = at (ℕ-discrete tag ruleTag)
   where
-    at : Dec (tag ≡ 0x10) → IsPart tag bs i
+    at : Dec (tag ≡ ruleTag) → IsPart tag bs i
     at (yes h) =
-        let t = bind-some (rule bs) _ i (sym (choose-eq tag 0x10 _ _ h) ∙ e) in
+        let t = bind-some (rule bs) _ i (sym (choose-eq tag ruleTag _ _ h) ∙ e) in
         rw (← (some-inj (ruleOf (t .0)) i (t .2))) (h, t .1)
     at (no h) =
-        let t = bind-some (command 16 tag bs) _ i (sym (choose-ne tag 0x10 _ _ h) ∙ e) in
+        let t = bind-some (command 16 tag bs) _ i (sym (choose-ne tag ruleTag _ _ h) ∙ e) in
         rw (← (some-inj (mainOf tag (t .0)) i (t .2))) (refl, t .1)
 
-rule-item : (tag : ℕ) (bs : List ℕ) (x : Rule) → tagged 0x10 rule tag bs ≡ some x → imagePart tag bs ≡ some (ruleOf x)
+rule-item : (tag : ℕ) (bs : List ℕ) (x : Rule) → tagged ruleTag rule tag bs ≡ some x → imagePart tag bs ≡ some (ruleOf x)
 unfolding imagePart choose
 rule-item tag bs x e =
-    let t = tagged-some 0x10 rule tag bs x e in
+    let t = tagged-some ruleTag rule tag bs x e in
     rw (← (t .0)) (bind-yes _ _ x (t .1))
 
-pub no-command : (tag : ℕ) (bs : List ℕ) (c : Command) → command 16 tag bs ≡ some c → tag ≡ 0x10 → ⊥
+pub no-command : (tag : ℕ) (bs : List ℕ) (c : Command) → command 16 tag bs ≡ some c → tag ≡ ruleTag → ⊥
 no-command tag bs c e h = omega (arith, command-tag 16 tag bs c e .1)
 
 main-item : (tag : ℕ) (bs : List ℕ) (c : Command) → command 16 tag bs ≡ some c → imagePart tag bs ≡ some (mainOf tag c)
 unfolding imagePart
-main-item tag bs c e = choose-ne tag 0x10 _ _ (no-command tag bs c e) ∙ bind-yes _ _ c e
+main-item tag bs c e = choose-ne tag ruleTag _ _ (no-command tag bs c e) ∙ bind-yes _ _ c e
 
-pub image-run : (bs : List ℕ) (p : Program) → program bs ≡ some p → (t : ℕ) × (t ≡ 0x10 → ⊥) × (Run imagePart (imageParts t p) [] bs)
+pub image-run : (bs : List ℕ) (p : Program) → program bs ≡ some p → (t : ℕ) × (t ≡ ruleTag → ⊥) × (Run imagePart (imageParts t p) [] bs)
 unfolding program Run
 image-run bs p e =
-    let t = bind-some (leading (eqb 0x10) (λ tag. rule) 32 bs) _ p e in
+    let t = bind-some (leading (eqb ruleTag) (λ tag. rule) 32 bs) _ p e in
     let u = bind-some (field (t .0 .rest)) _ p (t .2) in
     let v = ensure-some (isEmpty (u .0 .rest)) _ p (u .2) in
     let w = bind-some (command 16 (u .0 .tag) (u .0 .payload)) _ p (v .1) in
-    let rs = leading-run (eqb 0x10) (λ tag. rule) (tagged 0x10 rule) (tagged-yes 0x10 rule) 32 bs (t .0) (t .1) in
+    let rs = leading-run (eqb ruleTag) (λ tag. rule) (tagged ruleTag rule) (tagged-yes ruleTag rule) 32 bs (t .0) (t .1) in
     rw (← (some-inj (record { rules = t .0 .items; main = w .0 }) p (w .2))) (
       u .0 .tag,
       no-command _ _ (w .0) (w .1),
       run-append imagePart (map ruleOf (t .0 .items)) (mainOf (u .0 .tag) (w .0) ∷ []) (t .0 .rest) bs []
-          (run-map (tagged 0x10 rule) imagePart ruleOf rule-item (t .0 .items) (t .0 .rest) bs rs)
+          (run-map (tagged ruleTag rule) imagePart ruleOf rule-item (t .0 .items) (t .0 .rest) bs rs)
           (record { whole = u .0; there = u .1; read = main-item _ _ (w .0) (w .1); more = empty-true _ (v .0) }),
     )
 
 unfoldable partTag : Part → ℕ
-partTag (ruleOf x) = 0x10
+partTag (ruleOf x) = ruleTag
 partTag (mainOf t c) = t
 
 part-tag : (tag : ℕ) (bs : List ℕ) (i : Part) → imagePart tag bs ≡ some i → tagItem tag bs ≡ some (partTag i)
@@ -373,13 +374,13 @@ unfolding partTag
 part-tag tag bs (ruleOf x) e = ap some (part-is tag bs (ruleOf x) e .0)
 part-tag tag bs (mainOf t c) e = ap some (part-is tag bs (mainOf t c) e .0)
 
-front-parts : (xs : List Rule) (t : ℕ) (c : Command) → (t ≡ 0x10 → ⊥) → front 0x10 (map partTag (map ruleOf xs ++ mainOf t c ∷ [])) ≡ length xs
+front-parts : (xs : List Rule) (t : ℕ) (c : Command) → (t ≡ ruleTag → ⊥) → front ruleTag (map partTag (map ruleOf xs ++ mainOf t c ∷ [])) ≡ length xs
 unfolding front partTag choose
-front-parts [] t c h = choose-ne t 0x10 _ _ h
+front-parts [] t c h = choose-ne t ruleTag _ _ h
 front-parts (x ∷ xs) t c h = ap suc (front-parts xs t c h)
 
 -- the tags at the front are as many as there are rules
-pub rule-count-is : (bs : List ℕ) (r : ℕ) → ((l : List ℕ) → Run tagItem l [] bs → r ≡ front 0x10 l) → For (program bs) (λ p. r ≡ length (p .rules))
+pub rule-count-is : (bs : List ℕ) (r : ℕ) → ((l : List ℕ) → Run tagItem l [] bs → r ≡ front ruleTag l) → For (program bs) (λ p. r ≡ length (p .rules))
 rule-count-is bs r h p e =
     let t = image-run bs p e in
     h (map partTag (imageParts (t .0) p)) (run-map imagePart tagItem partTag part-tag (imageParts (t .0) p) [] bs (t .2)) ∙ front-parts (p .rules) (t .0) (p .main) (t .1)
@@ -433,7 +434,7 @@ pub rule-parted : (bs : List ℕ) (x : Rule) → rule bs ≡ some x → Parted b
 rule-parted bs x e =
     let i = rule-is bs x e in
     let l = i .v .payload ∷ i .l .payload ∷ i .r .payload ∷ i .k .payload ∷ i .t .payload ∷ [] in
-    let row : Run anything l [] bs = five bs (i .v) (i .l) (i .r) (i .k) (i .t) (expected 0x11 bs (i .v) (i .at-v)) (expected 0x12 (i .v .rest) (i .l) (i .at-l)) (expected 0x13 (i .l .rest) (i .r) (i .at-r)) (expected 0x14 (i .r .rest) (i .k) (i .at-k)) (expected 0x15 (i .k .rest) (i .t) (i .at-t)) (i .last) in
+    let row : Run anything l [] bs = five bs (i .v) (i .l) (i .r) (i .k) (i .t) (expected variablesTag bs (i .v) (i .at-v)) (expected leftTag (i .v .rest) (i .l) (i .at-l)) (expected rightTag (i .l .rest) (i .r) (i .at-r)) (expected interfaceTag (i .r .rest) (i .k) (i .at-k)) (expected testsTag (i .k .rest) (i .t) (i .at-t)) (i .last) in
     record {
       variables = ap types (nth-payload bs l 0 row (lit< tt)) ∙ i .variables;
       left = ap ruleGraph (nth-payload bs l 1 row (lit< tt)) ∙ i .left;
@@ -459,12 +460,12 @@ itemLabel (node n) = n .label
 itemLabel (edge e) = e .label
 
 module _ (tag : ℕ) (bs : List ℕ) where
-  pub label-node : (rest : List ℕ) → tag ≡ 0x20 → rest ≡ drop 2 bs → For (graphItem tag bs) (λ i. label rest ≡ some (itemLabel i))
+  pub label-node : (rest : List ℕ) → tag ≡ nodeTag → rest ≡ drop 2 bs → For (graphItem tag bs) (λ i. label rest ≡ some (itemLabel i))
   unfolding itemLabel
   label-node rest h q (node n) e = ap label q ∙ node-is bs n (item-is tag bs (node n) e .1) .labelled
   label-node rest h q (edge n) e = let t = item-is tag bs (edge n) e .0 in absurd (omega arith)
 
-  pub label-edge : (rest : List ℕ) → (tag ≡ 0x20 → ⊥) → rest ≡ drop 3 bs → For (graphItem tag bs) (λ i. label rest ≡ some (itemLabel i))
+  pub label-edge : (rest : List ℕ) → (tag ≡ nodeTag → ⊥) → rest ≡ drop 3 bs → For (graphItem tag bs) (λ i. label rest ≡ some (itemLabel i))
   unfolding itemLabel
   label-edge rest h q (node n) e = absurd (h (item-is tag bs (node n) e .0))
   label-edge rest h q (edge n) e = ap label q ∙ edge-is bs n (item-is tag bs (edge n) e .1) .labelled

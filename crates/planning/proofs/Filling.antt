@@ -9,6 +9,7 @@ use native.Mathlib.Omega.{arith}
 use native.Mathlib.Decide.{ℕ-discrete, decLt}
 use lib.ListN.{length, getD, set, take, drop, length-append, length-drop, length-map, length-set, List·getD-append}
 use lib.Seq.{getD-append-add}
+use Rattle.meaning.specs.Tags.{nodeTag}
 use Rattle.meaning.specs.Image.{RuleNode, RuleEdge, RuleGraph, Rule, field, ruleNode, ruleEdge, ruleGraph, types, rule, mostItems}
 use Rattle.meaning.specs.References.{ruleHolds}
 use Rattle.meaning.specs.Laws.Tests.{some-inj}
@@ -72,11 +73,11 @@ module _ (g : RuleGraph) (d : Item) where
             (omega arith, cc)
 
 -- what is read by a tag
-as-node : (tag : ℕ) (bs : List ℕ) (x : Item) → graphItem tag bs ≡ some x → tag ≡ 0x20 → (n : RuleNode) × (x ≡ nodeItem n) × (ruleNode bs ≡ some n)
+as-node : (tag : ℕ) (bs : List ℕ) (x : Item) → graphItem tag bs ≡ some x → tag ≡ nodeTag → (n : RuleNode) × (x ≡ nodeItem n) × (ruleNode bs ≡ some n)
 as-node tag bs (nodeItem n) e h = (n, refl, item-is tag bs (nodeItem n) e .1)
 as-node tag bs (edgeItem n) e h = let k = item-is tag bs (edgeItem n) e .0 in absurd (omega arith)
 
-as-edge : (tag : ℕ) (bs : List ℕ) (x : Item) → graphItem tag bs ≡ some x → (tag ≡ 0x20 → ⊥) → (n : RuleEdge) × (x ≡ edgeItem n) × (ruleEdge bs ≡ some n)
+as-edge : (tag : ℕ) (bs : List ℕ) (x : Item) → graphItem tag bs ≡ some x → (tag ≡ nodeTag → ⊥) → (n : RuleEdge) × (x ≡ edgeItem n) × (ruleEdge bs ≡ some n)
 as-edge tag bs (nodeItem n) e h = absurd (h (item-is tag bs (nodeItem n) e .0))
 as-edge tag bs (edgeItem n) e h = (n, refl, item-is tag bs (edgeItem n) e .1)
 
@@ -180,7 +181,7 @@ module _ {bs : List ℕ} {g : RuleGraph} {p : List ℕ} {start end : ℕ} (is : 
       kept : {A : Type 0} (read : List ℕ → Option A) (a : A) (i : ℕ) → i < j → Placed read bs (getD plan (startAt + i) 0) (getD plan (endAt + i) 0) a → Placed read bs (getD filled (startAt + i) 0) (getD filled (endAt + i) 0) a
       kept read a i q l = rw (old-start plan j (start + s) (start + e) (w .size) next-low i q, old-end plan j (start + s) (start + e) (w .size) next-low i q) l
 
-      pub filling-node : tag ≡ 0x20 → Filling bs g p filled e (j + 1) (nodes + 1)
+      pub filling-node : tag ≡ nodeTag → Filling bs g p filled e (j + 1) (nodes + 1)
       filling-node q =
           let n = next in
           let x = as-node tag _ (n .0) (n .3) q in
@@ -202,7 +203,7 @@ module _ {bs : List ℕ} {g : RuleGraph} {p : List ℕ} {start end : ℕ} (is : 
               rw (z, m .1) (within ruleNode (x .0) (x .2))
           go i a b (no z) = kept ruleNode (nodeOf g i) i (omega arith) (w .node i (omega arith) b)
 
-      pub filling-edge : (tag ≡ 0x20 → ⊥) → Filling bs g p filled e (j + 1) nodes
+      pub filling-edge : (tag ≡ nodeTag → ⊥) → Filling bs g p filled e (j + 1) nodes
       filling-edge q =
           let n = next in
           let x = as-edge tag _ (n .0) (n .3) q in

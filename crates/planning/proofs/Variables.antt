@@ -9,6 +9,7 @@ use native.Mathlib.Omega.{arith}
 use native.Mathlib.Decide.{ℕ-discrete}
 use lib.Dec.{eqb}
 use lib.ListN.{length, getD, take, drop}
+use Rattle.meaning.specs.Tags.{constantTag, differenceTag, sumTag, variableTag}
 use Rattle.meaning.specs.Basics.{choose, either}
 use Rattle.meaning.specs.Image.{Rule, field, element, anyTag, label}
 use Rattle.meaning.specs.References.{isList, takesList}
@@ -31,10 +32,10 @@ use Rattle.planning.specs.declared.Occurs.the-variants.{Behind, Nowhere}
 
 module _ (tag : ℕ) (bs : List ℕ) (e : Element) (q : element tag bs ≡ some e) where
   -- what holds of all but variables, by the tag
-  tagged-other : (f : Element → Bool) → ((c : ℕ) → false ≡ f (Constant c)) → ((a b : Operand) → false ≡ f (Sum a b)) → ((a b : Operand) → false ≡ f (Difference a b)) → (tag ≡ 0x31 → ⊥) → false ≡ f e
-  tagged-other f constant sum difference h = at (ℕ-discrete tag 0x30) (ℕ-discrete tag 0x32) (ℕ-discrete tag 0x33)
+  tagged-other : (f : Element → Bool) → ((c : ℕ) → false ≡ f (Constant c)) → ((a b : Operand) → false ≡ f (Sum a b)) → ((a b : Operand) → false ≡ f (Difference a b)) → (tag ≡ variableTag → ⊥) → false ≡ f e
+  tagged-other f constant sum difference h = at (ℕ-discrete tag constantTag) (ℕ-discrete tag sumTag) (ℕ-discrete tag differenceTag)
     where
-      at : Dec (tag ≡ 0x30) → Dec (tag ≡ 0x32) → Dec (tag ≡ 0x33) → false ≡ f e
+      at : Dec (tag ≡ constantTag) → Dec (tag ≡ sumTag) → Dec (tag ≡ differenceTag) → false ≡ f e
       at (yes a) b c = rw (element-30 tag bs e a q .1) (constant _)
       at (no a) (yes b) c = rw (element-32 tag bs e b q .2) (sum _ _)
       at (no a) (no b) (yes c) = rw (element-33 tag bs e c q .2) (difference _ _)
@@ -44,20 +45,20 @@ module _ (tag : ℕ) (bs : List ℕ) (e : Element) (q : element tag bs ≡ some 
           absurd (omega arith)
 
   module _ (v : ℕ) where
-    pub variable-yes : tag ≡ 0x31 → (length bs ≡ 1) × (eqb (getD bs 0 0) v ≡ isVariable v e)
+    pub variable-yes : tag ≡ variableTag → (length bs ≡ 1) × (eqb (getD bs 0 0) v ≡ isVariable v e)
     unfolding isVariable
     variable-yes h = let t = element-31 tag bs e h q in (t .0, rw (t .1))
 
-    pub variable-no : (tag ≡ 0x31 → ⊥) → false ≡ isVariable v e
+    pub variable-no : (tag ≡ variableTag → ⊥) → false ≡ isVariable v e
     unfolding isVariable
     variable-no h = tagged-other (isVariable v) (λ c. refl) (λ a b. refl) (λ a b. refl) h
 
   module _ (r : Rule) where
-    pub list-yes : tag ≡ 0x31 → (length bs ≡ 1) × (isList r (getD bs 0 0) ≡ takesList r e)
+    pub list-yes : tag ≡ variableTag → (length bs ≡ 1) × (isList r (getD bs 0 0) ≡ takesList r e)
     unfolding takesList
     list-yes h = let t = element-31 tag bs e h q in (t .0, rw (t .1))
 
-    pub list-no : (tag ≡ 0x31 → ⊥) → false ≡ takesList r e
+    pub list-no : (tag ≡ variableTag → ⊥) → false ≡ takesList r e
     unfolding takesList
     list-no h = tagged-other (takesList r) (λ c. refl) (λ a b. refl) (λ a b. refl) h
 

@@ -10,7 +10,7 @@ use lib.ListN.{length, getD}
 use Rattle.meaning.specs.Basics.{choose, each}
 use Rattle.meaning.specs.Layout.{Node, Edge, Host}
 use Rattle.meaning.specs.Image.{RuleNode, RuleEdge, Rule, ruleNode, ruleEdge}
-use Rattle.meaning.specs.Tags.{anyMark}
+use Rattle.meaning.specs.Tags.{anyMark, edgeTag, nodeTag}
 use Rattle.meaning.specs.References.{names}
 use Rattle.meaning.specs.Matching.{nodeAt, nodeSlot, Assignment}
 use Rattle.meaning.specs.Assigned.{assigned}
@@ -75,7 +75,7 @@ module _ (most : ℕ) (h : Host) (r : Rule) (p : List ℕ) (right : Right) (q : 
 
   -- a value in hand, read from the item's bytes under values that agree with the match's
   module _ (α : Assignment) (agree : Agree α (assigned h r p) (names (r .right))) (bs : List ℕ) (v : Valued) where
-    pub node-in-hand : For (graphItem 0x20 bs) (λ i. valueIn v ≡ labelValue most α (itemLabel i)) → (j : ℕ) → j < length (r .right .nodes)
+    pub node-in-hand : For (graphItem nodeTag bs) (λ i. valueIn v ≡ labelValue most α (itemLabel i)) → (j : ℕ) → j < length (r .right .nodes)
         → (d : RuleNode) (b : Node) → ruleNode bs ≡ some (getD (r .right .nodes) j d) → atomsIn (v .label) ≡ getD (right .nodes) j b .label
     unfolding itemLabel
     node-in-hand f j k d b e =
@@ -85,7 +85,7 @@ module _ (most : ℕ) (h : Host) (r : Rule) (p : List ℕ) (right : Right) (q : 
         ∙ node-at j k d b .label)
         .1
 
-    pub edge-in-hand : For (graphItem 0x21 bs) (λ i. valueIn v ≡ labelValue most α (itemLabel i)) → (j : ℕ) → j < length (r .right .edges)
+    pub edge-in-hand : For (graphItem edgeTag bs) (λ i. valueIn v ≡ labelValue most α (itemLabel i)) → (j : ℕ) → j < length (r .right .edges)
         → (d : RuleEdge) (b : Edge) → ruleEdge bs ≡ some (getD (r .right .edges) j d) → atomsIn (v .label) ≡ getD (right .edges) j b .label
     unfolding itemLabel
     edge-in-hand f j k d b e =

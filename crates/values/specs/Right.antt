@@ -6,6 +6,7 @@ use mathlib.Core.Option.{Option, some}
 use mathlib.Core.List.{List, [], _∷_, _++_, map}
 use Prim.Native.Nat.{ℕ, suc, _+_, _<_}
 use lib.ListN.{length, getD}
+use Rattle.meaning.specs.Tags.{edgeTag, nodeTag}
 use Rattle.meaning.specs.Basics.{choose, both, every, concat, isSome, each, _>>=_}
 use Rattle.meaning.specs.Numbers.{sum, difference}
 use Rattle.meaning.specs.Layout.{Host}
@@ -145,11 +146,11 @@ held-right most h r p α k = held-same α (assigned h r p) most (r .right) k ∙
 
 -- Items.
 
-pub node-item : (bs : List ℕ) (n : RuleNode) → ruleNode bs ≡ some n → graphItem 0x20 bs ≡ some (node n)
+pub node-item : (bs : List ℕ) (n : RuleNode) → ruleNode bs ≡ some n → graphItem nodeTag bs ≡ some (node n)
 unfolding graphItem choose
 node-item bs n e = bind-yes _ _ n e
 
-pub edge-item : (bs : List ℕ) (n : RuleEdge) → ruleEdge bs ≡ some n → graphItem 0x21 bs ≡ some (edge n)
+pub edge-item : (bs : List ℕ) (n : RuleEdge) → ruleEdge bs ≡ some n → graphItem edgeTag bs ≡ some (edge n)
 unfolding graphItem choose
 edge-item bs n e = bind-yes _ _ n e
 
