@@ -1,17 +1,16 @@
 -- What the walks ask of each element, item, test and command. Rests on the meaning's References and on Rows.
 use mathlib.Core.Bool.{Bool, true, false, not}
 use mathlib.Core.List.{List, [], _∷_}
-use Prim.Native.Nat.{ℕ, _+_}
+use Prim.Native.Nat.{ℕ}
 use lib.ListN.{length, getD}
 use lib.Dec.{eqb, leb, ltb}
 use Rattle.meaning.specs.Basics.{choose, both, either, every, absent}
 use Rattle.meaning.specs.Image.{RuleGraph, Rule, Command, ruleSet, sequence, guarded, loop, skip, fail, break, Commands, stop, then}
-use Rattle.meaning.specs.Tags.{anyMark}
-use Rattle.meaning.specs.References.{operandNames, elementOperands, elementNames, conditionOperands, conditionNodes, isPlain, endsExist, testNodesExist, interfaceFits, leftPlain, leftSimple, operandsInt, variablesOnLeft, anyPlaced, ruleHolds}
+use Rattle.meaning.specs.Tags.{loopTag, sequenceTag, intType, anyMark}
+use Rattle.meaning.specs.References.{operandNames, elementOperands, elementNames, conditionOperands, conditionNodes, isPlain, lists, endsExist, testNodesExist, interfaceFits, leftPlain, leftSimple, operandsInt, variablesOnLeft, anyPlaced, ruleHolds}
 use Rattle.meaning.specs.declared.Operand.{Operand}
 use Rattle.meaning.specs.declared.Operand.the-variants.{Constant as constantOperand, Variable as variableOperand}
 use Rattle.meaning.specs.declared.Element.{Element}
-use Rattle.meaning.specs.declared.Element.the-variants.{Constant, Variable, Sum, Difference}
 use Rattle.meaning.specs.declared.Condition.{Condition}
 use Rattle.meaning.specs.declared.Test.{Test}
 use Rattle.references.specs.declared.Ask.{Ask}
@@ -26,7 +25,7 @@ use Rattle.parts.specs.Rows.{itemLabel, Item, node, edge, items, Part, ruleOf, 
 
 unfoldable pub intOperand : List ℕ → Operand → Bool
 intOperand ts (constantOperand c) = true
-intOperand ts (variableOperand v) = eqb (getD ts v 0) 1
+intOperand ts (variableOperand v) = eqb (getD ts v 0) intType
 
 unfoldable pub operandAsked : Ask → List ℕ → Operand → Bool
 operandAsked Named ts o = every (λ v. ltb v (length ts)) (operandNames o)
@@ -40,17 +39,15 @@ elementAsked Int ts e = every (intOperand ts) (elementOperands e)
 elementAsked (Lacks u) ts e = absent u (elementNames e)
 elementAsked Plain ts e = isPlain e
 
--- how many elements are list variables
+-- how many elements are list variables: as in any rule whose variables have these types
 
-unfoldable pub listOf : List ℕ → Element → ℕ
-listOf ts (Constant c) = 0
-listOf ts (Variable v) = choose (eqb (getD ts v 0) 2) 1 0
-listOf ts (Sum a b) = 0
-listOf ts (Difference a b) = 0
+abbrev pub typed : List ℕ → Rule
+typed ts =
+    let none : RuleGraph = record { nodes = []; edges = [] } in
+    record { variables = ts; left = none; right = none; interface = 0; tests = [] }
 
-unfoldable pub listsIn : List ℕ → List Element → ℕ
-listsIn ts [] = 0
-listsIn ts (e ∷ l) = listOf ts e + listsIn ts l
+abbrev pub listsIn : List ℕ → List Element → ℕ
+listsIn ts l = lists (typed ts) l
 
 -- Items of a graph, and tests.
 
@@ -140,4 +137,4 @@ partsAsked first others (c ∷ l) = both (commandAsked first c) (partsAsked othe
 
 -- what is asked of the first part of a command of a tag: a loop's body, a sequence's first command, or a guard
 unfoldable pub ofFirst : Demand → ℕ → Demand
-ofFirst d tag = choose (eqb tag 0x54) (inBody d) (choose (eqb tag 0x51) d (inGuard d))
+ofFirst d tag = choose (eqb tag loopTag) (inBody d) (choose (eqb tag sequenceTag) d (inGuard d))

@@ -1,31 +1,31 @@
 -- Laws of Asked, one for each answer of the code: elements, operands, conditions and items. Rests on Asked.
 use mathlib.Core.Path.{_≡_, refl, sym, _∙_, ap}
 use mathlib.Core.Bool.{Bool, true, false, not}
-use mathlib.Core.Option.{some, none}
+use mathlib.Core.Option.{some}
 use mathlib.Core.List.{List, [], _∷_, _++_}
 use Prim.Native.Nat.{ℕ, _+_, _-_, _<_, _≤_}
 use native.Mathlib.Omega.{arith}
 use borrow.Author.Tests.{lt-ltb, le-ltb}
-use lib.ListN.{length, getD, take, drop}
+use lib.ListN.{length, getD}
 use lib.Dec.{eqb, leb, ltb}
-use Rattle.meaning.specs.Basics.{choose, both, every, absent}
-use Rattle.meaning.specs.Image.{label, element, field, anyTag}
+use Rattle.meaning.specs.Basics.{both, every, absent}
+use Rattle.meaning.specs.Tags.{nodeTag, intType, anyMark}
+use Rattle.meaning.specs.Image.{label, element, anyTag, limits}
 use Rattle.meaning.specs.References.{operandNames, elementOperands, elementNames, conditionOperands, conditionNodes, isPlain}
-use Rattle.meaning.specs.Laws.Tests.{every-append, both-yes, both-no, both-last, choose-eq, choose-ne}
+use Rattle.meaning.specs.Laws.Tests.{every-append, both-yes, both-no, both-last}
 use Rattle.meaning.specs.declared.Operand.{Operand}
 use Rattle.meaning.specs.declared.Operand.the-variants.{Constant as constantOperand, Variable as variableOperand}
 use Rattle.meaning.specs.declared.Element.{Element}
 use Rattle.meaning.specs.declared.Element.the-variants.{Constant, Variable, Sum, Difference}
 use Rattle.meaning.specs.declared.Condition.{Condition}
 use Rattle.meaning.specs.declared.Condition.the-variants.{Edge, InDegree, OutDegree, Equal, Less}
-use Rattle.fields.specs.Laws.{Lies}
 use Rattle.references.specs.declared.Ask.{Ask}
 use Rattle.references.specs.declared.Ask.the-variants.{Named, Int, Lacks, Plain}
 use Rattle.references.specs.declared.Check.{Check}
 use Rattle.references.specs.declared.Check.the-variants.{Elements, Lists, Nodes, Marks}
-use Rattle.parts.specs.Runs.{For, Run, only-run, run-none, run-some, run-there}
-use Rattle.parts.specs.Rows.{Item, node, edge, graphItem, item-is, node-is, edge-is, itemLabel}
-use Rattle.references.specs.Asked.{intOperand, operandAsked, elementAsked, listOf, listsIn, endsBelow, edgeMarked, itemAsked, conditionAsked}
+use Rattle.parts.specs.Runs.{For, Run, only-run}
+use Rattle.parts.specs.Rows.{Item, node, edge, graphItem, item-is, edge-is, itemLabel}
+use Rattle.references.specs.Asked.{intOperand, operandAsked, elementAsked, listsIn, endsBelow, edgeMarked, itemAsked, conditionAsked}
 
 pub both-below : (a b n : ℕ) → a < n → ltb b n ≡ both (ltb a n) (ltb b n)
 both-below a b n h = sym (both-yes _ _ (lt-ltb a n h))
@@ -73,7 +73,7 @@ module _ (ask : Ask) (ts : List ℕ) where
     unfolding operandAsked operandNames every
     operand-named e = rw e (both-last _)
 
-    pub operand-int : (t : ℕ) → t ≡ getD ts v 0 → ask ≡ Int → eqb t 1 ≡ operandAsked ask ts (variableOperand v)
+    pub operand-int : (t : ℕ) → t ≡ getD ts v 0 → ask ≡ Int → eqb t intType ≡ operandAsked ask ts (variableOperand v)
     unfolding operandAsked intOperand
     operand-int t h e = rw (e, h)
 
@@ -199,103 +199,31 @@ module _ (check : Check) (ts : List ℕ) (c : Condition) where
   unfolding conditionAsked
   condition-marks e = rw e
 
--- Lists.
-
-module _ (ts : List ℕ) (e : Element) where
-  pub list-constant : (c : ℕ) → e ≡ Constant c → 0 ≡ listOf ts e
-  unfolding listOf
-  list-constant c h = rw h
-
-  pub list-sum : (a b : Operand) → e ≡ Sum a b → 0 ≡ listOf ts e
-  unfolding listOf
-  list-sum a b h = rw h
-
-  pub list-difference : (a b : Operand) → e ≡ Difference a b → 0 ≡ listOf ts e
-  unfolding listOf
-  list-difference a b h = rw h
-
-  module _ (v t : ℕ) (q : t ≡ getD ts v 0) (h : e ≡ Variable v) where
-    pub list-yes : t ≡ 2 → 1 ≡ listOf ts e
-    unfolding listOf
-    list-yes k = rw h (sym (choose-eq (getD ts v 0) 2 1 0 (sym q ∙ k)))
-
-    pub list-no : (t ≡ 2 → ⊥) → 0 ≡ listOf ts e
-    unfolding listOf
-    list-no k = rw h (sym (choose-ne (getD ts v 0) 2 1 0 (λ x. k (q ∙ x))))
-
-list-small : (ts : List ℕ) (e : Element) → listOf ts e ≤ 1
-unfolding listOf choose
-list-small ts (Constant c) = omega arith
-list-small ts (Variable v) = at (eqb (getD ts v 0) 2)
-  where
-    at : (b : Bool) → choose b 1 0 ≤ 1
-    at true = omega arith
-    at false = omega arith
-list-small ts (Sum a b) = omega arith
-list-small ts (Difference a b) = omega arith
-
--- n list variables are counted, and those from the place on are the others
-pub record Listing (ts bs : List ℕ) (at n : ℕ) : Type 0 where
-  pub left : For (label bs) (λ l. (m : List Element) × (Run element m [] (drop at bs)) × (listsIn ts l ≡ n + listsIn ts m))
-  pub few : n ≤ at
-  pub inside : at ≤ length bs
-
 pub label-run : (bs : List ℕ) (l : List Element) → label bs ≡ some l → Run element l [] bs
 unfolding label
-label-run bs l e = only-run anyTag element element (λ t b a p x. x) 4 bs l e
-
-pub listing-start : (ts bs : List ℕ) → Listing ts bs 0 0
-listing-start ts bs = record { left = λ l e. (l, label-run bs l e, omega arith); few = omega arith; inside = omega arith }
-
-module _ {ts bs : List ℕ} {at n : ℕ} (w : Listing ts bs at n) where
-  pub listing-done : length bs ≤ at → For (label bs) (λ l. n ≡ listsIn ts l)
-  unfolding listsIn
-  listing-done h l e =
-      let t = w .left l e in
-      let z : listsIn ts (t .0) ≡ 0 = ap (listsIn ts) (run-none element bs at (t .0) (t .1) h) in
-      omega (arith, t .2)
-
-  pub listing-cut : at < length bs → field (drop at bs) ≡ none → For (label bs) (λ l. n ≡ listsIn ts l)
-  listing-cut h k l e = let t = w .left l e in absurd (run-there element bs at (t .0) (t .1) h k)
-
-  module _ {tag start end r : ℕ} {part : List ℕ} {x : Element} (h : at < length bs) (k : Lies bs at tag start end) (p : part ≡ take (end - start) (drop start bs)) (q : For (element tag part) (λ e. x ≡ e)) (z : r ≡ listOf ts x) where
-    pub listing-next : Listing ts bs end (n + r)
-    unfolding listsIn
-    listing-next = record {
-      left = λ l e.
-          let t = w .left l e in
-          let u = run-some element bs at (t .0) (t .1) h tag start end k in
-          let s : r ≡ listOf ts (u .first) = z ∙ ap (listOf ts) (q (u .first) (ap (element tag) p ∙ u .read)) in
-          let v : listsIn ts (t .0) ≡ listOf ts (u .first) + listsIn ts (u .others) = ap (listsIn ts) (u .parts) in
-          (u .others, u .run, omega (arith, t .2, s, v));
-      few = omega (arith, w .few, z, list-small ts x, k .starts, k .ends);
-      inside = k .inside;
-    }
-
-    pub listing-fits : n + r ≤ length bs
-    listing-fits = omega (arith, w .few, z, list-small ts x, k .starts, k .ends, k .inside)
+label-run bs l e = only-run anyTag element element (λ t b a p x. x) (limits .elements) bs l e
 
 -- Items.
 
 module _ (tag : ℕ) (bs : List ℕ) where
-  pub ends-node : (n : ℕ) → tag ≡ 0x20 → For (graphItem tag bs) (λ i. true ≡ endsBelow n i)
+  pub ends-node : (n : ℕ) → tag ≡ nodeTag → For (graphItem tag bs) (λ i. true ≡ endsBelow n i)
   unfolding endsBelow
   ends-node n h (node x) e = refl
   ends-node n h (edge x) e = let t = item-is tag bs (edge x) e .0 in absurd (omega arith)
 
-  pub ends-edge : (n : ℕ) (r : Bool) (a b : ℕ) → (tag ≡ 0x20 → ⊥) → a ≡ getD bs 1 0 → b ≡ getD bs 2 0 → r ≡ both (ltb a n) (ltb b n) → For (graphItem tag bs) (λ i. r ≡ endsBelow n i)
+  pub ends-edge : (n : ℕ) (r : Bool) (a b : ℕ) → (tag ≡ nodeTag → ⊥) → a ≡ getD bs 1 0 → b ≡ getD bs 2 0 → r ≡ both (ltb a n) (ltb b n) → For (graphItem tag bs) (λ i. r ≡ endsBelow n i)
   unfolding endsBelow
   ends-edge n r a b h p q z (node x) e = absurd (h (item-is tag bs (node x) e .0))
   ends-edge n r a b h p q z (edge x) e =
       let i = edge-is bs x (item-is tag bs (edge x) e .1) in
       z ∙ rw (p ∙ i .source, q ∙ i .target)
 
-  pub marks-node : tag ≡ 0x20 → For (graphItem tag bs) (λ i. true ≡ edgeMarked i)
+  pub marks-node : tag ≡ nodeTag → For (graphItem tag bs) (λ i. true ≡ edgeMarked i)
   unfolding edgeMarked
   marks-node h (node x) e = refl
   marks-node h (edge x) e = let t = item-is tag bs (edge x) e .0 in absurd (omega arith)
 
-  pub marks-edge : (m : ℕ) → (tag ≡ 0x20 → ⊥) → m ≡ getD bs 0 0 → For (graphItem tag bs) (λ i. not (eqb m 6) ≡ edgeMarked i)
+  pub marks-edge : (m : ℕ) → (tag ≡ nodeTag → ⊥) → m ≡ getD bs 0 0 → For (graphItem tag bs) (λ i. not (eqb m anyMark) ≡ edgeMarked i)
   unfolding edgeMarked
   marks-edge m h q (node x) e = absurd (h (item-is tag bs (node x) e .0))
   marks-edge m h q (edge x) e = rw (q ∙ edge-is bs x (item-is tag bs (edge x) e .1) .mark)

@@ -10,7 +10,7 @@ use lib.ListN.{length, getD}
 use lib.Dec.{eqb, leb, ltb}
 use Rattle.meaning.specs.Basics.{choose, both, either, clauses, all, every, absent, concat}
 use Rattle.meaning.specs.Image.{RuleGraph, Rule, Program, rule}
-use Rattle.meaning.specs.Tags.{anyMark}
+use Rattle.meaning.specs.Tags.{anyMark, ruleTag}
 use Rattle.meaning.specs.References.{operandNames, elementOperands, elementNames, conditionOperands, labels, elements, names, testOperands, testNames, takesList, lists, operandInt, variablesExist, endsExist, testNodesExist, interfaceFits, leftPlain, leftSimple, operandsInt, variablesOnLeft, anyKept, anyPlaced, ruleHolds}
 use Rattle.meaning.specs.Laws.Tests.{both-true, both-yes, both-no, both-last, either-left, either-right, every-append, every-map, every-true, absent-true, absent-false, all-of, all-no}
 use Rattle.meaning.specs.declared.Operand.{Operand}
@@ -22,7 +22,7 @@ use Rattle.references.specs.declared.Ask.the-variants.{Named, Int, Lacks
 use Rattle.references.specs.declared.Check.the-variants.{Elements, Lists, Nodes, Marks}
 use Rattle.parts.specs.Runs.{For}
 use Rattle.parts.specs.Rows.{Item, node, edge, items, markAt, ruleOf, mainOf, imagePart, imageParts, part-is, no-command, itemLabel}
-use Rattle.references.specs.Asked.{intOperand, operandAsked, elementAsked, listOf, listsIn, endsBelow, edgeMarked, itemAsked, graphAsked, conditionAsked, testAsked, rightAsked, keptOnLeft, nodesAsked, labelsAsked, partHolds}
+use Rattle.references.specs.Asked.{intOperand, operandAsked, elementAsked, listsIn, endsBelow, edgeMarked, itemAsked, graphAsked, conditionAsked, testAsked, rightAsked, keptOnLeft, nodesAsked, labelsAsked, partHolds}
 use Rattle.references.specs.Asking.{absent-append}
 
 -- Tests over lists.
@@ -140,19 +140,12 @@ module _ (x : Rule) where
   plain-left = of-elements Plain (x .variables) (x .left)
 
   lists-same : (l : List Element) → listsIn (x .variables) l ≡ lists x l
-  unfolding listsIn lists listOf takesList choose
+  unfolding lists takesList choose
   lists-same [] = refl
-  lists-same (e ∷ l) = at e (lists-same l)
-    where
-      one : (b : Bool) (m n : ℕ) → m ≡ n → choose b 1 0 + m ≡ choose b (suc n) n
-      one true m n q = omega arith
-      one false m n q = omega arith
-
-      at : (e : Element) → listsIn (x .variables) l ≡ lists x l → listOf (x .variables) e + listsIn (x .variables) l ≡ choose (takesList x e) (suc (lists x l)) (lists x l)
-      at (Constant c) q = one false _ _ q
-      at (Variable v) q = one (eqb (getD (x .variables) v 0) 2) _ _ q
-      at (Sum a b) q = one false _ _ q
-      at (Difference a b) q = one false _ _ q
+  lists-same (Constant c ∷ l) = lists-same l
+  lists-same (Variable v ∷ l) = rw (lists-same l)
+  lists-same (Sum a b ∷ l) = lists-same l
+  lists-same (Difference a b ∷ l) = lists-same l
 
   pub simple-left : graphAsked Lists (x .variables) (x .left) ≡ leftSimple x
   unfolding graphAsked itemAsked leftSimple
@@ -264,17 +257,17 @@ module _ (x : Rule) (exist : variablesExist x ≡ true) (n v : ℕ) (h : n ≡ l
 -- Mark any.
 
 module _ (x : Rule) (j m : ℕ) (q : m ≡ markAt (x .right) j) where
-  pub other-mark : (m ≡ 6 → ⊥) → true ≡ anyKept x j
+  pub other-mark : (m ≡ anyMark → ⊥) → true ≡ anyKept x j
   unfolding anyKept
   other-mark h = sym (either-left _ _ (ap not (ne-eqb (markAt (x .right) j) anyMark (λ z. h (q ∙ z)))))
 
-  module _ (h : m ≡ 6) (k : ℕ) (p : k ≡ x .interface) where
+  module _ (h : m ≡ anyMark) (k : ℕ) (p : k ≡ x .interface) where
     kept-any : anyKept x j ≡ both (ltb j (x .interface)) (eqb (markAt (x .left) j) anyMark)
     unfolding anyKept either
     kept-any = rw (eq-eqb (markAt (x .right) j) anyMark (sym q ∙ h))
 
-    pub inside-mark : (l : ℕ) → l ≡ markAt (x .left) j → j < k → eqb l 6 ≡ anyKept x j
-    inside-mark l z g = sym (kept-any ∙ both-yes _ _ (lt-ltb j (x .interface) (omega arith)) ∙ ap (λ (w : ℕ). eqb w 6) (sym z))
+    pub inside-mark : (l : ℕ) → l ≡ markAt (x .left) j → j < k → eqb l anyMark ≡ anyKept x j
+    inside-mark l z g = sym (kept-any ∙ both-yes _ _ (lt-ltb j (x .interface) (omega arith)) ∙ ap (λ (w : ℕ). eqb w anyMark) (sym z))
 
     pub outside-mark : k ≤ j → false ≡ anyKept x j
     outside-mark g = sym (kept-any ∙ both-no _ _ (le-ltb j (x .interface) (omega arith)))
@@ -312,12 +305,12 @@ unfolding partHolds every both
 parts-hold t p =
     sym (every-append partHolds (map ruleOf (p .rules)) (mainOf t (p .main) ∷ []) ∙ sym (both-last _) ∙ every-map partHolds ruleOf (p .rules))
 
-pub part-rule : (tag : ℕ) (bs : List ℕ) (r : Bool) → tag ≡ 0x10 → For (rule bs) (λ x. r ≡ ruleHolds x) → For (imagePart tag bs) (λ i. r ≡ partHolds i)
+pub part-rule : (tag : ℕ) (bs : List ℕ) (r : Bool) → tag ≡ ruleTag → For (rule bs) (λ x. r ≡ ruleHolds x) → For (imagePart tag bs) (λ i. r ≡ partHolds i)
 unfolding partHolds
 part-rule tag bs r h q (ruleOf x) e = q x (part-is tag bs (ruleOf x) e .1)
 part-rule tag bs r h q (mainOf t c) e = absurd (no-command tag bs c (part-is tag bs (mainOf t c) e .1) h)
 
-pub part-main : (tag : ℕ) (bs : List ℕ) → (tag ≡ 0x10 → ⊥) → For (imagePart tag bs) (λ i. true ≡ partHolds i)
+pub part-main : (tag : ℕ) (bs : List ℕ) → (tag ≡ ruleTag → ⊥) → For (imagePart tag bs) (λ i. true ≡ partHolds i)
 unfolding partHolds
 part-main tag bs h (ruleOf x) e = absurd (h (part-is tag bs (ruleOf x) e .0))
 part-main tag bs h (mainOf t c) e = refl

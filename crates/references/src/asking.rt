@@ -1,23 +1,25 @@
 // What is asked of elements, operands, labels, graphs and tests. `types` are the types of a rule's variables.
 ghost use mathlib.Core.Path.{_≡_};
-ghost use mathlib.Core.Option.{some};
 ghost use mathlib.Core.List.{List};
 ghost use Prim.Native.Nat.{ℕ};
 ghost use lib.Dec.{ltb};
 ghost use Rattle.meaning.specs.Basics.{both, every};
-ghost use Rattle.meaning.specs.Image.{only, anyTag, label, ruleGraph, test};
+ghost use Rattle.meaning.specs.Image.{limits, only, anyTag, label, ruleGraph, test};
 ghost use Rattle.meaning.specs.declared.Operand.the-variants.{Constant as constantOperand, Variable as variableOperand};
 ghost use Rattle.meaning.specs.declared.Element.the-variants.{Variable};
 ghost use Rattle.references.specs.declared.Check.the-variants.{Elements, Nodes};
 ghost use Rattle.parts.specs.Runs.{For};
-ghost use Rattle.parts.specs.Rows.{graphItem, itemLabel};
-ghost use Rattle.references.specs.Asked.{operandAsked, elementAsked, listOf, listsIn, endsBelow, edgeMarked, itemAsked, graphAsked, conditionAsked, testAsked};
+ghost use Rattle.parts.specs.Rows.{graphItem};
+ghost use Rattle.references.specs.Asked.{operandAsked, elementAsked, listsIn, endsBelow, edgeMarked, itemAsked, graphAsked, conditionAsked, testAsked};
 use crate::Ask;
 use crate::Check;
 use fields::Found;
 use meaning::Condition;
 use meaning::Element;
 use meaning::Operand;
+use meaning::tags::Mark;
+use meaning::tags::Tag;
+use meaning::tags::VariableType;
 
 // A variable that is an element.
 pub fn variable_holds(ask: Ask, v: usize, types: &[u8]) -> bool
@@ -37,7 +39,7 @@ pub fn operand_variable_holds(ask: Ask, v: usize, types: &[u8]) -> bool
 {
     match ask {
         Ask::Named => v < types.len(),
-        Ask::Int => parts::byte_at(types, v) == 1,
+        Ask::Int => parts::byte_at(types, v) == VariableType::INT,
         Ask::Lacks(u) => v != u,
         Ask::Plain => false,
     }
@@ -104,36 +106,6 @@ pub fn label_holds(ask: Ask, p: &[u8], types: &[u8]) -> bool
     true
 }
 
-// 1 for a list variable, else 0.
-pub fn list_of(e: Element, types: &[u8]) -> usize
-    ensures { λ r. ⌜ r ≡ listOf (now (types .entry)) e ⌝ }
-{
-    match e {
-        Element::Constant(c) => 0,
-        Element::Variable(v) => if parts::byte_at(types, v) == 2 { 1 } else { 0 },
-        Element::Sum(a, b) => 0,
-        Element::Difference(a, b) => 0,
-    }
-}
-
-// How many elements of a label are list variables.
-pub fn lists_in(p: &[u8], types: &[u8]) -> usize
-    ensures { λ r. ⌜ For (label (now (p .entry))) (λ l. r ≡ listsIn (now (types .entry)) l) ⌝ }
-{
-    let mut at: usize = 0;
-    let mut n: usize = 0;
-    while at < p.len() {
-        let found = fields::read_field(p, at);
-        let Found::Field(tag, start, end) = found else {
-            return n;
-        };
-        let e = parts::reading::read_element(tag, fields::part(p, start, end));
-        n += list_of(e, types);
-        at = end;
-    }
-    n
-}
-
 pub fn both_below(a: usize, b: usize, n: usize) -> bool
     ensures { λ r. ⌜ r ≡ both (ltb a n) (ltb b n) ⌝ }
 {
@@ -147,20 +119,27 @@ pub fn both_below(a: usize, b: usize, n: usize) -> bool
 pub fn ends_exist(tag: u8, p: &[u8], n: usize) -> bool
     ensures { λ r. ⌜ For (graphItem tag (now (p .entry))) (λ i. r ≡ endsBelow n i) ⌝ }
 {
-    if tag == 0x20 {
+    if tag == Tag::NODE {
         return true;
     }
-    both_below(parts::byte_at(p, 1), parts::byte_at(p, 2), n)
+    both_below(parts::number_at(p, 1), parts::number_at(p, 2), n)
 }
 
 // Whether an edge has another mark than any.
 pub fn edge_marked(tag: u8, p: &[u8]) -> bool
     ensures { λ r. ⌜ For (graphItem tag (now (p .entry))) (λ i. r ≡ edgeMarked i) ⌝ }
 {
-    if tag == 0x20 {
+    if tag == Tag::NODE {
         return true;
     }
-    parts::byte_at(p, 0) != 6
+    parts::byte_at(p, 0) != Mark::ANY
+}
+
+// How many elements of a label are list variables.
+pub fn lists_in(types: &[u8], p: &[u8]) -> usize
+    ensures { λ r. ⌜ For (label (now (p .entry))) (λ l. r ≡ listsIn (now (types .entry)) l) ⌝ }
+{
+    parts::elements::shape(types, p).lists
 }
 
 // A node or an edge, from its tag and payload.
@@ -169,7 +148,7 @@ pub fn item_holds(check: Check, tag: u8, p: &[u8], types: &[u8]) -> bool
 {
     match check {
         Check::Elements(ask) => label_holds(ask, parts::label_part(tag, p), types),
-        Check::Lists => lists_in(parts::label_part(tag, p), types) <= 1,
+        Check::Lists => lists_in(types, parts::label_part(tag, p)) <= 1,
         Check::Nodes(n) => ends_exist(tag, p, n),
         Check::Marks => edge_marked(tag, p),
     }
@@ -229,7 +208,7 @@ pub fn condition_holds(check: Check, c: Condition, types: &[u8]) -> bool
 }
 
 pub fn tests_hold(check: Check, p: &[u8], types: &[u8]) -> bool
-    ensures { λ r. ⌜ For (only anyTag test 4 (now (p .entry))) (λ l. r ≡ every (testAsked check (now (types .entry))) l) ⌝ }
+    ensures { λ r. ⌜ For (only anyTag test (limits .tests) (now (p .entry))) (λ l. r ≡ every (testAsked check (now (types .entry))) l) ⌝ }
 {
     let mut at: usize = 0;
     while at < p.len() {

@@ -2,11 +2,13 @@
 ghost use mathlib.Core.Path.{_≡_};
 ghost use lib.Dec.{ltb};
 ghost use Rattle.meaning.specs.Basics.{every};
-ghost use Rattle.meaning.specs.Image.{only, anyTag, command, program};
+ghost use Rattle.meaning.specs.Image.{limits, only, anyTag, command, program};
 ghost use Rattle.parts.specs.Runs.{For};
 ghost use Rattle.references.specs.Asked.{numbersAsked, breakAsked, inBody, inGuard, ofFirst, commandAsked, partsAsked};
 use crate::Demand;
 use fields::Found;
+use meaning::tags::Limit;
+use meaning::tags::Tag;
 
 pub fn numbers_below(p: &[u8], n: usize) -> bool
     ensures { λ r. ⌜ r ≡ every (λ i. ltb i n) (now (p .entry)) ⌝ }
@@ -64,10 +66,10 @@ pub fn in_guard(demand: Demand) -> Demand
 pub fn of_first(demand: Demand, tag: u8) -> Demand
     ensures { λ r. ⌜ r ≡ ofFirst demand tag ⌝ }
 {
-    if tag == 0x54 {
+    if tag == Tag::LOOP {
         return in_body(demand);
     }
-    if tag == 0x51 {
+    if tag == Tag::SEQUENCE {
         return demand;
     }
     in_guard(demand)
@@ -80,10 +82,10 @@ pub fn command_holds(demand: Demand, tag: u8, p: &[u8], depth: usize) -> bool
     if depth == 0 {
         return true;
     }
-    if tag == 0x50 {
+    if tag == Tag::RULE_SET {
         return rule_set_holds(demand, p);
     }
-    if tag == 0x57 {
+    if tag == Tag::BREAK {
         return break_holds(demand);
     }
     commands_hold(of_first(demand, tag), demand, p, depth - 1)
@@ -91,7 +93,7 @@ pub fn command_holds(demand: Demand, tag: u8, p: &[u8], depth: usize) -> bool
 
 // Commands one after the other: what is asked of the first, and of the others.
 pub fn commands_hold(first: Demand, others: Demand, p: &[u8], depth: usize) -> bool
-    ensures { λ r. ⌜ For (only anyTag (command depth) 16 (now (p .entry))) (λ l. r ≡ partsAsked first others l) ⌝ }
+    ensures { λ r. ⌜ For (only anyTag (command depth) (limits .commands) (now (p .entry))) (λ l. r ≡ partsAsked first others l) ⌝ }
 {
     let mut at: usize = 0;
     let mut demand = first;
@@ -114,5 +116,5 @@ pub fn commands_hold(first: Demand, others: Demand, p: &[u8], depth: usize) -> b
 pub fn main_holds(demand: Demand, image: &[u8]) -> bool
     ensures { λ r. ⌜ For (program (now (image .entry))) (λ p. r ≡ commandAsked demand (p .main)) ⌝ }
 {
-    command_holds(demand, parts::main_tag(image), parts::main_part(image), 16)
+    command_holds(demand, parts::main_tag(image), parts::main_part(image), Limit::DEPTH)
 }

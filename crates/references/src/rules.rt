@@ -11,6 +11,8 @@ use crate::Ask;
 use crate::Check;
 use crate::asking;
 use fields::Found;
+use meaning::tags::Mark;
+use meaning::tags::Tag;
 
 // What is asked of the right side and the tests.
 pub fn right_holds(check: Check, p: &[u8]) -> bool
@@ -134,11 +136,11 @@ pub fn variables_on_left(p: &[u8]) -> bool
 pub fn any_kept(p: &[u8], j: usize) -> bool
     ensures { λ r. ⌜ For (rule (now (p .entry))) (λ x. r ≡ anyKept x j) ⌝ }
 {
-    if parts::mark_at(parts::right_part(p), j) != 6 {
+    if parts::mark_at(parts::right_part(p), j) != Mark::ANY {
         return true;
     }
     if j < parts::interface_of(p) {
-        return parts::mark_at(parts::left_part(p), j) == 6;
+        return parts::mark_at(parts::left_part(p), j) == Mark::ANY;
     }
     false
 }
@@ -204,7 +206,7 @@ pub fn rule_holds(p: &[u8]) -> bool
 pub fn part_holds(tag: u8, p: &[u8]) -> bool
     ensures { λ r. ⌜ For (imagePart tag (now (p .entry))) (λ i. r ≡ partHolds i) ⌝ }
 {
-    if tag == 0x10 {
+    if tag == Tag::RULE {
         return rule_holds(p);
     }
     true

@@ -11,7 +11,7 @@ byte-at-requires : tie.Need-byte-at-requires
 byte-at-requires c κs = search needs
 
 returns-2 : tie.Need-returns-2
-returns-2 c = marks-edge _ _ _ (c .before .if1 .left) (c .byte-at .ensures .0)
+returns-2 c = marks-edge _ _ _ (c .before .if1 .left) (c .byte-at .ensures)
 
 pub edge-marked-spec : {M : Type 1} → statement M
 edge-marked-spec = tie.close (tie.spec returns byte-at-requires returns-2)

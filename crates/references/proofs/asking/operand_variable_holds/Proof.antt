@@ -23,7 +23,7 @@ returns : tie.Need-returns
 returns c = operand-named _ _ _ (c .enum-told .given .1)
 
 returns-2 : tie.Need-returns-2
-returns-2 c = operand-int _ _ _ _ (c .byte-at .ensures .0) (c .before .enum-told2 .given .1)
+returns-2 c = operand-int _ _ _ _ (c .byte-at .ensures) (c .before .enum-told2 .given .1)
 
 returns-3 : tie.Need-returns-3
 returns-3 c = operand-lacks _ _ _ _ (c .before .ask .given .1)
