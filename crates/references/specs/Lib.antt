@@ -1,4 +1,1 @@
 pub mod Asked
-pub mod Asking
-pub mod Ties
-pub mod Commanding

@@ -116,5 +116,10 @@ pub fn commands_hold(first: Demand, others: Demand, p: &[u8], depth: usize) -> b
 pub fn main_holds(demand: Demand, image: &[u8]) -> bool
     ensures { λ r. ⌜ For (program (now (image .entry))) (λ p. r ≡ commandAsked demand (p .main)) ⌝ }
 {
-    command_holds(demand, parts::main_tag(image), parts::main_part(image), Limit::DEPTH)
+    command_holds(
+        demand,
+        parts::main_tag(image),
+        parts::main_part(image),
+        Limit::DEPTH,
+    )
 }

@@ -1,7 +1,7 @@
 -- `placement_ok` meets its contract.
 use mathlib.Core.Path.{_∙_}
 use borrow.Author.Needs.{needs}
-use Rattle.references.specs.Commanding.{placement-is}
+use Rattle.references.proofs.Commanding.{placement-is}
 use Rattle.references.proofs.placement_ok.Statement.{statement}
 use Rattle.references.proofs.placement_ok.Tie as tie
 

@@ -8,7 +8,7 @@ use borrow.Fn.PlainCycle.{Measures, is, falls, and}
 use lib.ListN.{length}
 use Rattle.fields.proofs.part.Reads as part-reads
 use Rattle.fields.proofs.read_field.Reads as read-field-reads
-use Rattle.references.specs.Commanding.{Parting, break-at, no-depth, parting-cut, parting-done, parting-next, parting-start, parting-stop, parts-at, rule-set-at}
+use Rattle.references.proofs.Commanding.{Parting, break-at, no-depth, parting-cut, parting-done, parting-next, parting-start, parting-stop, parts-at, rule-set-at}
 use Rattle.parts.proofs.Loops.{a-field, nearer, no-field, part-in}
 use Rattle.references.proofs.commands.+command_holds+commands_hold.{statement}
 use Rattle.references.proofs.commands.+command_holds+commands_hold.Lts-command_holds as command-holds-lts

@@ -8,7 +8,7 @@ use borrow.Author.Tests.{le-ltb, lt-ltb}
 use lib.Dec.{ltb}
 use lib.ListN.{drop, length}
 use Rattle.meaning.specs.Basics.{every}
-use Rattle.references.specs.Commanding.{bytes-done, bytes-next, bytes-stop}
+use Rattle.references.proofs.Commanding.{bytes-done, bytes-next, bytes-stop}
 use Rattle.references.proofs.commands.numbers_below.Statement.{statement}
 use Rattle.references.proofs.commands.numbers_below.Tie as tie
 

@@ -1,6 +1,6 @@
 -- `commands::of_first` meets its contract.
 use borrow.Author.Needs.{needs}
-use Rattle.references.specs.Commanding.{first-body, first-guard, first-same}
+use Rattle.references.proofs.Commanding.{first-body, first-guard, first-same}
 use Rattle.references.proofs.commands.of_first.Statement.{statement}
 use Rattle.references.proofs.commands.of_first.Tie as tie
 

@@ -1,6 +1,6 @@
 -- `commands::rule_set_holds` meets its contract.
 use borrow.Author.Needs.{needs}
-use Rattle.references.specs.Commanding.{numbers-breaks, numbers-rules}
+use Rattle.references.proofs.Commanding.{numbers-breaks, numbers-rules}
 use Rattle.references.proofs.commands.rule_set_holds.Statement.{statement}
 use Rattle.references.proofs.commands.rule_set_holds.Tie as tie
 

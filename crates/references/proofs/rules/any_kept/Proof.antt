@@ -1,6 +1,6 @@
 -- `rules::any_kept` meets its contract.
 use borrow.Author.Needs.{needs}
-use Rattle.references.specs.Ties.{inside-mark, other-mark, outside-mark}
+use Rattle.references.proofs.Ties.{inside-mark, other-mark, outside-mark}
 use Rattle.references.proofs.rules.any_kept.Statement.{statement}
 use Rattle.references.proofs.rules.any_kept.Tie as tie
 

@@ -9,7 +9,7 @@ use Rattle.meaning.specs.Basics.{all}
 use Rattle.meaning.specs.Image.{rule}
 use Rattle.meaning.specs.References.{anyKept}
 use Rattle.parts.specs.Runs.{For}
-use Rattle.references.specs.Ties.{all-next, any-done, any-fails}
+use Rattle.references.proofs.Ties.{all-next, any-done, any-fails}
 use Rattle.references.proofs.rules.any_placed.Statement.{statement}
 use Rattle.references.proofs.rules.any_placed.Tie as tie
 

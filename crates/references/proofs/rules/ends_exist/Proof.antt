@@ -3,7 +3,7 @@ use mathlib.Core.Path.{_∙_, ap}
 use Prim.Native.Nat.{ℕ}
 use borrow.Author.Needs.{needs}
 use Rattle.references.specs.Asked.{graphAsked}
-use Rattle.references.specs.Ties.{ends-graph}
+use Rattle.references.proofs.Ties.{ends-graph}
 use Rattle.references.specs.declared.Check.the-variants.{Nodes}
 use Rattle.references.proofs.rules.ends_exist.Statement.{statement}
 use Rattle.references.proofs.rules.ends_exist.Tie as tie

@@ -1,6 +1,6 @@
 -- `rules::interface_fits` meets its contract.
 use borrow.Author.Needs.{needs}
-use Rattle.references.specs.Ties.{fits-no, fits-yes}
+use Rattle.references.proofs.Ties.{fits-no, fits-yes}
 use Rattle.references.proofs.rules.interface_fits.Statement.{statement}
 use Rattle.references.proofs.rules.interface_fits.Tie as tie
 

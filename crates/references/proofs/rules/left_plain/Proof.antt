@@ -1,7 +1,7 @@
 -- `rules::left_plain` meets its contract.
 use mathlib.Core.Path.{_∙_}
 use borrow.Author.Needs.{needs}
-use Rattle.references.specs.Ties.{plain-left}
+use Rattle.references.proofs.Ties.{plain-left}
 use Rattle.references.proofs.rules.left_plain.Statement.{statement}
 use Rattle.references.proofs.rules.left_plain.Tie as tie
 

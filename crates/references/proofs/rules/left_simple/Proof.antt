@@ -1,7 +1,7 @@
 -- `rules::left_simple` meets its contract.
 use mathlib.Core.Path.{_∙_}
 use borrow.Author.Needs.{needs}
-use Rattle.references.specs.Ties.{simple-left}
+use Rattle.references.proofs.Ties.{simple-left}
 use Rattle.references.proofs.rules.left_simple.Statement.{statement}
 use Rattle.references.proofs.rules.left_simple.Tie as tie
 

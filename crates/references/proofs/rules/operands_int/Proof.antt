@@ -1,7 +1,7 @@
 -- `rules::operands_int` meets its contract.
 use mathlib.Core.Path.{_∙_}
 use borrow.Author.Needs.{needs}
-use Rattle.references.specs.Ties.{sides-int}
+use Rattle.references.proofs.Ties.{sides-int}
 use Rattle.references.proofs.rules.operands_int.Statement.{statement}
 use Rattle.references.proofs.rules.operands_int.Tie as tie
 

@@ -1,6 +1,6 @@
 -- `rules::part_holds` meets its contract.
 use borrow.Author.Needs.{needs}
-use Rattle.references.specs.Ties.{part-main, part-rule}
+use Rattle.references.proofs.Ties.{part-main, part-rule}
 use Rattle.references.proofs.rules.part_holds.Statement.{statement}
 use Rattle.references.proofs.rules.part_holds.Tie as tie
 

@@ -9,7 +9,7 @@ use Rattle.meaning.specs.References.{ruleHolds}
 use Rattle.references.specs.Asked.{partHolds}
 use Rattle.parts.specs.Rows.{image-run, imagePart, imageParts}
 use Rattle.parts.specs.Runs.{Walk, walk-cut, walk-done, walk-next, walk-start, walk-stop}
-use Rattle.references.specs.Ties.{parts-hold}
+use Rattle.references.proofs.Ties.{parts-hold}
 use Rattle.parts.proofs.Loops.{a-field, nearer, no-field, part-in}
 use Rattle.references.proofs.rules.rules_hold.Statement.{statement}
 use Rattle.references.proofs.rules.rules_hold.Tie as tie

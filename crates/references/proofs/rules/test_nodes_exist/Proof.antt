@@ -4,7 +4,7 @@ use Prim.Native.Nat.{ℕ}
 use borrow.Author.Needs.{needs}
 use Rattle.meaning.specs.Basics.{every}
 use Rattle.references.specs.Asked.{testAsked}
-use Rattle.references.specs.Ties.{nodes-tests}
+use Rattle.references.proofs.Ties.{nodes-tests}
 use Rattle.references.specs.declared.Check.the-variants.{Nodes}
 use Rattle.references.proofs.rules.test_nodes_exist.Statement.{statement}
 use Rattle.references.proofs.rules.test_nodes_exist.Tie as tie

@@ -1,6 +1,6 @@
 -- `rules::variable_kept` meets its contract.
 use borrow.Author.Needs.{needs}
-use Rattle.references.specs.Ties.{lacking, occurring}
+use Rattle.references.proofs.Ties.{lacking, occurring}
 use Rattle.references.proofs.rules.variable_kept.Statement.{statement}
 use Rattle.references.proofs.rules.variable_kept.Tie as tie
 

@@ -1,7 +1,7 @@
 -- `rules::variables_exist` meets its contract.
 use mathlib.Core.Path.{_∙_}
 use borrow.Author.Needs.{needs}
-use Rattle.references.specs.Ties.{sides-named}
+use Rattle.references.proofs.Ties.{sides-named}
 use Rattle.references.proofs.rules.variables_exist.Statement.{statement}
 use Rattle.references.proofs.rules.variables_exist.Tie as tie
 

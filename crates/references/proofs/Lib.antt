@@ -1,0 +1,3 @@
+mod Asking
+mod Ties
+mod Commanding
