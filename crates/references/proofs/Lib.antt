@@ -1,3 +1,3 @@
-mod Asking
+mod Asks
 mod Ties
 mod Commanding

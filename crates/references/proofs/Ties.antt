@@ -23,7 +23,7 @@ use Rattle.references.specs.declared.Check.the-variants.{Elements, Lists
 use Rattle.parts.specs.Runs.{For}
 use Rattle.parts.specs.Rows.{Item, node, edge, items, markAt, ruleOf, mainOf, imagePart, imageParts, part-is, no-command, itemLabel}
 use Rattle.references.specs.Asked.{intOperand, operandAsked, elementAsked, listsIn, endsBelow, edgeMarked, itemAsked, graphAsked, conditionAsked, testAsked, rightAsked, keptOnLeft, nodesAsked, labelsAsked, partHolds}
-use Rattle.references.proofs.Asking.{absent-append}
+use Rattle.references.proofs.Asks.{absent-append}
 
 -- Tests over lists.
 

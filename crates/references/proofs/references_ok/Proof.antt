@@ -3,7 +3,7 @@ use mathlib.Core.Path.{_∙_, refl}
 use borrow.Author.Needs.{needs}
 use lib.ListN.{length}
 use Rattle.references.specs.Asked.{commandAsked}
-use Rattle.references.proofs.Asking.{both-not, both-then}
+use Rattle.references.proofs.Asks.{both-not, both-then}
 use Rattle.references.proofs.Commanding.{references-are}
 use Rattle.references.specs.declared.Demand.the-variants.{Rules}
 use Rattle.references.proofs.references_ok.Statement.{statement}

@@ -1,5 +1,5 @@
 -- `asking::both_below` meets its contract.
-use Rattle.references.proofs.Asking.{both-above, both-below}
+use Rattle.references.proofs.Asks.{both-above, both-below}
 use Rattle.references.proofs.asking.both_below.Statement.{statement}
 use Rattle.references.proofs.asking.both_below.Tie as tie
 

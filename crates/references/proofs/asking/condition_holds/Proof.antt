@@ -1,6 +1,6 @@
 -- `asking::condition_holds` meets its contract.
 use borrow.Author.Needs.{needs}
-use Rattle.references.proofs.Asking.{condition-lists, condition-marks, condition-of}
+use Rattle.references.proofs.Asks.{condition-lists, condition-marks, condition-of}
 use Rattle.references.proofs.asking.condition_holds.Statement.{statement}
 use Rattle.references.proofs.asking.condition_holds.Tie as tie
 

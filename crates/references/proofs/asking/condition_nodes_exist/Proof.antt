@@ -1,6 +1,6 @@
 -- `asking::condition_nodes_exist` meets its contract.
 use borrow.Author.Needs.{needs}
-use Rattle.references.proofs.Asking.{nodes-edge, nodes-equal, nodes-in, nodes-less, nodes-out}
+use Rattle.references.proofs.Asks.{nodes-edge, nodes-equal, nodes-in, nodes-less, nodes-out}
 use Rattle.references.proofs.asking.condition_nodes_exist.Statement.{statement}
 use Rattle.references.proofs.asking.condition_nodes_exist.Tie as tie
 

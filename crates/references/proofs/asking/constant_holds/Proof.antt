@@ -1,6 +1,6 @@
 -- `asking::constant_holds` meets its contract.
 use borrow.Author.Needs.{needs}
-use Rattle.references.proofs.Asking.{constant-int, constant-lacks, constant-named, constant-plain}
+use Rattle.references.proofs.Asks.{constant-int, constant-lacks, constant-named, constant-plain}
 use Rattle.references.proofs.asking.constant_holds.Statement.{statement}
 use Rattle.references.proofs.asking.constant_holds.Tie as tie
 

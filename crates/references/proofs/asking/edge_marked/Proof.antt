@@ -1,6 +1,6 @@
 -- `asking::edge_marked` meets its contract.
 use borrow.Author.Needs.{needs}
-use Rattle.references.proofs.Asking.{marks-edge, marks-node}
+use Rattle.references.proofs.Asks.{marks-edge, marks-node}
 use Rattle.references.proofs.asking.edge_marked.Statement.{statement}
 use Rattle.references.proofs.asking.edge_marked.Tie as tie
 

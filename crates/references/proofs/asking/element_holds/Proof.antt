@@ -1,6 +1,6 @@
 -- `asking::element_holds` meets its contract.
 use borrow.Author.Needs.{needs}
-use Rattle.references.proofs.Asking.{element-constant, element-difference, element-sum, element-variable}
+use Rattle.references.proofs.Asks.{element-constant, element-difference, element-sum, element-variable}
 use Rattle.references.proofs.asking.element_holds.Statement.{statement}
 use Rattle.references.proofs.asking.element_holds.Tie as tie
 

@@ -1,6 +1,6 @@
 -- `asking::ends_exist` meets its contract.
 use borrow.Author.Needs.{needs}
-use Rattle.references.proofs.Asking.{ends-edge, ends-node}
+use Rattle.references.proofs.Asks.{ends-edge, ends-node}
 use Rattle.references.proofs.asking.ends_exist.Statement.{statement}
 use Rattle.references.proofs.asking.ends_exist.Tie as tie
 

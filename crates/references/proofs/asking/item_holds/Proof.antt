@@ -1,6 +1,6 @@
 -- `asking::item_holds` meets its contract.
 use borrow.Author.Needs.{needs}
-use Rattle.references.proofs.Asking.{item-elements, item-lists, item-marks, item-nodes}
+use Rattle.references.proofs.Asks.{item-elements, item-lists, item-marks, item-nodes}
 use Rattle.references.proofs.asking.item_holds.Statement.{statement}
 use Rattle.references.proofs.asking.item_holds.Tie as tie
 

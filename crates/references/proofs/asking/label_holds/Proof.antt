@@ -7,7 +7,7 @@ use lib.ListN.{length}
 use Rattle.meaning.specs.Basics.{every}
 use Rattle.meaning.specs.Image.{element, label}
 use Rattle.references.specs.Asked.{elementAsked}
-use Rattle.references.proofs.Asking.{label-run}
+use Rattle.references.proofs.Asks.{label-run}
 use Rattle.parts.specs.Runs.{Walk, walk-cut, walk-done, walk-next, walk-start, walk-stop}
 use Rattle.parts.proofs.Loops.{a-field, nearer, no-field, part-in}
 use Rattle.references.proofs.asking.label_holds.Statement.{statement}

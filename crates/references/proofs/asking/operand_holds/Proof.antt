@@ -1,6 +1,6 @@
 -- `asking::operand_holds` meets its contract.
 use borrow.Author.Needs.{needs}
-use Rattle.references.proofs.Asking.{operand-of}
+use Rattle.references.proofs.Asks.{operand-of}
 use Rattle.references.proofs.asking.operand_holds.Statement.{statement}
 use Rattle.references.proofs.asking.operand_holds.Tie as tie
 

@@ -1,6 +1,6 @@
 -- `asking::operand_variable_holds` meets its contract.
 use borrow.Author.Needs.{needs}
-use Rattle.references.proofs.Asking.{operand-int, operand-lacks, operand-named, operand-plain}
+use Rattle.references.proofs.Asks.{operand-int, operand-lacks, operand-named, operand-plain}
 use Rattle.references.proofs.asking.operand_variable_holds.Statement.{statement}
 use Rattle.references.proofs.asking.operand_variable_holds.Tie as tie
 

@@ -1,6 +1,6 @@
 -- `asking::operands_hold` meets its contract.
 use borrow.Author.Needs.{needs}
-use Rattle.references.proofs.Asking.{both-not, both-then}
+use Rattle.references.proofs.Asks.{both-not, both-then}
 use Rattle.references.proofs.asking.operands_hold.Statement.{statement}
 use Rattle.references.proofs.asking.operands_hold.Tie as tie
 

@@ -1,6 +1,6 @@
 -- `asking::variable_holds` meets its contract.
 use borrow.Author.Needs.{needs}
-use Rattle.references.proofs.Asking.{variable-int, variable-lacks, variable-named, variable-plain}
+use Rattle.references.proofs.Asks.{variable-int, variable-lacks, variable-named, variable-plain}
 use Rattle.references.proofs.asking.variable_holds.Statement.{statement}
 use Rattle.references.proofs.asking.variable_holds.Tie as tie
 

@@ -1,7 +1,7 @@
 -- `rules::labels_hold` meets its contract.
 use borrow.Author.Needs.{needs}
 use Rattle.references.specs.Asked.{labelsAsked}
-use Rattle.references.proofs.Asking.{both-not, both-then}
+use Rattle.references.proofs.Asks.{both-not, both-then}
 use Rattle.references.proofs.rules.labels_hold.Statement.{statement}
 use Rattle.references.proofs.rules.labels_hold.Tie as tie
 

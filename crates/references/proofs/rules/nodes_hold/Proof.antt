@@ -1,7 +1,7 @@
 -- `rules::nodes_hold` meets its contract.
 use borrow.Author.Needs.{needs}
 use Rattle.references.specs.Asked.{nodesAsked}
-use Rattle.references.proofs.Asking.{both-not, both-then}
+use Rattle.references.proofs.Asks.{both-not, both-then}
 use Rattle.references.proofs.rules.nodes_hold.Statement.{statement}
 use Rattle.references.proofs.rules.nodes_hold.Tie as tie
 

@@ -5,7 +5,7 @@ use Prim.Native.Nat.{ℕ}
 use borrow.Author.Needs.{needs}
 use Rattle.meaning.specs.Basics.{every}
 use Rattle.references.specs.Asked.{graphAsked, rightAsked, testAsked}
-use Rattle.references.proofs.Asking.{both-not, both-then}
+use Rattle.references.proofs.Asks.{both-not, both-then}
 use Rattle.references.proofs.rules.right_holds.Statement.{statement}
 use Rattle.references.proofs.rules.right_holds.Tie as tie
 

@@ -1,7 +1,7 @@
 -- `rules::rule_holds` meets its contract.
 use mathlib.Core.Path.{_∙_, sym}
 use borrow.Author.Needs.{needs}
-use Rattle.references.proofs.Asking.{both-not, both-then}
+use Rattle.references.proofs.Asks.{both-not, both-then}
 use Rattle.references.proofs.Ties.{rule-is}
 use Rattle.references.proofs.rules.rule_holds.Statement.{statement}
 use Rattle.references.proofs.rules.rule_holds.Tie as tie
