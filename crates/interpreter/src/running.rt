@@ -22,7 +22,7 @@ fn start(
     requires { ⌜ runRefusal l (lending (now nodes) (now edges) (now journal) (now image) fuel (now report)) ≡ none ⌝ }
     ensures { λ r. ⌜ Leaves (run l (lending (now (nodes .entry)) (now (edges .entry)) (now (journal .entry)) (now (image .entry)) fuel (now (report .entry)))) (answerNumber r) (now (nodes .exit)) (now (edges .exit)) (now (journal .exit)) (now (report .exit)) ⌝ }
 {
-    slots::clear(journal);
+    slots::bytes::clear(journal);
     let ran = commands::run_program(l, image, nodes, edges, journal, Tally::new(fuel as usize));
     let end = ran.end;
     let steps = ran.tally.steps;

@@ -8,6 +8,7 @@ ghost use Rattle.meaning.specs.Image.{program};
 ghost use Rattle.parts.specs.Runs.{For};
 ghost use Rattle.pairs.specs.Pairs.{starts as doesStart};
 use meaning::Room;
+use plan::At;
 
 fn match_rule(nodes: &[u8], edges: &[u8], image: &[u8], i: usize)
     requires { ⌜ doesStart (now nodes) (now edges) (now image) ≡ true ⌝ }

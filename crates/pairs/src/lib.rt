@@ -3,6 +3,7 @@ ghost use mathlib.Core.Path.{_≡_};
 ghost use mathlib.Core.Bool.{true};
 ghost use lib.ListN.{length};
 ghost use Prim.Native.Nat.{_+_, _<_, _≤_};
+ghost use Rattle.meaning.specs.Layout.{mostAtoms};
 ghost use Rattle.meaning.specs.Image.{program, mostItems};
 ghost use Rattle.parts.specs.Runs.{For};
 ghost use Rattle.values.specs.Values.{Stored, valuesRoom};
@@ -60,7 +61,7 @@ fn write_number(x: u64) {
 
 fn write_slots(slots: [usize; Room::ITEMS], n: usize) {
     let mut i: usize = 0;
-    while i < mostItems {
+    while i < Room::ITEMS {
         if i >= n {
             return;
         }
@@ -71,7 +72,7 @@ fn write_slots(slots: [usize; Room::ITEMS], n: usize) {
 
 // Writes the value of a variable: as many atoms from a place on.
 fn write_value(atoms: [u32; Room::ATOMS], start: usize, n: usize)
-    requires { ⌜ start + 8 ≤ valuesRoom ⌝ }
+    requires { ⌜ start + mostAtoms ≤ valuesRoom ⌝ }
 {
     io::write_all(1, b" =");
     let mut j: usize = 0;
