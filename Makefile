@@ -5,6 +5,7 @@ CARGO = cargo --quiet
 SECOND = second/target/release/second
 GP2 = second/target/release/gp2
 X86 = tools/x86-64
+LIBRARY = target/staticlib/libinterpreter.a
 
 # What `make run` runs: a runner image, or a program and a host graph in text.
 PROGRAM ?= programs/case-p/case-p.gp2
@@ -39,16 +40,18 @@ runner:
 	@mkdir -p target
 	@rt check runner >target/runner.log 2>&1 || { cat target/runner.log; exit 1; }
 
-# The static library for C.
-library:
-	@test -f target/staticlib/libinterpreter.a || echo "proves and builds the static library, some minutes the first time .." >&2
+# The static library for C, built again when a source of it is newer.
+library: $(LIBRARY)
+
+$(LIBRARY): crates.txt $(shell find crates -name '*.rt' -o -name '*.antt')
+	@test -f $@ || echo "proves and builds the static library, some minutes the first time .." >&2
 	@mkdir -p target
 	@rt staticlib interpreter >target/staticlib.log 2>&1 || { cat target/staticlib.log; exit 1; }
 
 # The worked driver, on the pass that colours a graph with two colours.
 driver: tools library
 	@mkdir -p target/examples
-	@$(X86) cc -std=c11 -O2 -Wall -Wextra -Wpedantic -Werror -Iinclude examples/driver.c target/staticlib/libinterpreter.a -static -o target/examples/driver
+	@$(X86) cc -std=c11 -O2 -Wall -Wextra -Wpedantic -Werror -Iinclude examples/driver.c $(LIBRARY) -static -o target/examples/driver
 	@$(GP2) asm programs/2-colouring/2-colouring.gp2 -o target/examples/driver.image
 	@$(X86) run target/examples/driver target/examples/driver.image
 
@@ -72,7 +75,7 @@ map:
 install: library
 	mkdir -p $(DESTDIR)$(PREFIX)/include $(DESTDIR)$(PREFIX)/lib/pkgconfig
 	cp include/nhiemavut.h $(DESTDIR)$(PREFIX)/include/
-	cp target/staticlib/libinterpreter.a $(DESTDIR)$(PREFIX)/lib/libnhiemavut.a
+	cp $(LIBRARY) $(DESTDIR)$(PREFIX)/lib/libnhiemavut.a
 	sed 's|@PREFIX@|$(PREFIX)|' include/nhiemavut.pc.in >$(DESTDIR)$(PREFIX)/lib/pkgconfig/nhiemavut.pc
 
 # The second interpreter's own tests, with its check of every stored expected output; the proofs and the programs over stored
