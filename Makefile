@@ -42,6 +42,7 @@ runner:
 
 # The static library for C, built again when a source of it is newer.
 library: $(LIBRARY)
+	@:
 
 $(LIBRARY): crates.txt $(shell find crates -name '*.rt' -o -name '*.antt')
 	@test -f $@ || echo "proves and builds the static library, some minutes the first time .." >&2
