@@ -1,12 +1,12 @@
--- What the walks ask of each element, item, test and command. Rests on the meaning's References and on Rows.
+-- What the walks ask of each element, item, test and rule. Rests on the meaning's References and on Rows.
 use mathlib.Core.Bool.{Bool, true, false, not}
-use mathlib.Core.List.{List, [], _∷_}
+use mathlib.Core.List.{List, []}
 use Prim.Native.Nat.{ℕ}
 use lib.ListN.{length, getD}
 use lib.Dec.{eqb, leb, ltb}
-use Rattle.meaning.specs.Basics.{choose, both, either, every, absent}
-use Rattle.meaning.specs.Image.{RuleGraph, Rule, Command, ruleSet, sequence, guarded, loop, skip, fail, break, Commands, stop, then}
-use Rattle.meaning.specs.Tags.{loopTag, sequenceTag, intType, anyMark}
+use Rattle.meaning.specs.Basics.{both, either, every, absent}
+use Rattle.meaning.specs.Image.{RuleGraph, Rule}
+use Rattle.meaning.specs.Tags.{intType, anyMark}
 use Rattle.meaning.specs.References.{operandNames, elementOperands, elementNames, conditionOperands, conditionNodes, isPlain, lists, endsExist, testNodesExist, interfaceFits, leftPlain, leftSimple, operandsInt, variablesOnLeft, anyPlaced, ruleHolds}
 use Rattle.meaning.specs.declared.Operand.{Operand}
 use Rattle.meaning.specs.declared.Operand.the-variants.{Constant as constantOperand, Variable as variableOperand}
@@ -17,8 +17,6 @@ use Rattle.references.specs.declared.Ask.{Ask}
 use Rattle.references.specs.declared.Ask.the-variants.{Named, Int, Lacks, Plain}
 use Rattle.references.specs.declared.Check.{Check}
 use Rattle.references.specs.declared.Check.the-variants.{Elements, Lists, Nodes, Marks}
-use Rattle.references.specs.declared.Demand.{Demand}
-use Rattle.references.specs.declared.Demand.the-variants.{Rules, Breaks}
 use Rattle.parts.specs.Rows.{itemLabel, Item, node, edge, items, Part, ruleOf, mainOf}
 
 -- Elements and operands; `ts` are the types of the variables.
@@ -97,44 +95,3 @@ labelsAsked x = both (leftPlain x) (both (leftSimple x) (both (operandsInt x) (b
 unfoldable pub partHolds : Part → Bool
 partHolds (ruleOf x) = ruleHolds x
 partHolds (mainOf t c) = true
-
--- Commands.
-
-unfoldable pub numbersAsked : Demand → List ℕ → Bool
-numbersAsked (Rules n) l = every (λ i. ltb i n) l
-numbersAsked (Breaks ok) l = true
-
-abbrev pub breakAsked : Demand → Bool
-breakAsked (Rules n) = true
-breakAsked (Breaks ok) = ok
-
-abbrev pub inBody : Demand → Demand
-inBody (Rules n) = Rules n
-inBody (Breaks ok) = Breaks true
-
-abbrev pub inGuard : Demand → Demand
-inGuard (Rules n) = Rules n
-inGuard (Breaks ok) = Breaks false
-
-unfoldable mutual
-  pub commandAsked : Demand → Command → Bool
-  commandAsked d (ruleSet l) = numbersAsked d l
-  commandAsked d (sequence cs) = commandsAsked d cs
-  commandAsked d (guarded keep g a b) = both (commandAsked (inGuard d) g) (both (commandAsked d a) (commandAsked d b))
-  commandAsked d (loop c) = commandAsked (inBody d) c
-  commandAsked d skip = true
-  commandAsked d fail = true
-  commandAsked d break = breakAsked d
-
-  pub commandsAsked : Demand → Commands → Bool
-  commandsAsked d stop = true
-  commandsAsked d (then c cs) = both (commandAsked d c) (commandsAsked d cs)
-
--- what is asked of the first of some commands, and of the others
-unfoldable pub partsAsked : Demand → Demand → List Command → Bool
-partsAsked first others [] = true
-partsAsked first others (c ∷ l) = both (commandAsked first c) (partsAsked others others l)
-
--- what is asked of the first part of a command of a tag: a loop's body, a sequence's first command, or a guard
-unfoldable pub ofFirst : Demand → ℕ → Demand
-ofFirst d tag = choose (eqb tag loopTag) (inBody d) (choose (eqb tag sequenceTag) d (inGuard d))

@@ -22,7 +22,7 @@ use meaning::tags::Tag;
 use meaning::tags::VariableType;
 
 // A variable that is an element.
-pub fn variable_holds(ask: Ask, v: usize, types: &[u8]) -> bool
+fn variable_holds(ask: Ask, v: usize, types: &[u8]) -> bool
     ensures { λ r. ⌜ r ≡ elementAsked ask (now (types .entry)) (Variable v) ⌝ }
 {
     match ask {
@@ -34,7 +34,7 @@ pub fn variable_holds(ask: Ask, v: usize, types: &[u8]) -> bool
 }
 
 // A variable that is an operand.
-pub fn operand_variable_holds(ask: Ask, v: usize, types: &[u8]) -> bool
+fn operand_variable_holds(ask: Ask, v: usize, types: &[u8]) -> bool
     ensures { λ r. ⌜ r ≡ operandAsked ask (now (types .entry)) (variableOperand v) ⌝ }
 {
     match ask {
@@ -46,7 +46,7 @@ pub fn operand_variable_holds(ask: Ask, v: usize, types: &[u8]) -> bool
 }
 
 // No operand is plain.
-pub fn constant_holds(ask: Ask) -> bool
+fn constant_holds(ask: Ask) -> bool
     ensures { λ r. ⌜ ((ts : List ℕ) (c : ℕ) → r ≡ operandAsked ask ts (constantOperand c)) ⌝ }
 {
     match ask {
@@ -57,7 +57,7 @@ pub fn constant_holds(ask: Ask) -> bool
     }
 }
 
-pub fn operand_holds(ask: Ask, o: Operand, types: &[u8]) -> bool
+fn operand_holds(ask: Ask, o: Operand, types: &[u8]) -> bool
     ensures { λ r. ⌜ r ≡ operandAsked ask (now (types .entry)) o ⌝ }
 {
     match o {
@@ -67,7 +67,7 @@ pub fn operand_holds(ask: Ask, o: Operand, types: &[u8]) -> bool
 }
 
 // Both operands of a sum, a difference or a relation.
-pub fn operands_hold(ask: Ask, a: Operand, b: Operand, types: &[u8]) -> bool
+fn operands_hold(ask: Ask, a: Operand, b: Operand, types: &[u8]) -> bool
     ensures { λ r. ⌜ r ≡ both (operandAsked ask (now (types .entry)) a) (operandAsked ask (now (types .entry)) b) ⌝ }
 {
     if operand_holds(ask, a, types) {
@@ -76,7 +76,7 @@ pub fn operands_hold(ask: Ask, a: Operand, b: Operand, types: &[u8]) -> bool
     false
 }
 
-pub fn element_holds(ask: Ask, e: Element, types: &[u8]) -> bool
+fn element_holds(ask: Ask, e: Element, types: &[u8]) -> bool
     ensures { λ r. ⌜ r ≡ elementAsked ask (now (types .entry)) e ⌝ }
 {
     match e {
@@ -87,7 +87,7 @@ pub fn element_holds(ask: Ask, e: Element, types: &[u8]) -> bool
     }
 }
 
-pub fn label_holds(ask: Ask, p: &[u8], types: &[u8]) -> bool
+fn label_holds(ask: Ask, p: &[u8], types: &[u8]) -> bool
     ensures { λ r. ⌜ For (label (now (p .entry))) (λ l. r ≡ every (elementAsked ask (now (types .entry))) l) ⌝ }
 {
     let mut at: usize = 0;
@@ -106,7 +106,7 @@ pub fn label_holds(ask: Ask, p: &[u8], types: &[u8]) -> bool
     true
 }
 
-pub fn both_below(a: usize, b: usize, n: usize) -> bool
+fn both_below(a: usize, b: usize, n: usize) -> bool
     ensures { λ r. ⌜ r ≡ both (ltb a n) (ltb b n) ⌝ }
 {
     if a < n {
@@ -116,7 +116,7 @@ pub fn both_below(a: usize, b: usize, n: usize) -> bool
 }
 
 // Whether the ends of an edge are among n nodes; a node has none.
-pub fn ends_exist(tag: u8, p: &[u8], n: usize) -> bool
+fn ends_exist(tag: u8, p: &[u8], n: usize) -> bool
     ensures { λ r. ⌜ For (graphItem tag (now (p .entry))) (λ i. r ≡ endsBelow n i) ⌝ }
 {
     if tag == Tag::NODE {
@@ -126,7 +126,7 @@ pub fn ends_exist(tag: u8, p: &[u8], n: usize) -> bool
 }
 
 // Whether an edge has another mark than any.
-pub fn edge_marked(tag: u8, p: &[u8]) -> bool
+fn edge_marked(tag: u8, p: &[u8]) -> bool
     ensures { λ r. ⌜ For (graphItem tag (now (p .entry))) (λ i. r ≡ edgeMarked i) ⌝ }
 {
     if tag == Tag::NODE {
@@ -136,14 +136,14 @@ pub fn edge_marked(tag: u8, p: &[u8]) -> bool
 }
 
 // How many elements of a label are list variables.
-pub fn lists_in(types: &[u8], p: &[u8]) -> usize
+fn lists_in(types: &[u8], p: &[u8]) -> usize
     ensures { λ r. ⌜ For (label (now (p .entry))) (λ l. r ≡ listsIn (now (types .entry)) l) ⌝ }
 {
     parts::elements::shape(types, p).lists
 }
 
 // A node or an edge, from its tag and payload.
-pub fn item_holds(check: Check, tag: u8, p: &[u8], types: &[u8]) -> bool
+fn item_holds(check: Check, tag: u8, p: &[u8], types: &[u8]) -> bool
     ensures { λ r. ⌜ For (graphItem tag (now (p .entry))) (λ i. r ≡ itemAsked check (now (types .entry)) i) ⌝ }
 {
     match check {
@@ -172,7 +172,7 @@ pub fn graph_holds(check: Check, p: &[u8], types: &[u8]) -> bool
     true
 }
 
-pub fn condition_operands_hold(ask: Ask, c: Condition, types: &[u8]) -> bool
+fn condition_operands_hold(ask: Ask, c: Condition, types: &[u8]) -> bool
     ensures { λ r. ⌜ r ≡ conditionAsked (Elements ask) (now (types .entry)) c ⌝ }
 {
     match c {
@@ -184,7 +184,7 @@ pub fn condition_operands_hold(ask: Ask, c: Condition, types: &[u8]) -> bool
     }
 }
 
-pub fn condition_nodes_exist(c: Condition, n: usize) -> bool
+fn condition_nodes_exist(c: Condition, n: usize) -> bool
     ensures { λ r. ⌜ ((ts : List ℕ) → r ≡ conditionAsked (Nodes n) ts c) ⌝ }
 {
     match c {
@@ -196,7 +196,7 @@ pub fn condition_nodes_exist(c: Condition, n: usize) -> bool
     }
 }
 
-pub fn condition_holds(check: Check, c: Condition, types: &[u8]) -> bool
+fn condition_holds(check: Check, c: Condition, types: &[u8]) -> bool
     ensures { λ r. ⌜ r ≡ conditionAsked check (now (types .entry)) c ⌝ }
 {
     match check {

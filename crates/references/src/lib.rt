@@ -1,14 +1,17 @@
-// References (answer 17) and placement of break (answer 18) of an image that has the form, one small function for each thing
-// that is asked. The parts of the image are walked where they lie.
+// References (answer 17) of the rules of an image that has the form, one small function for each thing that is asked. The
+// parts of the image are walked where they lie.
 ghost use mathlib.Core.Path.{_≡_};
+ghost use Rattle.meaning.specs.Basics.{every};
 ghost use Rattle.meaning.specs.Image.{program};
-ghost use Rattle.meaning.specs.References.{references};
-ghost use Rattle.meaning.specs.Placement.{placement};
+ghost use Rattle.meaning.specs.References.{ruleHolds};
 ghost use Rattle.parts.specs.Runs.{For};
+ghost use Rattle.parts.specs.Rows.{imagePart};
+ghost use Rattle.references.specs.Asked.{partHolds};
+use fields::Found;
+use meaning::tags::Tag;
 
-pub mod asking;
-pub mod commands;
-pub mod rules;
+mod asking;
+mod rules;
 
 // What is asked of every element of a label, and of every operand.
 pub enum Ask {
@@ -35,28 +38,30 @@ pub enum Check {
     Marks,
 }
 
-// What is asked of a command and those in it.
-pub enum Demand {
-    // The rules that are named are among so many.
-    Rules(usize),
-    // Each break lies where it may; the flag says whether one may stand here.
-    Breaks(bool),
-}
-
-// References, of an image that has the form.
-pub fn references_ok(image: &[u8]) -> bool
-    ensures { λ r. ⌜ For (program (now (image .entry))) (λ p. r ≡ references p) ⌝ }
+// A rule of the image; of the main command nothing is asked here.
+fn part_holds(tag: u8, p: &[u8]) -> bool
+    ensures { λ r. ⌜ For (imagePart tag (now (p .entry))) (λ i. r ≡ partHolds i) ⌝ }
 {
-    if rules::rules_hold(image) {
-        let n = parts::rule_count(image);
-        return commands::main_holds(Demand::Rules(n), image);
+    if tag == Tag::RULE {
+        return rules::rule_holds(p);
     }
-    false
+    true
 }
 
-// Placement of break, of an image that has the form.
-pub fn placement_ok(image: &[u8]) -> bool
-    ensures { λ r. ⌜ For (program (now (image .entry))) (λ p. r ≡ placement p) ⌝ }
+pub fn rules_hold(image: &[u8]) -> bool
+    ensures { λ r. ⌜ For (program (now (image .entry))) (λ x. r ≡ every ruleHolds (x .rules)) ⌝ }
 {
-    commands::main_holds(Demand::Breaks(false), image)
+    let mut at: usize = 0;
+    while at < image.len() {
+        let found = fields::read_field(image, at);
+        let Found::Field(tag, start, end) = found else {
+            return false;
+        };
+        if part_holds(tag, fields::part(image, start, end)) {
+            at = end;
+        } else {
+            return false;
+        }
+    }
+    true
 }

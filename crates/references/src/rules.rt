@@ -1,21 +1,18 @@
-// What references ask of a rule, one function each; and of all the rules of an image.
+// What references ask of a rule, one function each.
 ghost use mathlib.Core.Path.{_≡_};
 ghost use mathlib.Core.Bool.{true};
-ghost use Rattle.meaning.specs.Basics.{both, every};
-ghost use Rattle.meaning.specs.Image.{ruleGraph, rule, program};
+ghost use Rattle.meaning.specs.Basics.{both};
+ghost use Rattle.meaning.specs.Image.{ruleGraph, rule};
 ghost use Rattle.meaning.specs.References.{variablesExist, endsExist, testNodesExist, interfaceFits, leftPlain, leftSimple, operandsInt, variablesOnLeft, anyKept, anyPlaced, ruleHolds};
 ghost use Rattle.parts.specs.Runs.{For};
-ghost use Rattle.parts.specs.Rows.{imagePart};
-ghost use Rattle.references.specs.Asked.{graphAsked, rightAsked, keptOnLeft, nodesAsked, labelsAsked, partHolds};
+ghost use Rattle.references.specs.Asked.{graphAsked, rightAsked, keptOnLeft, nodesAsked, labelsAsked};
 use crate::Ask;
 use crate::Check;
 use crate::asking;
-use fields::Found;
 use meaning::tags::Mark;
-use meaning::tags::Tag;
 
 // What is asked of the right side and the tests.
-pub fn right_holds(check: Check, p: &[u8]) -> bool
+fn right_holds(check: Check, p: &[u8]) -> bool
     ensures { λ r. ⌜ For (rule (now (p .entry))) (λ x. r ≡ rightAsked check x) ⌝ }
 {
     let types = parts::variables_part(p);
@@ -26,14 +23,14 @@ pub fn right_holds(check: Check, p: &[u8]) -> bool
 }
 
 // What is asked of the left side.
-pub fn left_holds(check: Check, p: &[u8]) -> bool
+fn left_holds(check: Check, p: &[u8]) -> bool
     ensures { λ r. ⌜ For (rule (now (p .entry))) (λ x. r ≡ graphAsked check (x .variables) (x .left)) ⌝ }
 {
     asking::graph_holds(check, parts::left_part(p), parts::variables_part(p))
 }
 
 // What is asked of both sides and the tests.
-pub fn sides_hold(check: Check, p: &[u8]) -> bool
+fn sides_hold(check: Check, p: &[u8]) -> bool
     ensures { λ r. ⌜ For (rule (now (p .entry))) (λ x. r ≡ both (graphAsked check (x .variables) (x .left)) (rightAsked check x)) ⌝ }
 {
     if left_holds(check, p) {
@@ -42,34 +39,34 @@ pub fn sides_hold(check: Check, p: &[u8]) -> bool
     false
 }
 
-pub fn variables_exist(p: &[u8]) -> bool
+fn variables_exist(p: &[u8]) -> bool
     ensures { λ r. ⌜ For (rule (now (p .entry))) (λ x. r ≡ variablesExist x) ⌝ }
 {
     sides_hold(Check::Elements(Ask::Named), p)
 }
 
 // The ends of the edges of one graph.
-pub fn ends_exist(p: &[u8]) -> bool
+fn ends_exist(p: &[u8]) -> bool
     ensures { λ r. ⌜ For (ruleGraph (now (p .entry))) (λ g. r ≡ endsExist g) ⌝ }
 {
     let n = parts::node_count(p);
     asking::graph_holds(Check::Nodes(n), p, p)
 }
 
-pub fn left_ends_exist(p: &[u8]) -> bool
+fn left_ends_exist(p: &[u8]) -> bool
     ensures { λ r. ⌜ For (rule (now (p .entry))) (λ x. r ≡ endsExist (x .left)) ⌝ }
 {
     ends_exist(parts::left_part(p))
 }
 
-pub fn right_ends_exist(p: &[u8]) -> bool
+fn right_ends_exist(p: &[u8]) -> bool
     ensures { λ r. ⌜ For (rule (now (p .entry))) (λ x. r ≡ endsExist (x .right)) ⌝ }
 {
     ends_exist(parts::right_part(p))
 }
 
 // Tests name left nodes.
-pub fn test_nodes_exist(p: &[u8]) -> bool
+fn test_nodes_exist(p: &[u8]) -> bool
     ensures { λ r. ⌜ For (rule (now (p .entry))) (λ x. r ≡ testNodesExist x) ⌝ }
 {
     let n = parts::node_count(parts::left_part(p));
@@ -77,7 +74,7 @@ pub fn test_nodes_exist(p: &[u8]) -> bool
 }
 
 // The interface is at most both node counts.
-pub fn interface_fits(p: &[u8]) -> bool
+fn interface_fits(p: &[u8]) -> bool
     ensures { λ r. ⌜ For (rule (now (p .entry))) (λ x. r ≡ interfaceFits x) ⌝ }
 {
     let k = parts::interface_of(p);
@@ -87,26 +84,26 @@ pub fn interface_fits(p: &[u8]) -> bool
     false
 }
 
-pub fn left_plain(p: &[u8]) -> bool
+fn left_plain(p: &[u8]) -> bool
     ensures { λ r. ⌜ For (rule (now (p .entry))) (λ x. r ≡ leftPlain x) ⌝ }
 {
     left_holds(Check::Elements(Ask::Plain), p)
 }
 
-pub fn left_simple(p: &[u8]) -> bool
+fn left_simple(p: &[u8]) -> bool
     ensures { λ r. ⌜ For (rule (now (p .entry))) (λ x. r ≡ leftSimple x) ⌝ }
 {
     left_holds(Check::Lists, p)
 }
 
-pub fn operands_int(p: &[u8]) -> bool
+fn operands_int(p: &[u8]) -> bool
     ensures { λ r. ⌜ For (rule (now (p .entry))) (λ x. r ≡ operandsInt x) ⌝ }
 {
     sides_hold(Check::Elements(Ask::Int), p)
 }
 
 // A variable that the left side lacks, the right side and the tests lack too.
-pub fn variable_kept(p: &[u8], v: usize) -> bool
+fn variable_kept(p: &[u8], v: usize) -> bool
     ensures { λ r. ⌜ For (rule (now (p .entry))) (λ x. r ≡ keptOnLeft x v) ⌝ }
 {
     let lacks = Check::Elements(Ask::Lacks(v));
@@ -117,7 +114,7 @@ pub fn variable_kept(p: &[u8], v: usize) -> bool
 }
 
 // Every variable of the right side or the tests occurs on the left.
-pub fn variables_on_left(p: &[u8]) -> bool
+fn variables_on_left(p: &[u8]) -> bool
     ensures { λ r. ⌜ For (rule (now (p .entry))) (λ x. variablesExist x ≡ true → r ≡ variablesOnLeft x) ⌝ }
 {
     let n = parts::variables_part(p).len();
@@ -133,7 +130,7 @@ pub fn variables_on_left(p: &[u8]) -> bool
 }
 
 // A right node j of mark any is an interface node that is any on the left.
-pub fn any_kept(p: &[u8], j: usize) -> bool
+fn any_kept(p: &[u8], j: usize) -> bool
     ensures { λ r. ⌜ For (rule (now (p .entry))) (λ x. r ≡ anyKept x j) ⌝ }
 {
     if parts::mark_at(parts::right_part(p), j) != Mark::ANY {
@@ -146,7 +143,7 @@ pub fn any_kept(p: &[u8], j: usize) -> bool
 }
 
 // Mark any on the right stands only on such nodes.
-pub fn any_placed(p: &[u8]) -> bool
+fn any_placed(p: &[u8]) -> bool
     ensures { λ r. ⌜ For (rule (now (p .entry))) (λ x. r ≡ anyPlaced x) ⌝ }
 {
     let n = parts::node_count(parts::right_part(p));
@@ -162,7 +159,7 @@ pub fn any_placed(p: &[u8]) -> bool
 }
 
 // What is asked of the nodes of a rule.
-pub fn nodes_hold(p: &[u8]) -> bool
+fn nodes_hold(p: &[u8]) -> bool
     ensures { λ r. ⌜ For (rule (now (p .entry))) (λ x. r ≡ nodesAsked x) ⌝ }
 {
     if left_ends_exist(p) {
@@ -176,7 +173,7 @@ pub fn nodes_hold(p: &[u8]) -> bool
 }
 
 // What is asked of its variables and labels.
-pub fn labels_hold(p: &[u8]) -> bool
+fn labels_hold(p: &[u8]) -> bool
     ensures { λ r. ⌜ For (rule (now (p .entry))) (λ x. variablesExist x ≡ true → r ≡ labelsAsked x) ⌝ }
 {
     if left_plain(p) {
@@ -200,32 +197,4 @@ pub fn rule_holds(p: &[u8]) -> bool
         }
     }
     false
-}
-
-// A rule of the image; of the main command nothing is asked here.
-pub fn part_holds(tag: u8, p: &[u8]) -> bool
-    ensures { λ r. ⌜ For (imagePart tag (now (p .entry))) (λ i. r ≡ partHolds i) ⌝ }
-{
-    if tag == Tag::RULE {
-        return rule_holds(p);
-    }
-    true
-}
-
-pub fn rules_hold(image: &[u8]) -> bool
-    ensures { λ r. ⌜ For (program (now (image .entry))) (λ x. r ≡ every ruleHolds (x .rules)) ⌝ }
-{
-    let mut at: usize = 0;
-    while at < image.len() {
-        let found = fields::read_field(image, at);
-        let Found::Field(tag, start, end) = found else {
-            return false;
-        };
-        if part_holds(tag, fields::part(image, start, end)) {
-            at = end;
-        } else {
-            return false;
-        }
-    }
-    true
 }

@@ -2,7 +2,10 @@
 ghost use mathlib.Core.Path.{_≡_};
 ghost use Rattle.meaning.specs.Basics.{firstFailing};
 ghost use Rattle.meaning.specs.Layout.{Sized, base};
+ghost use Rattle.meaning.specs.Image.{program};
+ghost use Rattle.meaning.specs.References.{references};
 ghost use Rattle.meaning.specs.Calls.{runRefusal, lending};
+ghost use Rattle.parts.specs.Runs.{For};
 ghost use Rattle.answers.specs.Answers.{refusalOf};
 ghost use Rattle.refusal.specs.Checks.{sizeChecks, imageChecks, contentChecks};
 use answers::Checked;
@@ -10,13 +13,23 @@ use meaning::Layout;
 use meaning::Refusal;
 use meaning::tags::Limit;
 
+// References, of an image that has the form: its rules hold, and the rules that its commands name exist.
+fn references_ok(image: &[u8]) -> bool
+    ensures { λ r. ⌜ For (program (now (image .entry))) (λ p. r ≡ references p) ⌝ }
+{
+    if references::rules_hold(image) {
+        return command_checks::rules_exist(image);
+    }
+    false
+}
+
 // Form, references and placement of an image: 16, 17, 18.
 pub fn image_check(image: &[u8]) -> Checked
     ensures { λ r. ⌜ refusalOf r ≡ firstFailing (imageChecks (now (image .entry))) ⌝ }
 {
     if image::form_ok(image) {
-        if references::references_ok(image) {
-            if references::placement_ok(image) {
+        if references_ok(image) {
+            if command_checks::breaks_lie(image) {
                 return Checked::Fine;
             }
             return Checked::Refused(Refusal::BadPlacement);

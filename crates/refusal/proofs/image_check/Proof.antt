@@ -16,16 +16,16 @@ form-ok-requires c κs = search needs
 references-ok-requires : tie.Need-references-ok-requires
 references-ok-requires c κs = search needs
 
-placement-ok-requires : tie.Need-placement-ok-requires
-placement-ok-requires c κs = search needs
+breaks-lie-requires : tie.Need-breaks-lie-requires
+breaks-lie-requires c κs = search needs
 
 returns : tie.Need-returns
 unfolding refusalOf
-returns c = let f = sym (c .before .before .before .before .before .form-ok .ensures) ∙ c .before .before .before .before .if1 .taken in sym (first-yes _ _ _ f ∙ first-yes _ _ _ (references-of _ _ f (c .before .before .before .references-ok .ensures) ∙ c .before .before .if2 .taken) ∙ first-yes _ _ _ (placement-of _ _ f (c .before .placement-ok .ensures) ∙ c .if3 .taken) ∙ first-none)
+returns c = let f = sym (c .before .before .before .before .before .form-ok .ensures) ∙ c .before .before .before .before .if1 .taken in sym (first-yes _ _ _ f ∙ first-yes _ _ _ (references-of _ _ f (c .before .before .before .references-ok .ensures) ∙ c .before .before .if2 .taken) ∙ first-yes _ _ _ (placement-of _ _ f (c .before .breaks-lie .ensures) ∙ c .if3 .taken) ∙ first-none)
 
 returns-2 : tie.Need-returns-2
 unfolding refusalOf
-returns-2 c = let f = sym (c .before .before .before .before .before .form-ok .ensures) ∙ c .before .before .before .before .if1 .taken in sym (first-yes _ _ _ f ∙ first-yes _ _ _ (references-of _ _ f (c .before .before .before .references-ok .ensures) ∙ c .before .before .if2 .taken) ∙ first-no _ _ _ (placement-of _ _ f (c .before .placement-ok .ensures) ∙ c .if3 .left))
+returns-2 c = let f = sym (c .before .before .before .before .before .form-ok .ensures) ∙ c .before .before .before .before .if1 .taken in sym (first-yes _ _ _ f ∙ first-yes _ _ _ (references-of _ _ f (c .before .before .before .references-ok .ensures) ∙ c .before .before .if2 .taken) ∙ first-no _ _ _ (placement-of _ _ f (c .before .breaks-lie .ensures) ∙ c .if3 .left))
 
 returns-3 : tie.Need-returns-3
 unfolding refusalOf
@@ -41,7 +41,7 @@ image-check-spec =
     (tie.spec
     form-ok-requires
     references-ok-requires
-    placement-ok-requires
+    breaks-lie-requires
     returns
     returns-2
     returns-3

@@ -13,15 +13,15 @@ use lib.Seq.{drop-cons}
 use lib.Dec.{ltb}
 use Rattle.meaning.specs.Basics.{both, every, isEmpty, ensure, _>>_, _>>=_}
 use Rattle.meaning.specs.Image.{Command, ruleSet, sequence, guarded, loop, skip, fail, break, Commands, stop, then, field, leading, only, anyTag, inOrder, command, Program}
-use Rattle.meaning.specs.References.{ruleHolds, rulesExist, allRulesExist, references}
+use Rattle.meaning.specs.References.{rulesExist, allRulesExist}
 use Rattle.meaning.specs.Placement.{breaksLie, allBreaksLie, placement}
 use Rattle.meaning.specs.Laws.Tests.{both-yes, both-no, both-last, choose-eq, choose-ne}
 use Rattle.fields.specs.Parsed.{command-tag, command-50, command-51, command-52, command-53, command-54, command-55, command-56, command-57}
 use Rattle.fields.specs.Laws.{Lies, past}
-use Rattle.references.specs.declared.Demand.{Demand}
-use Rattle.references.specs.declared.Demand.the-variants.{Rules, Breaks}
+use Rattle.command_checks.specs.declared.Demand.{Demand}
+use Rattle.command_checks.specs.declared.Demand.the-variants.{Rules, Breaks}
 use Rattle.parts.specs.Runs.{For, Run, only-run, run-none, run-some, run-there}
-use Rattle.references.specs.Asked.{numbersAsked, breakAsked, inBody, inGuard, commandAsked, commandsAsked, partsAsked, ofFirst}
+use Rattle.command_checks.specs.Asked.{numbersAsked, breakAsked, inBody, inGuard, commandAsked, commandsAsked, partsAsked, ofFirst}
 
 -- The two demands.
 
@@ -222,9 +222,8 @@ module _ (f : ℕ → Bool) (bs : List ℕ) (i : ℕ) (w : every f bs ≡ every 
 
 -- The whole.
 
-pub references-are : (p : Program) (n : ℕ) → n ≡ length (p .rules) → both (every ruleHolds (p .rules)) (commandAsked (Rules n) (p .main)) ≡ references p
-unfolding references
-references-are p n h = rw h (ap (both (every ruleHolds (p .rules))) (rules-asked (length (p .rules)) (p .main)))
+pub rules-are : (p : Program) (n : ℕ) → n ≡ length (p .rules) → commandAsked (Rules n) (p .main) ≡ rulesExist (p .main) (length (p .rules))
+rules-are p n h = rw h (rules-asked (length (p .rules)) (p .main))
 
 pub placement-is : (p : Program) → commandAsked (Breaks false) (p .main) ≡ placement p
 unfolding placement

@@ -1,4 +1,4 @@
--- `rules::rules_hold` meets its contract. The loop's invariant: what is asked of all is what is asked from the place on.
+-- `rules_hold` meets its contract. The loop's invariant: what is asked of all is what is asked from the place on.
 -- The measure is what is left of the bytes.
 use Prim.Native.Nat.{_-_}
 use borrow.Author.Needs.{needs}
@@ -11,8 +11,8 @@ use Rattle.parts.specs.Rows.{image-run, imagePart, imageParts}
 use Rattle.parts.specs.Runs.{Walk, walk-cut, walk-done, walk-next, walk-start, walk-stop}
 use Rattle.references.proofs.Ties.{parts-hold}
 use Rattle.parts.proofs.Loops.{a-field, nearer, no-field, part-in}
-use Rattle.references.proofs.rules.rules_hold.Statement.{statement}
-use Rattle.references.proofs.rules.rules_hold.Tie as tie
+use Rattle.references.proofs.rules_hold.Statement.{statement}
+use Rattle.references.proofs.rules_hold.Tie as tie
 
 abbrev Inv-loop : tie.InvT-loop
 Inv-loop image at₀ at = Walk imagePart partHolds image (program image) (λ p. every ruleHolds (p .rules)) at

@@ -1,9 +1,9 @@
--- `commands::in_guard` meets its contract.
+-- `in_guard` meets its contract.
 use mathlib.Core.Path.{ap, sym}
 use borrow.Author.Needs.{needs}
-use Rattle.references.specs.Asked.{inGuard}
-use Rattle.references.proofs.commands.in_guard.Statement.{statement}
-use Rattle.references.proofs.commands.in_guard.Tie as tie
+use Rattle.command_checks.specs.Asked.{inGuard}
+use Rattle.command_checks.proofs.in_guard.Statement.{statement}
+use Rattle.command_checks.proofs.in_guard.Tie as tie
 
 enum-known-demand : tie.Need-enum-known-demand
 enum-known-demand c = search needs

@@ -1,8 +1,8 @@
--- `commands::main_holds` meets its contract.
+-- `main_holds` meets its contract.
 use borrow.Author.Needs.{needs}
 use Rattle.parts.specs.Rows.{main-is}
-use Rattle.references.proofs.commands.main_holds.Statement.{statement}
-use Rattle.references.proofs.commands.main_holds.Tie as tie
+use Rattle.command_checks.proofs.main_holds.Statement.{statement}
+use Rattle.command_checks.proofs.main_holds.Tie as tie
 
 main-tag-requires : tie.Need-main-tag-requires
 main-tag-requires c κs = search needs

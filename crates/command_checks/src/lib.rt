@@ -1,16 +1,27 @@
-// What is asked of commands: that the rules they name exist, or that each break lies in a loop body with no guard between.
+// What is asked of the commands of an image that has the form: that the rules they name exist (a part of answer 17), and that
+// each break lies in a loop body with no guard between (answer 18). The parts of the image are walked where they lie.
 ghost use mathlib.Core.Path.{_≡_};
 ghost use lib.Dec.{ltb};
+ghost use lib.ListN.{length};
 ghost use Rattle.meaning.specs.Basics.{every};
 ghost use Rattle.meaning.specs.Image.{limits, only, anyTag, command, program};
+ghost use Rattle.meaning.specs.References.{rulesExist};
+ghost use Rattle.meaning.specs.Placement.{placement};
 ghost use Rattle.parts.specs.Runs.{For};
-ghost use Rattle.references.specs.Asked.{numbersAsked, breakAsked, inBody, inGuard, ofFirst, commandAsked, partsAsked};
-use crate::Demand;
+ghost use Rattle.command_checks.specs.Asked.{numbersAsked, breakAsked, inBody, inGuard, ofFirst, commandAsked, partsAsked};
 use fields::Found;
 use meaning::tags::Limit;
 use meaning::tags::Tag;
 
-pub fn numbers_below(p: &[u8], n: usize) -> bool
+// What is asked of a command and those in it.
+pub enum Demand {
+    // The rules that are named are among so many.
+    Rules(usize),
+    // Each break lies where it may; the flag says whether one may stand here.
+    Breaks(bool),
+}
+
+fn numbers_below(p: &[u8], n: usize) -> bool
     ensures { λ r. ⌜ r ≡ every (λ i. ltb i n) (now (p .entry)) ⌝ }
 {
     let mut i: usize = 0;
@@ -24,7 +35,7 @@ pub fn numbers_below(p: &[u8], n: usize) -> bool
     true
 }
 
-pub fn rule_set_holds(demand: Demand, p: &[u8]) -> bool
+fn rule_set_holds(demand: Demand, p: &[u8]) -> bool
     ensures { λ r. ⌜ r ≡ numbersAsked demand (now (p .entry)) ⌝ }
 {
     match demand {
@@ -33,7 +44,7 @@ pub fn rule_set_holds(demand: Demand, p: &[u8]) -> bool
     }
 }
 
-pub fn break_holds(demand: Demand) -> bool
+fn break_holds(demand: Demand) -> bool
     ensures { λ r. ⌜ r ≡ breakAsked demand ⌝ }
 {
     match demand {
@@ -43,7 +54,7 @@ pub fn break_holds(demand: Demand) -> bool
 }
 
 // What is asked in a loop's body.
-pub fn in_body(demand: Demand) -> Demand
+fn in_body(demand: Demand) -> Demand
     ensures { λ r. ⌜ r ≡ inBody demand ⌝ }
 {
     match demand {
@@ -53,7 +64,7 @@ pub fn in_body(demand: Demand) -> Demand
 }
 
 // What is asked in the guard of an if or a try.
-pub fn in_guard(demand: Demand) -> Demand
+fn in_guard(demand: Demand) -> Demand
     ensures { λ r. ⌜ r ≡ inGuard demand ⌝ }
 {
     match demand {
@@ -63,7 +74,7 @@ pub fn in_guard(demand: Demand) -> Demand
 }
 
 // What is asked of the first of a command's parts: all but a sequence treat it in their own way.
-pub fn of_first(demand: Demand, tag: u8) -> Demand
+fn of_first(demand: Demand, tag: u8) -> Demand
     ensures { λ r. ⌜ r ≡ ofFirst demand tag ⌝ }
 {
     if tag == Tag::LOOP {
@@ -76,7 +87,7 @@ pub fn of_first(demand: Demand, tag: u8) -> Demand
 }
 
 // A command, nested at most `depth` deep, from its tag and payload.
-pub fn command_holds(demand: Demand, tag: u8, p: &[u8], depth: usize) -> bool
+fn command_holds(demand: Demand, tag: u8, p: &[u8], depth: usize) -> bool
     ensures { λ r. ⌜ For (command depth tag (now (p .entry))) (λ c. r ≡ commandAsked demand c) ⌝ }
 {
     if depth == 0 {
@@ -92,7 +103,7 @@ pub fn command_holds(demand: Demand, tag: u8, p: &[u8], depth: usize) -> bool
 }
 
 // Commands one after the other: what is asked of the first, and of the others.
-pub fn commands_hold(first: Demand, others: Demand, p: &[u8], depth: usize) -> bool
+fn commands_hold(first: Demand, others: Demand, p: &[u8], depth: usize) -> bool
     ensures { λ r. ⌜ For (only anyTag (command depth) (limits .commands) (now (p .entry))) (λ l. r ≡ partsAsked first others l) ⌝ }
 {
     let mut at: usize = 0;
@@ -113,7 +124,7 @@ pub fn commands_hold(first: Demand, others: Demand, p: &[u8], depth: usize) -> b
 }
 
 // The main command of an image.
-pub fn main_holds(demand: Demand, image: &[u8]) -> bool
+fn main_holds(demand: Demand, image: &[u8]) -> bool
     ensures { λ r. ⌜ For (program (now (image .entry))) (λ p. r ≡ commandAsked demand (p .main)) ⌝ }
 {
     command_holds(
@@ -122,4 +133,18 @@ pub fn main_holds(demand: Demand, image: &[u8]) -> bool
         parts::main_part(image),
         Limit::DEPTH,
     )
+}
+
+// The rules that the main command names exist.
+pub fn rules_exist(image: &[u8]) -> bool
+    ensures { λ r. ⌜ For (program (now (image .entry))) (λ p. r ≡ rulesExist (p .main) (length (p .rules))) ⌝ }
+{
+    main_holds(Demand::Rules(parts::rule_count(image)), image)
+}
+
+// Placement of break.
+pub fn breaks_lie(image: &[u8]) -> bool
+    ensures { λ r. ⌜ For (program (now (image .entry))) (λ p. r ≡ placement p) ⌝ }
+{
+    main_holds(Demand::Breaks(false), image)
 }

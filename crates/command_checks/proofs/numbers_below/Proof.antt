@@ -1,4 +1,4 @@
--- `commands::numbers_below` meets its contract. The loop's invariant: what is asked of all bytes is what is asked from the place on.
+-- `numbers_below` meets its contract. The loop's invariant: what is asked of all bytes is what is asked from the place on.
 -- The measure is what is left of the bytes.
 use mathlib.Core.Path.{_∙_, _≡_, ap, refl, sym}
 use Prim.Native.Nat.{_-_, ℕ}
@@ -8,9 +8,9 @@ use borrow.Author.Tests.{le-ltb, lt-ltb}
 use lib.Dec.{ltb}
 use lib.ListN.{drop, length}
 use Rattle.meaning.specs.Basics.{every}
-use Rattle.references.proofs.Commanding.{bytes-done, bytes-next, bytes-stop}
-use Rattle.references.proofs.commands.numbers_below.Statement.{statement}
-use Rattle.references.proofs.commands.numbers_below.Tie as tie
+use Rattle.command_checks.proofs.Commanding.{bytes-done, bytes-next, bytes-stop}
+use Rattle.command_checks.proofs.numbers_below.Statement.{statement}
+use Rattle.command_checks.proofs.numbers_below.Tie as tie
 
 abbrev Inv-loop : tie.InvT-loop
 Inv-loop p n i₀ i = every (λ k. ltb k n) p ≡ every (λ k. ltb k n) (drop i p)

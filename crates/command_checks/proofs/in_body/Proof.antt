@@ -1,9 +1,9 @@
--- `commands::in_body` meets its contract.
+-- `in_body` meets its contract.
 use mathlib.Core.Path.{ap, sym}
 use borrow.Author.Needs.{needs}
-use Rattle.references.specs.Asked.{inBody}
-use Rattle.references.proofs.commands.in_body.Statement.{statement}
-use Rattle.references.proofs.commands.in_body.Tie as tie
+use Rattle.command_checks.specs.Asked.{inBody}
+use Rattle.command_checks.proofs.in_body.Statement.{statement}
+use Rattle.command_checks.proofs.in_body.Tie as tie
 
 enum-known-demand : tie.Need-enum-known-demand
 enum-known-demand c = search needs

@@ -1,8 +1,8 @@
--- `commands::rule_set_holds` meets its contract.
+-- `rule_set_holds` meets its contract.
 use borrow.Author.Needs.{needs}
-use Rattle.references.proofs.Commanding.{numbers-breaks, numbers-rules}
-use Rattle.references.proofs.commands.rule_set_holds.Statement.{statement}
-use Rattle.references.proofs.commands.rule_set_holds.Tie as tie
+use Rattle.command_checks.proofs.Commanding.{numbers-breaks, numbers-rules}
+use Rattle.command_checks.proofs.rule_set_holds.Statement.{statement}
+use Rattle.command_checks.proofs.rule_set_holds.Tie as tie
 
 enum-known-demand : tie.Need-enum-known-demand
 enum-known-demand c = search needs

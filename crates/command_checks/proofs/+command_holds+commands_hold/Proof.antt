@@ -1,4 +1,4 @@
--- The cycle of `commands::command_holds` and `commands::commands_hold` meets its contracts. The measure is twice the depth,
+-- The cycle of `command_holds` and `commands_hold` meets its contracts. The measure is twice the depth,
 -- and one more for commands in a row. The loop's invariant: what is asked of all is what is asked from the place on, and its
 -- measure is what is left of the bytes.
 use Prim.Native.Nat.{_*_, _+_, _-_, ℕ, _<_}
@@ -8,19 +8,19 @@ use borrow.Fn.PlainCycle.{Measures, is, falls, and}
 use lib.ListN.{length}
 use Rattle.fields.proofs.part.Reads as part-reads
 use Rattle.fields.proofs.read_field.Reads as read-field-reads
-use Rattle.references.proofs.Commanding.{Parting, break-at, no-depth, parting-cut, parting-done, parting-next, parting-start, parting-stop, parts-at, rule-set-at}
+use Rattle.command_checks.proofs.Commanding.{Parting, break-at, no-depth, parting-cut, parting-done, parting-next, parting-start, parting-stop, parts-at, rule-set-at}
 use Rattle.parts.proofs.Loops.{a-field, nearer, no-field, part-in}
-use Rattle.references.proofs.commands.+command_holds+commands_hold.{statement}
-use Rattle.references.proofs.commands.+command_holds+commands_hold.Lts-command_holds as command-holds-lts
-use Rattle.references.proofs.commands.+command_holds+commands_hold.Lts-commands_hold as commands-hold-lts
-use Rattle.references.proofs.commands.+command_holds+commands_hold.Tie.{close}
-use Rattle.references.proofs.commands.break_holds.Reads as break-holds-reads
-use Rattle.references.proofs.commands.command_holds.Kinds as command-holds-kinds
-use Rattle.references.proofs.commands.command_holds.Reads as command-holds
-use Rattle.references.proofs.commands.commands_hold.Kinds as commands-hold-kinds
-use Rattle.references.proofs.commands.commands_hold.Reads as commands-hold
-use Rattle.references.proofs.commands.of_first.Reads as of-first-reads
-use Rattle.references.proofs.commands.rule_set_holds.Reads as rule-set-holds-reads
+use Rattle.command_checks.proofs.+command_holds+commands_hold.{statement}
+use Rattle.command_checks.proofs.+command_holds+commands_hold.Lts-command_holds as command-holds-lts
+use Rattle.command_checks.proofs.+command_holds+commands_hold.Lts-commands_hold as commands-hold-lts
+use Rattle.command_checks.proofs.+command_holds+commands_hold.Tie.{close}
+use Rattle.command_checks.proofs.break_holds.Reads as break-holds-reads
+use Rattle.command_checks.proofs.command_holds.Kinds as command-holds-kinds
+use Rattle.command_checks.proofs.command_holds.Reads as command-holds
+use Rattle.command_checks.proofs.commands_hold.Kinds as commands-hold-kinds
+use Rattle.command_checks.proofs.commands_hold.Reads as commands-hold
+use Rattle.command_checks.proofs.of_first.Reads as of-first-reads
+use Rattle.command_checks.proofs.rule_set_holds.Reads as rule-set-holds-reads
 
 abbrev μ-command-holds : Measures 1 command-holds-kinds.ps ℕ
 μ-command-holds κs a = 2 * a .1 .1 .1 .0

@@ -1,8 +1,8 @@
--- `rules::part_holds` meets its contract.
+-- `part_holds` meets its contract.
 use borrow.Author.Needs.{needs}
 use Rattle.references.proofs.Ties.{part-main, part-rule}
-use Rattle.references.proofs.rules.part_holds.Statement.{statement}
-use Rattle.references.proofs.rules.part_holds.Tie as tie
+use Rattle.references.proofs.part_holds.Statement.{statement}
+use Rattle.references.proofs.part_holds.Tie as tie
 
 rule-holds-requires : tie.Need-rule-holds-requires
 rule-holds-requires c κs = search needs

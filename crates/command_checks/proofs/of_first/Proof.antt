@@ -1,8 +1,8 @@
--- `commands::of_first` meets its contract.
+-- `of_first` meets its contract.
 use borrow.Author.Needs.{needs}
-use Rattle.references.proofs.Commanding.{first-body, first-guard, first-same}
-use Rattle.references.proofs.commands.of_first.Statement.{statement}
-use Rattle.references.proofs.commands.of_first.Tie as tie
+use Rattle.command_checks.proofs.Commanding.{first-body, first-guard, first-same}
+use Rattle.command_checks.proofs.of_first.Statement.{statement}
+use Rattle.command_checks.proofs.of_first.Tie as tie
 
 in-body-requires : tie.Need-in-body-requires
 in-body-requires c κs = search needs
