@@ -5,12 +5,12 @@ use mathlib.Core.Option.{some}
 use mathlib.Core.List.{List, [], _∷_, _++_}
 use Prim.Native.Nat.{ℕ, _+_, _-_, _<_, _≤_}
 use native.Mathlib.Omega.{arith}
-use borrow.Author.Tests.{lt-ltb, le-ltb}
-use lib.ListN.{length, getD}
+use borrow.Author.Tests.{lt-ltb, le-ltb, ltb-false, le-leb, lt-leb}
+use lib.ListN.{length, getD, List·getD-eq-default}
 use lib.Dec.{eqb, leb, ltb}
 use Rattle.meaning.specs.Basics.{both, every, absent}
 use Rattle.meaning.specs.Tags.{nodeTag, intType, anyMark}
-use Rattle.meaning.specs.Image.{label, element, anyTag, limits}
+use Rattle.meaning.specs.Image.{RuleGraph, label, element, anyTag, limits}
 use Rattle.meaning.specs.References.{operandNames, elementOperands, elementNames, conditionOperands, conditionNodes, isPlain}
 use Rattle.meaning.specs.Laws.Tests.{every-append, both-yes, both-no, both-last}
 use Rattle.meaning.specs.declared.Operand.{Operand}
@@ -19,13 +19,12 @@ use Rattle.meaning.specs.declared.Element.{Element}
 use Rattle.meaning.specs.declared.Element.the-variants.{Constant, Variable, Sum, Difference}
 use Rattle.meaning.specs.declared.Condition.{Condition}
 use Rattle.meaning.specs.declared.Condition.the-variants.{Edge, InDegree, OutDegree, Equal, Less}
+use Rattle.meaning.specs.declared.Test.{Test}
 use Rattle.references.specs.declared.Ask.{Ask}
-use Rattle.references.specs.declared.Ask.the-variants.{Named, Int, Lacks, Plain}
-use Rattle.references.specs.declared.Check.{Check}
-use Rattle.references.specs.declared.Check.the-variants.{Elements, Lists, Nodes, Marks}
+use Rattle.references.specs.declared.Ask.the-variants.{Left, Right, Lacks}
 use Rattle.parts.specs.Runs.{For, Run, only-run}
 use Rattle.parts.specs.Rows.{Item, node, edge, graphItem, item-is, edge-is, itemLabel}
-use Rattle.references.specs.Asked.{intOperand, operandAsked, elementAsked, listsIn, endsBelow, edgeMarked, itemAsked, conditionAsked}
+use Rattle.references.specs.Asked.{intOperand, exist, operandAsked, elementAsked, listsIn, endsBelow, edgeMarked, itemFits, graphAsked, conditionFits, testAsked}
 
 pub both-below : (a b n : ℕ) → a < n → ltb b n ≡ both (ltb a n) (ltb b n)
 both-below a b n h = sym (both-yes _ _ (lt-ltb a n h))
@@ -49,58 +48,71 @@ absent-append u (a ∷ l) m = at (not (eqb a u)) (absent-append u l m)
     at true e = e
     at false e = refl
 
+pub both-false : (a : Bool) → both a false ≡ false
+unfolding both
+both-false true = refl
+both-false false = refl
+
+-- two questions of each of two
+pub both-swap : (a b c d : Bool) → both (both a b) (both c d) ≡ both (both a c) (both b d)
+unfolding both
+both-swap true b true d = refl
+both-swap true true false d = refl
+both-swap true false false d = refl
+both-swap false b c d = refl
+
 -- Variables and constants.
+
+exist-one : (ts : List ℕ) (v : ℕ) → ltb v (length ts) ≡ exist ts (v ∷ [])
+unfolding every
+exist-one ts v = both-last _
+
+-- a variable that is int exists
+int-exists : (ts : List ℕ) (v : ℕ) → eqb (getD ts v 0) intType ≡ both (ltb v (length ts)) (eqb (getD ts v 0) intType)
+int-exists ts v = at (ltb v (length ts)) refl
+  where
+    at : (b : Bool) → ltb v (length ts) ≡ b → eqb (getD ts v 0) intType ≡ both (ltb v (length ts)) (eqb (getD ts v 0) intType)
+    at true e = sym (both-yes _ _ e)
+    at false e = ap (λ (t : ℕ). eqb t intType) (List·getD-eq-default ts 0 {n = v} (ltb-false v (length ts) e)) ∙ sym (both-no _ _ e)
 
 module _ (ask : Ask) (ts : List ℕ) where
   module _ (v : ℕ) where
-    pub variable-named : ask ≡ Named → ltb v (length ts) ≡ elementAsked ask ts (Variable v)
-    unfolding elementAsked elementNames every
-    variable-named e = rw e (both-last _)
+    pub variable-left : (n : ℕ) → ask ≡ Left n → ltb v (length ts) ≡ elementAsked ask ts (Variable v)
+    unfolding elementAsked elementNames isPlain
+    variable-left n e = rw e (exist-one ts v ∙ both-last _)
 
-    pub variable-int : ask ≡ Int → true ≡ elementAsked ask ts (Variable v)
-    unfolding elementAsked elementOperands every
-    variable-int e = rw e
+    pub variable-right : (n : ℕ) → ask ≡ Right n → ltb v (length ts) ≡ elementAsked ask ts (Variable v)
+    unfolding elementAsked elementNames elementOperands every
+    variable-right n e = rw e (exist-one ts v ∙ both-last _)
 
     pub variable-lacks : (u : ℕ) → ask ≡ Lacks u → not (eqb v u) ≡ elementAsked ask ts (Variable v)
     unfolding elementAsked elementNames absent
     variable-lacks u e = rw e (both-last _)
 
-    pub variable-plain : ask ≡ Plain → true ≡ elementAsked ask ts (Variable v)
-    unfolding elementAsked isPlain
-    variable-plain e = rw e
+    pub operand-left : (n : ℕ) → ask ≡ Left n → false ≡ operandAsked ask ts (variableOperand v)
+    unfolding operandAsked
+    operand-left n e = rw e
 
-    pub operand-named : ask ≡ Named → ltb v (length ts) ≡ operandAsked ask ts (variableOperand v)
-    unfolding operandAsked operandNames every
-    operand-named e = rw e (both-last _)
-
-    pub operand-int : (t : ℕ) → t ≡ getD ts v 0 → ask ≡ Int → eqb t intType ≡ operandAsked ask ts (variableOperand v)
-    unfolding operandAsked intOperand
-    operand-int t h e = rw (e, h)
+    pub operand-right : (n t : ℕ) → t ≡ getD ts v 0 → ask ≡ Right n → eqb t intType ≡ operandAsked ask ts (variableOperand v)
+    unfolding operandAsked operandNames intOperand
+    operand-right n t h e = rw (e, h) (int-exists ts v ∙ ap (λ (b : Bool). both b (eqb (getD ts v 0) intType)) (exist-one ts v))
 
     pub operand-lacks : (u : ℕ) → ask ≡ Lacks u → not (eqb v u) ≡ operandAsked ask ts (variableOperand v)
     unfolding operandAsked operandNames absent
     operand-lacks u e = rw e (both-last _)
 
-    pub operand-plain : ask ≡ Plain → false ≡ operandAsked ask ts (variableOperand v)
-    unfolding operandAsked
-    operand-plain e = rw e
-
   module _ (c : ℕ) where
-    pub constant-named : ask ≡ Named → true ≡ operandAsked ask ts (constantOperand c)
-    unfolding operandAsked operandNames every
-    constant-named e = rw e
+    pub constant-left : (n : ℕ) → ask ≡ Left n → false ≡ operandAsked ask ts (constantOperand c)
+    unfolding operandAsked
+    constant-left n e = rw e
 
-    pub constant-int : ask ≡ Int → true ≡ operandAsked ask ts (constantOperand c)
-    unfolding operandAsked intOperand
-    constant-int e = rw e
+    pub constant-right : (n : ℕ) → ask ≡ Right n → true ≡ operandAsked ask ts (constantOperand c)
+    unfolding operandAsked operandNames intOperand every both
+    constant-right n e = rw e
 
     pub constant-lacks : (u : ℕ) → ask ≡ Lacks u → true ≡ operandAsked ask ts (constantOperand c)
     unfolding operandAsked operandNames absent
     constant-lacks u e = rw e
-
-    pub constant-plain : ask ≡ Plain → false ≡ operandAsked ask ts (constantOperand c)
-    unfolding operandAsked
-    constant-plain e = rw e
 
   pub operand-of : (r : Bool) (o p : Operand) → o ≡ p → r ≡ operandAsked ask ts p → r ≡ operandAsked ask ts o
   operand-of r o p e q = rw e q
@@ -108,25 +120,19 @@ module _ (ask : Ask) (ts : List ℕ) where
 -- Elements.
 
 constant-holds : (ask : Ask) (ts : List ℕ) (c : ℕ) → true ≡ elementAsked ask ts (Constant c)
-unfolding elementAsked elementNames elementOperands every absent isPlain
-constant-holds Named ts c = refl
-constant-holds Int ts c = refl
+unfolding elementAsked elementNames elementOperands every absent isPlain both
+constant-holds (Left n) ts c = refl
+constant-holds (Right n) ts c = refl
 constant-holds (Lacks u) ts c = refl
-constant-holds Plain ts c = refl
 
-sum-holds : (ask : Ask) (ts : List ℕ) (a b : Operand) → both (operandAsked ask ts a) (operandAsked ask ts b) ≡ elementAsked ask ts (Sum a b)
-unfolding elementAsked operandAsked elementNames elementOperands every isPlain both
-sum-holds Named ts a b = sym (every-append _ (operandNames a) (operandNames b))
-sum-holds Int ts a b = ap (both (intOperand ts a)) (both-last _)
-sum-holds (Lacks u) ts a b = sym (absent-append u (operandNames a) (operandNames b))
-sum-holds Plain ts a b = refl
-
-difference-holds : (ask : Ask) (ts : List ℕ) (a b : Operand) → both (operandAsked ask ts a) (operandAsked ask ts b) ≡ elementAsked ask ts (Difference a b)
-unfolding elementAsked operandAsked elementNames elementOperands every isPlain both
-difference-holds Named ts a b = sym (every-append _ (operandNames a) (operandNames b))
-difference-holds Int ts a b = ap (both (intOperand ts a)) (both-last _)
-difference-holds (Lacks u) ts a b = sym (absent-append u (operandNames a) (operandNames b))
-difference-holds Plain ts a b = refl
+-- both operands of an element that has two
+two-hold : (ask : Ask) (ts : List ℕ) (a b : Operand) (e : Element) → elementNames e ≡ operandNames a ++ operandNames b → elementOperands e ≡ a ∷ b ∷ [] → isPlain e ≡ false → both (operandAsked ask ts a) (operandAsked ask ts b) ≡ elementAsked ask ts e
+unfolding elementAsked operandAsked every
+two-hold (Left n) ts a b e p q z = both-no _ _ refl ∙ sym (ap (both (exist ts (elementNames e))) z ∙ both-false _)
+two-hold (Right n) ts a b e p q z =
+    both-swap (exist ts (operandNames a)) (intOperand ts a) (exist ts (operandNames b)) (intOperand ts b)
+    ∙ rw (p, q) (rw (every-append (λ v. ltb v (length ts)) (operandNames a) (operandNames b), ← (both-last (intOperand ts b))))
+two-hold (Lacks u) ts a b e p q z = rw p (sym (absent-append u (operandNames a) (operandNames b)))
 
 module _ (ask : Ask) (ts : List ℕ) (e : Element) where
   pub element-constant : (c : ℕ) → e ≡ Constant c → true ≡ elementAsked ask ts e
@@ -137,67 +143,76 @@ module _ (ask : Ask) (ts : List ℕ) (e : Element) where
 
   module _ (r : Bool) (a b : Operand) (q : r ≡ both (operandAsked ask ts a) (operandAsked ask ts b)) where
     pub element-sum : e ≡ Sum a b → r ≡ elementAsked ask ts e
-    element-sum h = rw h (q ∙ sum-holds ask ts a b)
+    unfolding elementNames elementOperands isPlain
+    element-sum h = rw h (q ∙ two-hold ask ts a b (Sum a b) refl refl refl)
 
     pub element-difference : e ≡ Difference a b → r ≡ elementAsked ask ts e
-    element-difference h = rw h (q ∙ difference-holds ask ts a b)
+    unfolding elementNames elementOperands isPlain
+    element-difference h = rw h (q ∙ two-hold ask ts a b (Difference a b) refl refl refl)
 
 -- Conditions.
 
 module _ (ask : Ask) (ts : List ℕ) (c : Condition) where
-  pub operands-edge : (a b : ℕ) → c ≡ Edge a b → true ≡ conditionAsked (Elements ask) ts c
-  unfolding conditionAsked conditionOperands every
+  abbrev operands : Bool
+  operands = every (operandAsked ask ts) (conditionOperands c)
+
+  pub operands-edge : (a b : ℕ) → c ≡ Edge a b → true ≡ operands
+  unfolding conditionOperands every
   operands-edge a b h = rw h
 
-  pub operands-in : (a b : ℕ) → c ≡ InDegree a b → true ≡ conditionAsked (Elements ask) ts c
-  unfolding conditionAsked conditionOperands every
+  pub operands-in : (a b : ℕ) → c ≡ InDegree a b → true ≡ operands
+  unfolding conditionOperands every
   operands-in a b h = rw h
 
-  pub operands-out : (a b : ℕ) → c ≡ OutDegree a b → true ≡ conditionAsked (Elements ask) ts c
-  unfolding conditionAsked conditionOperands every
+  pub operands-out : (a b : ℕ) → c ≡ OutDegree a b → true ≡ operands
+  unfolding conditionOperands every
   operands-out a b h = rw h
 
   module _ (r : Bool) (a b : Operand) (q : r ≡ both (operandAsked ask ts a) (operandAsked ask ts b)) where
-    pub operands-equal : c ≡ Equal a b → r ≡ conditionAsked (Elements ask) ts c
-    unfolding conditionAsked conditionOperands every
+    pub operands-equal : c ≡ Equal a b → r ≡ operands
+    unfolding conditionOperands every
     operands-equal h = rw h (q ∙ ap (both (operandAsked ask ts a)) (both-last _))
 
-    pub operands-less : c ≡ Less a b → r ≡ conditionAsked (Elements ask) ts c
-    unfolding conditionAsked conditionOperands every
+    pub operands-less : c ≡ Less a b → r ≡ operands
+    unfolding conditionOperands every
     operands-less h = rw h (q ∙ ap (both (operandAsked ask ts a)) (both-last _))
 
-module _ (n : ℕ) (c : Condition) (ts : List ℕ) where
-  pub nodes-edge : (r : Bool) (a b : ℕ) → r ≡ both (ltb a n) (ltb b n) → c ≡ Edge a b → r ≡ conditionAsked (Nodes n) ts c
-  unfolding conditionAsked conditionNodes every
+module _ (n : ℕ) (c : Condition) where
+  abbrev nodes : Bool
+  nodes = every (λ a. ltb a n) (conditionNodes c)
+
+  pub nodes-edge : (r : Bool) (a b : ℕ) → r ≡ both (ltb a n) (ltb b n) → c ≡ Edge a b → r ≡ nodes
+  unfolding conditionNodes every
   nodes-edge r a b q h = rw h (q ∙ ap (both (ltb a n)) (both-last _))
 
-  pub nodes-in : (a b : ℕ) → c ≡ InDegree a b → ltb a n ≡ conditionAsked (Nodes n) ts c
-  unfolding conditionAsked conditionNodes every
+  pub nodes-in : (a b : ℕ) → c ≡ InDegree a b → ltb a n ≡ nodes
+  unfolding conditionNodes every
   nodes-in a b h = rw h (both-last _)
 
-  pub nodes-out : (a b : ℕ) → c ≡ OutDegree a b → ltb a n ≡ conditionAsked (Nodes n) ts c
-  unfolding conditionAsked conditionNodes every
+  pub nodes-out : (a b : ℕ) → c ≡ OutDegree a b → ltb a n ≡ nodes
+  unfolding conditionNodes every
   nodes-out a b h = rw h (both-last _)
 
-  pub nodes-equal : (a b : Operand) → c ≡ Equal a b → true ≡ conditionAsked (Nodes n) ts c
-  unfolding conditionAsked conditionNodes every
+  pub nodes-equal : (a b : Operand) → c ≡ Equal a b → true ≡ nodes
+  unfolding conditionNodes every
   nodes-equal a b h = rw h
 
-  pub nodes-less : (a b : Operand) → c ≡ Less a b → true ≡ conditionAsked (Nodes n) ts c
-  unfolding conditionAsked conditionNodes every
+  pub nodes-less : (a b : Operand) → c ≡ Less a b → true ≡ nodes
+  unfolding conditionNodes every
   nodes-less a b h = rw h
 
-module _ (check : Check) (ts : List ℕ) (c : Condition) where
-  pub condition-of : (r : Bool) (k : Check) → check ≡ k → r ≡ conditionAsked k ts c → r ≡ conditionAsked check ts c
-  condition-of r k e q = rw e q
+module _ (ask : Ask) (c : Condition) where
+  pub fits-left : (r : Bool) (n : ℕ) → ask ≡ Left n → r ≡ every (λ a. ltb a n) (conditionNodes c) → r ≡ conditionFits ask c
+  unfolding conditionFits
+  fits-left r n e q = rw e q
 
-  pub condition-lists : check ≡ Lists → true ≡ conditionAsked check ts c
-  unfolding conditionAsked
-  condition-lists e = rw e
+  pub fits-right : (r : Bool) (n : ℕ) → ask ≡ Right n → r ≡ every (λ a. ltb a n) (conditionNodes c) → r ≡ conditionFits ask c
+  unfolding conditionFits
+  fits-right r n e q = rw e q
 
-  pub condition-marks : check ≡ Marks → true ≡ conditionAsked check ts c
-  unfolding conditionAsked
-  condition-marks e = rw e
+  pub fits-lacks : (u : ℕ) → ask ≡ Lacks u → true ≡ conditionFits ask c
+  unfolding conditionFits
+  fits-lacks u e = rw e
 
 pub label-run : (bs : List ℕ) (l : List Element) → label bs ≡ some l → Run element l [] bs
 unfolding label
@@ -228,19 +243,30 @@ module _ (tag : ℕ) (bs : List ℕ) where
   marks-edge m h q (node x) e = absurd (h (item-is tag bs (node x) e .0))
   marks-edge m h q (edge x) e = rw (q ∙ edge-is bs x (item-is tag bs (edge x) e .1) .mark)
 
-module _ (check : Check) (ts : List ℕ) (i : Item) where
-  pub item-elements : (r : Bool) (ask : Ask) → check ≡ Elements ask → r ≡ every (elementAsked ask ts) (itemLabel i) → r ≡ itemAsked check ts i
-  unfolding itemAsked
-  item-elements r ask e q = rw e q
+-- at most one list, and more
+pub few-lists : {n m : ℕ} {r s : Bool} → n ≡ m → n ≤ 1 → r ≡ s → r ≡ both (leb m 1) s
+few-lists {n} {m} q h p = p ∙ sym (both-yes _ _ (ap (λ (k : ℕ). leb k 1) (sym q) ∙ le-leb n 1 h))
 
-  pub item-lists : (n : ℕ) → check ≡ Lists → n ≡ listsIn ts (itemLabel i) → leb n 1 ≡ itemAsked check ts i
-  unfolding itemAsked
-  item-lists n e q = rw (e, q)
+pub more-lists : {n m : ℕ} (s : Bool) → n ≡ m → 1 < n → false ≡ both (leb m 1) s
+more-lists {n} {m} s q h = sym (both-no _ s (ap (λ (k : ℕ). leb k 1) (sym q) ∙ lt-leb n 1 h))
 
-  pub item-nodes : (r : Bool) (n : ℕ) → check ≡ Nodes n → r ≡ endsBelow n i → r ≡ itemAsked check ts i
-  unfolding itemAsked
-  item-nodes r n e q = rw e q
+module _ (ask : Ask) (ts : List ℕ) (i : Item) where
+  pub item-left : (r : Bool) (n : ℕ) → ask ≡ Left n → r ≡ both (leb (listsIn ts (itemLabel i)) 1) (endsBelow n i) → r ≡ itemFits ask ts i
+  unfolding itemFits
+  item-left r n e q = rw e q
 
-  pub item-marks : (r : Bool) → check ≡ Marks → r ≡ edgeMarked i → r ≡ itemAsked check ts i
-  unfolding itemAsked
-  item-marks r e q = rw e q
+  pub item-right : (r : Bool) (n : ℕ) → ask ≡ Right n → r ≡ both (edgeMarked i) (endsBelow n i) → r ≡ itemFits ask ts i
+  unfolding itemFits
+  item-right r n e q = rw e q
+
+  pub item-lacks : (u : ℕ) → ask ≡ Lacks u → true ≡ itemFits ask ts i
+  unfolding itemFits
+  item-lacks u e = rw e
+
+-- Graphs and tests, at what is known of the numbers and the types.
+
+pub graph-at : (f : ℕ → Ask) {r : Bool} (n m : ℕ) (ts us : List ℕ) (g : RuleGraph) → r ≡ graphAsked (f n) ts g → n ≡ m → ts ≡ us → r ≡ graphAsked (f m) us g
+graph-at f n m ts us g q h k = q ∙ rw (h, k)
+
+pub tests-at : (f : ℕ → Ask) {r : Bool} (n m : ℕ) (ts us : List ℕ) (l : List Test) → r ≡ every (testAsked (f n) ts) l → n ≡ m → ts ≡ us → r ≡ every (testAsked (f m) us) l
+tests-at f n m ts us l q h k = q ∙ rw (h, k)

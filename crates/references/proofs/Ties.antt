@@ -11,19 +11,18 @@ use lib.Dec.{eqb, leb, ltb}
 use Rattle.meaning.specs.Basics.{choose, both, either, clauses, all, every, absent, concat}
 use Rattle.meaning.specs.Image.{RuleGraph, Rule, Program, rule}
 use Rattle.meaning.specs.Tags.{anyMark, ruleTag}
-use Rattle.meaning.specs.References.{operandNames, elementOperands, elementNames, conditionOperands, labels, elements, names, testOperands, testNames, takesList, lists, operandInt, variablesExist, endsExist, testNodesExist, interfaceFits, leftPlain, leftSimple, operandsInt, variablesOnLeft, anyKept, anyPlaced, ruleHolds}
-use Rattle.meaning.specs.Laws.Tests.{both-true, both-yes, both-no, both-last, either-left, either-right, every-append, every-map, every-true, absent-true, absent-false, all-of, all-no}
+use Rattle.meaning.specs.References.{operandNames, elementOperands, elementNames, conditionOperands, isPlain, labels, elements, names, testOperands, testNames, takesList, lists, operandInt, variablesExist, endsExist, testNodesExist, interfaceFits, leftPlain, leftSimple, operandsInt, variablesOnLeft, anyKept, anyPlaced, ruleHolds}
+use Rattle.meaning.specs.Laws.Tests.{both-of, both-true, both-yes, both-no, both-last, either-left, either-right, every-append, every-map, every-true, absent-true, absent-false, all-of, all-no}
 use Rattle.meaning.specs.declared.Operand.{Operand}
 use Rattle.meaning.specs.declared.Operand.the-variants.{Constant as constantOperand, Variable as variableOperand}
 use Rattle.meaning.specs.declared.Element.{Element}
 use Rattle.meaning.specs.declared.Element.the-variants.{Constant, Variable, Sum, Difference}
 use Rattle.references.specs.declared.Ask.{Ask}
-use Rattle.references.specs.declared.Ask.the-variants.{Named, Int, Lacks, Plain}
-use Rattle.references.specs.declared.Check.the-variants.{Elements, Lists, Nodes, Marks}
+use Rattle.references.specs.declared.Ask.the-variants.{Left, Right, Lacks}
 use Rattle.parts.specs.Runs.{For}
 use Rattle.parts.specs.Rows.{Item, node, edge, items, markAt, ruleOf, mainOf, imagePart, imageParts, part-is, no-command, itemLabel}
-use Rattle.references.specs.Asked.{intOperand, operandAsked, elementAsked, listsIn, endsBelow, edgeMarked, itemAsked, graphAsked, conditionAsked, testAsked, rightAsked, keptOnLeft, nodesAsked, labelsAsked, partHolds}
-use Rattle.references.proofs.Asks.{absent-append}
+use Rattle.references.specs.Asked.{intOperand, exist, operandAsked, elementAsked, listsIn, endsBelow, edgeMarked, itemFits, itemAsked, graphAsked, conditionFits, conditionAsked, testAsked, partsAsked, sidesAsked, keptOnLeft, partHolds}
+use Rattle.references.proofs.Asks.{absent-append, both-swap}
 
 -- Tests over lists.
 
@@ -65,6 +64,24 @@ unfolding both
 both-assoc true b c = refl
 both-assoc false b c = refl
 
+-- two questions of each
+every-both : {A : Type 0} (f g : A → Bool) (l : List A) → every (λ a. both (f a) (g a)) l ≡ both (every f l) (every g l)
+unfolding every both
+every-both f g [] = refl
+every-both f g (a ∷ l) = rw (every-both f g l) (both-swap (f a) (g a) (every f l) (every g l))
+
+-- what is asked of each for a weaker question
+every-weaker : {A : Type 0} (f g : A → Bool) → ((a : A) → f a ≡ true → g a ≡ true) → (l : List A) → every f l ≡ true → every g l ≡ true
+unfolding every both
+every-weaker f g h [] e = refl
+every-weaker f g h (a ∷ l) e = let t = both-true (f a) (every f l) e in both-of (g a) (every g l) (h a (t .0)) (every-weaker f g h l (t .1))
+
+-- two tests that are true together
+pub alike : (a b : Bool) → (a ≡ true → b ≡ true) → (b ≡ true → a ≡ true) → a ≡ b
+alike true b h k = sym (h refl)
+alike false true h k = k refl
+alike false false h k = refl
+
 -- three lists, one behind the other
 three : {A : Type 0} (f : A → Bool) (l m n : List A) → every f (l ++ m ++ n) ≡ both (every f l) (both (every f m) (every f n))
 three f l m n = every-append f (l ++ m) n ∙ ap (λ (b : Bool). both b (every f n)) (every-append f l m) ∙ both-assoc (every f l) (every f m) (every f n)
@@ -81,65 +98,43 @@ of-labels f g =
     every-items (λ i. f (itemLabel i)) g
     ∙ sym (every-append f (map (λ n. n .label) (g .nodes)) (map (λ e. e .label) (g .edges)) ∙ rw (every-map f (λ n. n .label) (g .nodes), every-map f (λ e. e .label) (g .edges)))
 
-of-elements : (ask : Ask) (ts : List ℕ) (g : RuleGraph) → graphAsked (Elements ask) ts g ≡ every (elementAsked ask ts) (elements g)
+-- of every item, and of every element
+split-graph : (ask : Ask) (ts : List ℕ) (g : RuleGraph) → graphAsked ask ts g ≡ both (every (itemFits ask ts) (items g)) (every (elementAsked ask ts) (elements g))
 unfolding graphAsked itemAsked
-of-elements ask ts g = of-labels (every (elementAsked ask ts)) g ∙ sym (every-concat (elementAsked ask ts) (labels g))
+split-graph ask ts g =
+    every-both (itemFits ask ts) (λ i. every (elementAsked ask ts) (itemLabel i)) (items g)
+    ∙ ap (both (every (itemFits ask ts) (items g))) (of-labels (every (elementAsked ask ts)) g ∙ sym (every-concat (elementAsked ask ts) (labels g)))
 
--- a test over what the elements of a graph give
-gathered : {B : Type 0} (ask : Ask) (ts : List ℕ) (f : B → Bool) (h : Element → List B) → ((e : Element) → elementAsked ask ts e ≡ every f (h e)) → (g : RuleGraph) → graphAsked (Elements ask) ts g ≡ every f (concat (map h (elements g)))
-gathered ask ts f h q g = of-elements ask ts g ∙ every-same _ _ q (elements g) ∙ sym (gather f h (elements g))
-
--- a test over the operands of the tests
-tested : {B : Type 0} (ask : Ask) (x : Rule) (f : B → Bool) (h : Operand → List B) → ((o : Operand) → operandAsked ask (x .variables) o ≡ every f (h o)) → every (testAsked (Elements ask) (x .variables)) (x .tests) ≡ every f (concat (map h (testOperands x)))
+-- of every test, and of every operand of the tests
+split-tests : (ask : Ask) (x : Rule) → every (testAsked ask (x .variables)) (x .tests) ≡ both (every (λ t. conditionFits ask (t .condition)) (x .tests)) (every (operandAsked ask (x .variables)) (testOperands x))
 unfolding testAsked conditionAsked
-tested ask x f h q =
-    sym (gather (operandAsked ask (x .variables)) (λ t. conditionOperands (t .condition)) (x .tests))
-    ∙ every-same _ _ q (testOperands x)
-    ∙ sym (gather f h (testOperands x))
+split-tests ask x =
+    every-both (λ t. conditionFits ask (t .condition)) (λ t. every (operandAsked ask (x .variables)) (conditionOperands (t .condition))) (x .tests)
+    ∙ ap (both (every (λ t. conditionFits ask (t .condition)) (x .tests))) (sym (gather (operandAsked ask (x .variables)) (λ t. conditionOperands (t .condition)) (x .tests)))
 
--- The requirements.
+ends-graph : (g : RuleGraph) → every (endsBelow (length (g .nodes))) (items g) ≡ endsExist g
+unfolding endsBelow endsExist
+ends-graph g = every-items (endsBelow (length (g .nodes))) g ∙ both-yes _ _ (every-yes (g .nodes))
+
+marks-graph : (g : RuleGraph) → every edgeMarked (items g) ≡ every (λ e. not (eqb (e .mark) anyMark)) (g .edges)
+unfolding edgeMarked
+marks-graph g = every-items edgeMarked g ∙ both-yes _ _ (every-yes (g .nodes))
+
+-- What is asked of the sides and the tests, by the requirements.
 
 module _ (x : Rule) where
-  named-graph : (g : RuleGraph) → graphAsked (Elements Named) (x .variables) g ≡ every (λ v. ltb v (length (x .variables))) (names g)
-  unfolding elementAsked
-  named-graph g = gathered Named (x .variables) (λ v. ltb v (length (x .variables))) elementNames (λ e. refl) g
+  abbrev ts : List ℕ
+  ts = x .variables
 
-  named-tests : every (testAsked (Elements Named) (x .variables)) (x .tests) ≡ every (λ v. ltb v (length (x .variables))) (testNames x)
-  unfolding operandAsked
-  named-tests = tested Named x (λ v. ltb v (length (x .variables))) operandNames (λ o. refl)
+  abbrev intsIn : RuleGraph → Bool
+  intsIn g = every (operandInt x) (concat (map elementOperands (elements g)))
 
-  pub sides-named : both (graphAsked (Elements Named) (x .variables) (x .left)) (rightAsked (Elements Named) x) ≡ variablesExist x
-  unfolding variablesExist rightAsked
-  sides-named =
-      rw (named-graph (x .left), named-graph (x .right), named-tests)
-      (sym (three (λ v. ltb v (length (x .variables))) (names (x .left)) (names (x .right)) (testNames x)))
-
-  int-same : (o : Operand) → intOperand (x .variables) o ≡ operandInt x o
+  int-same : (o : Operand) → intOperand ts o ≡ operandInt x o
   unfolding intOperand operandInt
   int-same (constantOperand c) = refl
   int-same (variableOperand v) = refl
 
-  int-graph : (g : RuleGraph) → graphAsked (Elements Int) (x .variables) g ≡ every (operandInt x) (concat (map elementOperands (elements g)))
-  unfolding elementAsked
-  int-graph g = gathered Int (x .variables) (operandInt x) elementOperands (λ e. every-same _ _ int-same (elementOperands e)) g
-
-  int-tests : every (testAsked (Elements Int) (x .variables)) (x .tests) ≡ every (operandInt x) (testOperands x)
-  unfolding testAsked conditionAsked operandAsked
-  int-tests =
-      sym (gather (operandAsked Int (x .variables)) (λ t. conditionOperands (t .condition)) (x .tests))
-      ∙ every-same _ _ int-same (testOperands x)
-
-  pub sides-int : both (graphAsked (Elements Int) (x .variables) (x .left)) (rightAsked (Elements Int) x) ≡ operandsInt x
-  unfolding operandsInt rightAsked
-  sides-int =
-      rw (int-graph (x .left), int-graph (x .right), int-tests)
-      (sym (three (operandInt x) (concat (map elementOperands (elements (x .left)))) (concat (map elementOperands (elements (x .right)))) (testOperands x)))
-
-  pub plain-left : graphAsked (Elements Plain) (x .variables) (x .left) ≡ leftPlain x
-  unfolding leftPlain elementAsked
-  plain-left = of-elements Plain (x .variables) (x .left)
-
-  lists-same : (l : List Element) → listsIn (x .variables) l ≡ lists x l
+  lists-same : (l : List Element) → listsIn ts l ≡ lists x l
   unfolding lists takesList choose
   lists-same [] = refl
   lists-same (Constant c ∷ l) = lists-same l
@@ -147,15 +142,173 @@ module _ (x : Rule) where
   lists-same (Sum a b ∷ l) = lists-same l
   lists-same (Difference a b ∷ l) = lists-same l
 
-  pub simple-left : graphAsked Lists (x .variables) (x .left) ≡ leftSimple x
-  unfolding graphAsked itemAsked leftSimple
+  simple-left : every (λ i. leb (listsIn ts (itemLabel i)) 1) (items (x .left)) ≡ leftSimple x
+  unfolding leftSimple
   simple-left =
-      of-labels (λ l. leb (listsIn (x .variables) l) 1) (x .left)
+      of-labels (λ l. leb (listsIn ts l) 1) (x .left)
       ∙ every-same _ _ (λ l. ap (λ (n : ℕ). leb n 1) (lists-same l)) (labels (x .left))
 
-  pub nodes-tests : (l : List ℕ) → every (testAsked (Nodes (length (x .left .nodes))) l) (x .tests) ≡ testNodesExist x
-  unfolding testAsked conditionAsked testNodesExist
-  nodes-tests l = refl
+  left-is : graphAsked (Left (length (x .left .nodes))) ts (x .left) ≡ both (both (leftSimple x) (endsExist (x .left))) (both (exist ts (names (x .left))) (leftPlain x))
+  unfolding itemFits elementAsked leftPlain
+  left-is =
+      split-graph (Left (length (x .left .nodes))) ts (x .left)
+      ∙ rw (every-both (λ i. leb (listsIn ts (itemLabel i)) 1) (endsBelow (length (x .left .nodes))) (items (x .left)), simple-left, ends-graph (x .left), every-both (λ e. exist ts (elementNames e)) isPlain (elements (x .left)), ← (gather (λ v. ltb v (length ts)) elementNames (elements (x .left))))
+
+  right-is : graphAsked (Right (length (x .right .nodes))) ts (x .right) ≡ both (both (every (λ e. not (eqb (e .mark) anyMark)) (x .right .edges)) (endsExist (x .right))) (both (exist ts (names (x .right))) (intsIn (x .right)))
+  unfolding itemFits elementAsked
+  right-is =
+      split-graph (Right (length (x .right .nodes))) ts (x .right)
+      ∙ rw (every-both edgeMarked (endsBelow (length (x .right .nodes))) (items (x .right)), marks-graph (x .right), ends-graph (x .right), every-both (λ e. exist ts (elementNames e)) (λ e. every (intOperand ts) (elementOperands e)) (elements (x .right)), ← (gather (λ v. ltb v (length ts)) elementNames (elements (x .right))), ← (gather (intOperand ts) elementOperands (elements (x .right))), every-same (intOperand ts) (operandInt x) int-same (concat (map elementOperands (elements (x .right)))))
+
+  tests-are : every (testAsked (Right (length (x .left .nodes))) ts) (x .tests) ≡ both (testNodesExist x) (both (exist ts (testNames x)) (every (operandInt x) (testOperands x)))
+  unfolding conditionFits operandAsked testNodesExist
+  tests-are =
+      split-tests (Right (length (x .left .nodes))) x
+      ∙ rw (every-both (λ o. exist ts (operandNames o)) (intOperand ts) (testOperands x), ← (gather (λ v. ltb v (length ts)) operandNames (testOperands x)), every-same (intOperand ts) (operandInt x) int-same (testOperands x))
+
+  -- where there is no sum and no difference, there are no operands
+
+  no-operands : (e : Element) → isPlain e ≡ true → every (operandInt x) (elementOperands e) ≡ true
+  unfolding isPlain elementOperands every
+  no-operands (Constant c) h = refl
+  no-operands (Variable v) h = refl
+  no-operands (Sum a b) h = let z : _≡_ {A = ℕ} 0 1 = cc in absurd (omega arith)
+  no-operands (Difference a b) h = let z : _≡_ {A = ℕ} 0 1 = cc in absurd (omega arith)
+
+  plain-int : leftPlain x ≡ true → intsIn (x .left) ≡ true
+  unfolding leftPlain
+  plain-int e =
+      gather (operandInt x) elementOperands (elements (x .left)) ∙ every-weaker isPlain (λ e. every (operandInt x) (elementOperands e)) no-operands (elements (x .left)) e
+
+  -- what the sides and the tests are asked, one by one
+  record Sides : Type 0 where
+    simple : leftSimple x ≡ true
+    leftEnds : endsExist (x .left) ≡ true
+    leftNames : exist ts (names (x .left)) ≡ true
+    plain : leftPlain x ≡ true
+    marks : every (λ e. not (eqb (e .mark) anyMark)) (x .right .edges) ≡ true
+    rightEnds : endsExist (x .right) ≡ true
+    rightNames : exist ts (names (x .right)) ≡ true
+    rightInts : intsIn (x .right) ≡ true
+    testNodes : testNodesExist x ≡ true
+    testsNamed : exist ts (testNames x) ≡ true
+    testInts : every (operandInt x) (testOperands x) ≡ true
+
+  sides-true : sidesAsked x ≡ true → Sides
+  unfolding sidesAsked
+  sides-true e =
+      let t = both-true _ _ e in
+      let u = both-true _ _ (t .1) in
+      let a = both-true _ _ (sym left-is ∙ t .0) in
+      let a0 = both-true _ _ (a .0) in
+      let a1 = both-true _ _ (a .1) in
+      let b = both-true _ _ (sym right-is ∙ u .0) in
+      let b0 = both-true _ _ (b .0) in
+      let b1 = both-true _ _ (b .1) in
+      let c = both-true _ _ (sym tests-are ∙ u .1) in
+      let c1 = both-true _ _ (c .1) in
+      record {
+        simple = a0 .0;
+        leftEnds = a0 .1;
+        leftNames = a1 .0;
+        plain = a1 .1;
+        marks = b0 .0;
+        rightEnds = b0 .1;
+        rightNames = b1 .0;
+        rightInts = b1 .1;
+        testNodes = c .0;
+        testsNamed = c1 .0;
+        testInts = c1 .1;
+      }
+
+  sides-of : Sides → sidesAsked x ≡ true
+  unfolding sidesAsked
+  sides-of s =
+      both-of _ _ (left-is ∙ both-of _ _ (both-of _ _ (s .simple) (s .leftEnds)) (both-of _ _ (s .leftNames) (s .plain)))
+      (both-of _ _ (right-is ∙ both-of _ _ (both-of _ _ (s .marks) (s .rightEnds)) (both-of _ _ (s .rightNames) (s .rightInts)))
+      (tests-are ∙ both-of _ _ (s .testNodes) (both-of _ _ (s .testsNamed) (s .testInts))))
+
+  names-true : variablesExist x ≡ true → (exist ts (names (x .left)) ≡ true) × (exist ts (names (x .right)) ≡ true) × (exist ts (testNames x) ≡ true)
+  unfolding variablesExist
+  names-true e =
+      let t = both-true _ _ (sym (three (λ v. ltb v (length ts)) (names (x .left)) (names (x .right)) (testNames x)) ∙ e) in
+      let u = both-true _ _ (t .1) in
+      (t .0, u .0, u .1)
+
+  pub sides-exist : sidesAsked x ≡ true → variablesExist x ≡ true
+  unfolding variablesExist
+  sides-exist e =
+      let s = sides-true e in
+      three (λ v. ltb v (length ts)) (names (x .left)) (names (x .right)) (testNames x)
+      ∙ both-of _ _ (s .leftNames) (both-of _ _ (s .rightNames) (s .testsNamed))
+
+  ints-true : operandsInt x ≡ true → (intsIn (x .right) ≡ true) × (every (operandInt x) (testOperands x) ≡ true)
+  unfolding operandsInt
+  ints-true e =
+      let t = both-true _ _ (sym (three (operandInt x) (concat (map elementOperands (elements (x .left)))) (concat (map elementOperands (elements (x .right)))) (testOperands x)) ∙ e) in
+      both-true _ _ (t .1)
+
+  ints-of : Sides → operandsInt x ≡ true
+  unfolding operandsInt
+  ints-of s =
+      three (operandInt x) (concat (map elementOperands (elements (x .left)))) (concat (map elementOperands (elements (x .right)))) (testOperands x)
+      ∙ both-of _ _ (plain-int (s .plain)) (both-of _ _ (s .rightInts) (s .testInts))
+
+  abbrev allKept : Bool
+  allKept = all (anyKept x) (length (x .right .nodes))
+
+  -- A rule holds where its sides do, the interface fits, its variables occur on the left and right nodes of mark any are kept.
+
+  holds-so : both (sidesAsked x) (both (interfaceFits x) (both (variablesOnLeft x) allKept)) ≡ true → ruleHolds x ≡ true
+  unfolding ruleHolds clauses anyPlaced
+  holds-so e =
+      let t = both-true _ _ e in
+      let s = sides-true (t .0) in
+      let u = both-true _ _ (t .1) in
+      let v = both-true _ _ (u .1) in
+      both-of _ _ (sides-exist (t .0))
+      (both-of _ _ (s .leftEnds)
+      (both-of _ _ (s .rightEnds)
+      (both-of _ _ (s .testNodes)
+      (both-of _ _ (u .0)
+      (both-of _ _ (s .plain)
+      (both-of _ _ (s .simple) (both-of _ _ (ints-of s) (both-of _ _ (v .0) (both-of _ _ (both-of _ _ (v .1) (s .marks)) refl)))))))))
+
+  holds-then : ruleHolds x ≡ true → both (sidesAsked x) (both (interfaceFits x) (both (variablesOnLeft x) allKept)) ≡ true
+  unfolding ruleHolds clauses anyPlaced
+  holds-then e =
+      let c0 = both-true _ _ e in
+      let c1 = both-true _ _ (c0 .1) in
+      let c2 = both-true _ _ (c1 .1) in
+      let c3 = both-true _ _ (c2 .1) in
+      let c4 = both-true _ _ (c3 .1) in
+      let c5 = both-true _ _ (c4 .1) in
+      let c6 = both-true _ _ (c5 .1) in
+      let c7 = both-true _ _ (c6 .1) in
+      let c8 = both-true _ _ (c7 .1) in
+      let c9 = both-true _ _ (c8 .1) in
+      let marks = both-true _ _ (c9 .0) in
+      let named = names-true (c0 .0) in
+      let ints = ints-true (c7 .0) in
+      both-of _ _
+      (sides-of
+      record {
+        simple = c6 .0;
+        leftEnds = c1 .0;
+        leftNames = named .0;
+        plain = c5 .0;
+        marks = marks .1;
+        rightEnds = c2 .0;
+        rightNames = named .1;
+        rightInts = ints .0;
+        testNodes = c3 .0;
+        testsNamed = named .2;
+        testInts = ints .1;
+      })
+      (both-of _ _ (c4 .0) (both-of _ _ (c8 .0) (marks .0)))
+
+  pub rule-is : both (sidesAsked x) (both (interfaceFits x) (both (variablesOnLeft x) allKept)) ≡ ruleHolds x
+  rule-is = alike _ _ holds-so holds-then
 
   pub fits-yes : (k m n : ℕ) → k ≡ x .interface → m ≡ length (x .left .nodes) → n ≡ length (x .right .nodes) → k ≤ m → leb k n ≡ interfaceFits x
   unfolding interfaceFits
@@ -165,27 +318,28 @@ module _ (x : Rule) where
   unfolding interfaceFits
   fits-no k m p q h = sym (both-no (leb (x .interface) (length (x .left .nodes))) _ (lt-leb (x .interface) (length (x .left .nodes)) (omega arith)))
 
-  pub marks-placed : (l : List ℕ) → both (all (anyKept x) (length (x .right .nodes))) (graphAsked Marks l (x .right)) ≡ anyPlaced x
-  unfolding anyPlaced graphAsked itemAsked edgeMarked both
-  marks-placed l =
-      ap (both (all (anyKept x) (length (x .right .nodes)))) (every-items edgeMarked (x .right) ∙ both-yes _ _ (every-yes (x .right .nodes)))
-
-pub ends-graph : (l : List ℕ) (g : RuleGraph) → graphAsked (Nodes (length (g .nodes))) l g ≡ endsExist g
-unfolding graphAsked itemAsked endsBelow endsExist
-ends-graph l g = every-items (endsBelow (length (g .nodes))) g ∙ both-yes _ _ (every-yes (g .nodes))
-
 -- Variables of the right side occur on the left.
 
-lacks-graph : (u : ℕ) (ts : List ℕ) (g : RuleGraph) → graphAsked (Elements (Lacks u)) ts g ≡ absent u (names g)
-unfolding elementAsked
-lacks-graph u ts g = gathered (Lacks u) ts (λ a. not (eqb a u)) elementNames (λ e. absent-every u (elementNames e)) g ∙ sym (absent-every u (names g))
+lacks-graph : (u : ℕ) (ts : List ℕ) (g : RuleGraph) → graphAsked (Lacks u) ts g ≡ absent u (names g)
+unfolding itemFits elementAsked
+lacks-graph u ts g =
+    split-graph (Lacks u) ts g
+    ∙ both-yes _ _ (every-yes (items g))
+    ∙ every-same _ _ (λ e. absent-every u (elementNames e)) (elements g)
+    ∙ sym (gather (λ a. not (eqb a u)) elementNames (elements g))
+    ∙ sym (absent-every u (names g))
 
-lacks-tests : (u : ℕ) (x : Rule) → every (testAsked (Elements (Lacks u)) (x .variables)) (x .tests) ≡ absent u (testNames x)
-unfolding operandAsked
-lacks-tests u x = tested (Lacks u) x (λ a. not (eqb a u)) operandNames (λ o. absent-every u (operandNames o)) ∙ sym (absent-every u (testNames x))
+lacks-tests : (u : ℕ) (x : Rule) → every (testAsked (Lacks u) (x .variables)) (x .tests) ≡ absent u (testNames x)
+unfolding conditionFits operandAsked
+lacks-tests u x =
+    split-tests (Lacks u) x
+    ∙ both-yes _ _ (every-yes (x .tests))
+    ∙ every-same _ _ (λ o. absent-every u (operandNames o)) (testOperands x)
+    ∙ sym (gather (λ a. not (eqb a u)) operandNames (testOperands x))
+    ∙ sym (absent-every u (testNames x))
 
 kept-is : (x : Rule) (u : ℕ) → keptOnLeft x u ≡ either (not (absent u (names (x .left)))) (absent u (names (x .right) ++ testNames x))
-unfolding keptOnLeft rightAsked
+unfolding keptOnLeft
 kept-is x u = rw (lacks-graph u (x .variables) (x .left), lacks-graph u (x .variables) (x .right), lacks-tests u x, absent-append u (names (x .right)) (testNames x))
 
 -- names N below n all occur in L exactly if each number below n that L lacks is lacking in N
@@ -235,8 +389,8 @@ kept-left x e =
     let below : every f N ≡ true = every-append f (names (x .right)) (testNames x) ∙ both-true (every f L) _ (sym (three f L (names (x .right)) (testNames x)) ∙ e) .1 in
     all-same _ _ (kept-is x) (length (x .variables)) ∙ kept-all L N (length (x .variables)) below
 
-module _ (x : Rule) (v : ℕ) (a : Bool) (q : a ≡ graphAsked (Elements (Lacks v)) (x .variables) (x .left)) where
-  pub lacking : (r : Bool) → a ≡ true → r ≡ rightAsked (Elements (Lacks v)) x → r ≡ keptOnLeft x v
+module _ (x : Rule) (v : ℕ) (a : Bool) (q : a ≡ graphAsked (Lacks v) (x .variables) (x .left)) where
+  pub lacking : (r : Bool) → a ≡ true → r ≡ partsAsked (Lacks v) (Lacks v) x → r ≡ keptOnLeft x v
   unfolding keptOnLeft either
   lacking r h p = rw (← q, h) p
 
@@ -272,32 +426,14 @@ module _ (x : Rule) (j m : ℕ) (q : m ≡ markAt (x .right) j) where
     pub outside-mark : k ≤ j → false ≡ anyKept x j
     outside-mark g = sym (kept-any ∙ both-no _ _ (le-ltb j (x .interface) (omega arith)))
 
-module _ (x : Rule) (n j : ℕ) (h : n ≡ length (x .right .nodes)) where
-  pub any-fails : (l : List ℕ) → j < n → anyKept x j ≡ false → false ≡ anyPlaced x
-  any-fails l k q = sym (both-no _ (graphAsked Marks l (x .right)) (all-no (anyKept x) (length (x .right .nodes)) j (omega arith) q)) ∙ marks-placed x l
-
-  pub any-done : (l : List ℕ) (r : Bool) → r ≡ graphAsked Marks l (x .right) → j ≤ n → n ≤ j → all (anyKept x) j ≡ true → r ≡ anyPlaced x
-  any-done l r q k m p =
-      let z : j ≡ length (x .right .nodes) = omega arith in
-      q ∙ sym (both-yes _ (graphAsked Marks l (x .right)) (ap (all (anyKept x)) (sym z) ∙ p)) ∙ marks-placed x l
+-- all numbers below one that is the other
+pub all-at : (f : ℕ → Bool) {n m : ℕ} → n ≡ m → all f n ≡ true → all f m ≡ true
+all-at f e h = rw (← e) h
 
 -- one more number that passes
 pub all-next : (f : ℕ → Bool) (n : ℕ) → all f n ≡ true → f n ≡ true → all f (n + 1) ≡ true
 unfolding all
 all-next f n h k = rw (add-one n) (both-yes _ _ k ∙ h)
-
--- A rule.
-
-pub rule-is : (x : Rule) → both (variablesExist x) (both (nodesAsked x) (labelsAsked x)) ≡ ruleHolds x
-unfolding ruleHolds nodesAsked labelsAsked clauses
-rule-is x =
-    ap (both (variablesExist x))
-    (both-assoc (endsExist (x .left)) _ _
-    ∙ ap (both (endsExist (x .left)))
-    (both-assoc (endsExist (x .right)) _ _
-    ∙ ap (both (endsExist (x .right)))
-    (both-assoc (testNodesExist x) _ _
-    ∙ ap (both (testNodesExist x)) (ap (both (interfaceFits x)) (ap (both (leftPlain x)) (ap (both (leftSimple x)) (ap (both (operandsInt x)) (ap (both (variablesOnLeft x)) (both-last (anyPlaced x))))))))))
 
 -- the rules of an image
 pub parts-hold : (t : ℕ) (p : Program) → every ruleHolds (p .rules) ≡ every partHolds (imageParts t p)

@@ -7,16 +7,14 @@ use lib.Dec.{eqb, leb, ltb}
 use Rattle.meaning.specs.Basics.{both, either, every, absent}
 use Rattle.meaning.specs.Image.{RuleGraph, Rule}
 use Rattle.meaning.specs.Tags.{intType, anyMark}
-use Rattle.meaning.specs.References.{operandNames, elementOperands, elementNames, conditionOperands, conditionNodes, isPlain, lists, endsExist, testNodesExist, interfaceFits, leftPlain, leftSimple, operandsInt, variablesOnLeft, anyPlaced, ruleHolds}
+use Rattle.meaning.specs.References.{operandNames, elementOperands, elementNames, conditionOperands, conditionNodes, isPlain, lists, ruleHolds}
 use Rattle.meaning.specs.declared.Operand.{Operand}
 use Rattle.meaning.specs.declared.Operand.the-variants.{Constant as constantOperand, Variable as variableOperand}
 use Rattle.meaning.specs.declared.Element.{Element}
 use Rattle.meaning.specs.declared.Condition.{Condition}
 use Rattle.meaning.specs.declared.Test.{Test}
 use Rattle.references.specs.declared.Ask.{Ask}
-use Rattle.references.specs.declared.Ask.the-variants.{Named, Int, Lacks, Plain}
-use Rattle.references.specs.declared.Check.{Check}
-use Rattle.references.specs.declared.Check.the-variants.{Elements, Lists, Nodes, Marks}
+use Rattle.references.specs.declared.Ask.the-variants.{Left, Right, Lacks}
 use Rattle.parts.specs.Rows.{itemLabel, Item, node, edge, items, Part, ruleOf, mainOf}
 
 -- Elements and operands; `ts` are the types of the variables.
@@ -25,17 +23,19 @@ unfoldable pub intOperand : List ℕ → Operand → Bool
 intOperand ts (constantOperand c) = true
 intOperand ts (variableOperand v) = eqb (getD ts v 0) intType
 
+-- each is the number of a variable
+abbrev pub exist : List ℕ → List ℕ → Bool
+exist ts l = every (λ v. ltb v (length ts)) l
+
 unfoldable pub operandAsked : Ask → List ℕ → Operand → Bool
-operandAsked Named ts o = every (λ v. ltb v (length ts)) (operandNames o)
-operandAsked Int ts o = intOperand ts o
+operandAsked (Left n) ts o = false
+operandAsked (Right n) ts o = both (exist ts (operandNames o)) (intOperand ts o)
 operandAsked (Lacks u) ts o = absent u (operandNames o)
-operandAsked Plain ts o = false
 
 unfoldable pub elementAsked : Ask → List ℕ → Element → Bool
-elementAsked Named ts e = every (λ v. ltb v (length ts)) (elementNames e)
-elementAsked Int ts e = every (intOperand ts) (elementOperands e)
+elementAsked (Left n) ts e = both (exist ts (elementNames e)) (isPlain e)
+elementAsked (Right n) ts e = both (exist ts (elementNames e)) (every (intOperand ts) (elementOperands e))
 elementAsked (Lacks u) ts e = absent u (elementNames e)
-elementAsked Plain ts e = isPlain e
 
 -- how many elements are list variables: as in any rule whose variables have these types
 
@@ -57,40 +57,44 @@ unfoldable pub edgeMarked : Item → Bool
 edgeMarked (node x) = true
 edgeMarked (edge e) = not (eqb (e .mark) anyMark)
 
-unfoldable pub itemAsked : Check → List ℕ → Item → Bool
-itemAsked (Elements ask) ts i = every (elementAsked ask ts) (itemLabel i)
-itemAsked Lists ts i = leb (listsIn ts (itemLabel i)) 1
-itemAsked (Nodes n) ts i = endsBelow n i
-itemAsked Marks ts i = edgeMarked i
+-- beside the elements of its label
+unfoldable pub itemFits : Ask → List ℕ → Item → Bool
+itemFits (Left n) ts i = both (leb (listsIn ts (itemLabel i)) 1) (endsBelow n i)
+itemFits (Right n) ts i = both (edgeMarked i) (endsBelow n i)
+itemFits (Lacks u) ts i = true
 
-unfoldable pub graphAsked : Check → List ℕ → RuleGraph → Bool
-graphAsked check ts g = every (itemAsked check ts) (items g)
+unfoldable pub itemAsked : Ask → List ℕ → Item → Bool
+itemAsked ask ts i = both (itemFits ask ts i) (every (elementAsked ask ts) (itemLabel i))
 
-unfoldable pub conditionAsked : Check → List ℕ → Condition → Bool
-conditionAsked (Elements ask) ts c = every (operandAsked ask ts) (conditionOperands c)
-conditionAsked Lists ts c = true
-conditionAsked (Nodes n) ts c = every (λ a. ltb a n) (conditionNodes c)
-conditionAsked Marks ts c = true
+unfoldable pub graphAsked : Ask → List ℕ → RuleGraph → Bool
+graphAsked ask ts g = every (itemAsked ask ts) (items g)
 
-unfoldable pub testAsked : Check → List ℕ → Test → Bool
-testAsked check ts t = conditionAsked check ts (t .condition)
+-- beside its operands
+unfoldable pub conditionFits : Ask → Condition → Bool
+conditionFits (Left n) c = every (λ a. ltb a n) (conditionNodes c)
+conditionFits (Right n) c = every (λ a. ltb a n) (conditionNodes c)
+conditionFits (Lacks u) c = true
+
+unfoldable pub conditionAsked : Ask → List ℕ → Condition → Bool
+conditionAsked ask ts c = both (conditionFits ask c) (every (operandAsked ask ts) (conditionOperands c))
+
+unfoldable pub testAsked : Ask → List ℕ → Test → Bool
+testAsked ask ts t = conditionAsked ask ts (t .condition)
 
 -- Rules.
 
--- the right side and the tests
-unfoldable pub rightAsked : Check → Rule → Bool
-rightAsked check x = both (graphAsked check (x .variables) (x .right)) (every (testAsked check (x .variables)) (x .tests))
+-- the sides and the tests, one after the other
+abbrev pub partsAsked : Ask → Ask → Rule → Bool
+partsAsked ofRight ofTests x = both (graphAsked ofRight (x .variables) (x .right)) (every (testAsked ofTests (x .variables)) (x .tests))
+
+unfoldable pub sidesAsked : Rule → Bool
+sidesAsked x =
+    let n = length (x .left .nodes) in
+    both (graphAsked (Left n) (x .variables) (x .left)) (partsAsked (Right (length (x .right .nodes))) (Right n) x)
 
 -- a variable that the left side lacks, the right side and the tests lack
 unfoldable pub keptOnLeft : Rule → ℕ → Bool
-keptOnLeft x v =
-    either (not (graphAsked (Elements (Lacks v)) (x .variables) (x .left))) (rightAsked (Elements (Lacks v)) x)
-
-unfoldable pub nodesAsked : Rule → Bool
-nodesAsked x = both (endsExist (x .left)) (both (endsExist (x .right)) (both (testNodesExist x) (interfaceFits x)))
-
-unfoldable pub labelsAsked : Rule → Bool
-labelsAsked x = both (leftPlain x) (both (leftSimple x) (both (operandsInt x) (both (variablesOnLeft x) (anyPlaced x))))
+keptOnLeft x v = either (not (graphAsked (Lacks v) (x .variables) (x .left))) (partsAsked (Lacks v) (Lacks v) x)
 
 unfoldable pub partHolds : Part → Bool
 partHolds (ruleOf x) = ruleHolds x

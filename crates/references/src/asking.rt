@@ -5,14 +5,13 @@ ghost use Prim.Native.Nat.{ℕ};
 ghost use lib.Dec.{ltb};
 ghost use Rattle.meaning.specs.Basics.{both, every};
 ghost use Rattle.meaning.specs.Image.{limits, only, anyTag, label, ruleGraph, test};
+ghost use Rattle.meaning.specs.References.{conditionOperands, conditionNodes};
 ghost use Rattle.meaning.specs.declared.Operand.the-variants.{Constant as constantOperand, Variable as variableOperand};
 ghost use Rattle.meaning.specs.declared.Element.the-variants.{Variable};
-ghost use Rattle.references.specs.declared.Check.the-variants.{Elements, Nodes};
 ghost use Rattle.parts.specs.Runs.{For};
 ghost use Rattle.parts.specs.Rows.{graphItem};
-ghost use Rattle.references.specs.Asked.{operandAsked, elementAsked, listsIn, endsBelow, edgeMarked, itemAsked, graphAsked, conditionAsked, testAsked};
+ghost use Rattle.references.specs.Asked.{operandAsked, elementAsked, listsIn, endsBelow, edgeMarked, itemFits, itemAsked, graphAsked, conditionFits, conditionAsked, testAsked};
 use crate::Ask;
-use crate::Check;
 use fields::Found;
 use meaning::Condition;
 use meaning::Element;
@@ -26,34 +25,31 @@ fn variable_holds(ask: Ask, v: usize, types: &[u8]) -> bool
     ensures { λ r. ⌜ r ≡ elementAsked ask (now (types .entry)) (Variable v) ⌝ }
 {
     match ask {
-        Ask::Named => v < types.len(),
-        Ask::Int => true,
+        Ask::Left(n) => v < types.len(),
+        Ask::Right(n) => v < types.len(),
         Ask::Lacks(u) => v != u,
-        Ask::Plain => true,
     }
 }
 
-// A variable that is an operand.
+// A variable that is an operand. One that is int exists.
 fn operand_variable_holds(ask: Ask, v: usize, types: &[u8]) -> bool
     ensures { λ r. ⌜ r ≡ operandAsked ask (now (types .entry)) (variableOperand v) ⌝ }
 {
     match ask {
-        Ask::Named => v < types.len(),
-        Ask::Int => parts::byte_at(types, v) == VariableType::INT,
+        Ask::Left(n) => false,
+        Ask::Right(n) => parts::byte_at(types, v) == VariableType::INT,
         Ask::Lacks(u) => v != u,
-        Ask::Plain => false,
     }
 }
 
-// No operand is plain.
+// The left side has no operands.
 fn constant_holds(ask: Ask) -> bool
     ensures { λ r. ⌜ ((ts : List ℕ) (c : ℕ) → r ≡ operandAsked ask ts (constantOperand c)) ⌝ }
 {
     match ask {
-        Ask::Named => true,
-        Ask::Int => true,
+        Ask::Left(n) => false,
+        Ask::Right(n) => true,
         Ask::Lacks(u) => true,
-        Ask::Plain => false,
     }
 }
 
@@ -142,20 +138,39 @@ fn lists_in(types: &[u8], p: &[u8]) -> usize
     parts::elements::shape(types, p).lists
 }
 
-// A node or an edge, from its tag and payload.
-fn item_holds(check: Check, tag: u8, p: &[u8], types: &[u8]) -> bool
-    ensures { λ r. ⌜ For (graphItem tag (now (p .entry))) (λ i. r ≡ itemAsked check (now (types .entry)) i) ⌝ }
+// What is asked of a node or an edge beside the elements of its label.
+fn item_fits(ask: Ask, tag: u8, p: &[u8], types: &[u8]) -> bool
+    ensures { λ r. ⌜ For (graphItem tag (now (p .entry))) (λ i. r ≡ itemFits ask (now (types .entry)) i) ⌝ }
 {
-    match check {
-        Check::Elements(ask) => label_holds(ask, parts::label_part(tag, p), types),
-        Check::Lists => lists_in(types, parts::label_part(tag, p)) <= 1,
-        Check::Nodes(n) => ends_exist(tag, p, n),
-        Check::Marks => edge_marked(tag, p),
+    match ask {
+        Ask::Left(n) => {
+            if lists_in(types, parts::label_part(tag, p)) <= 1 {
+                return ends_exist(tag, p, n);
+            }
+            false
+        }
+        Ask::Right(n) => {
+            if edge_marked(tag, p) {
+                return ends_exist(tag, p, n);
+            }
+            false
+        }
+        Ask::Lacks(u) => true,
     }
 }
 
-pub fn graph_holds(check: Check, p: &[u8], types: &[u8]) -> bool
-    ensures { λ r. ⌜ For (ruleGraph (now (p .entry))) (λ g. r ≡ graphAsked check (now (types .entry)) g) ⌝ }
+// A node or an edge, from its tag and payload.
+fn item_holds(ask: Ask, tag: u8, p: &[u8], types: &[u8]) -> bool
+    ensures { λ r. ⌜ For (graphItem tag (now (p .entry))) (λ i. r ≡ itemAsked ask (now (types .entry)) i) ⌝ }
+{
+    if item_fits(ask, tag, p, types) {
+        return label_holds(ask, parts::label_part(tag, p), types);
+    }
+    false
+}
+
+pub fn graph_holds(ask: Ask, p: &[u8], types: &[u8]) -> bool
+    ensures { λ r. ⌜ For (ruleGraph (now (p .entry))) (λ g. r ≡ graphAsked ask (now (types .entry)) g) ⌝ }
 {
     let mut at: usize = 0;
     while at < p.len() {
@@ -163,7 +178,7 @@ pub fn graph_holds(check: Check, p: &[u8], types: &[u8]) -> bool
         let Found::Field(tag, start, end) = found else {
             return false;
         };
-        if item_holds(check, tag, fields::part(p, start, end), types) {
+        if item_holds(ask, tag, fields::part(p, start, end), types) {
             at = end;
         } else {
             return false;
@@ -173,7 +188,7 @@ pub fn graph_holds(check: Check, p: &[u8], types: &[u8]) -> bool
 }
 
 fn condition_operands_hold(ask: Ask, c: Condition, types: &[u8]) -> bool
-    ensures { λ r. ⌜ r ≡ conditionAsked (Elements ask) (now (types .entry)) c ⌝ }
+    ensures { λ r. ⌜ r ≡ every (operandAsked ask (now (types .entry))) (conditionOperands c) ⌝ }
 {
     match c {
         Condition::Edge(a, b) => true,
@@ -185,7 +200,7 @@ fn condition_operands_hold(ask: Ask, c: Condition, types: &[u8]) -> bool
 }
 
 fn condition_nodes_exist(c: Condition, n: usize) -> bool
-    ensures { λ r. ⌜ ((ts : List ℕ) → r ≡ conditionAsked (Nodes n) ts c) ⌝ }
+    ensures { λ r. ⌜ r ≡ every (λ a. ltb a n) (conditionNodes c) ⌝ }
 {
     match c {
         Condition::Edge(a, b) => both_below(a, b, n),
@@ -196,19 +211,28 @@ fn condition_nodes_exist(c: Condition, n: usize) -> bool
     }
 }
 
-fn condition_holds(check: Check, c: Condition, types: &[u8]) -> bool
-    ensures { λ r. ⌜ r ≡ conditionAsked check (now (types .entry)) c ⌝ }
+// What is asked of a test beside its operands.
+fn condition_fits(ask: Ask, c: Condition) -> bool
+    ensures { λ r. ⌜ r ≡ conditionFits ask c ⌝ }
 {
-    match check {
-        Check::Elements(ask) => condition_operands_hold(ask, c, types),
-        Check::Lists => true,
-        Check::Nodes(n) => condition_nodes_exist(c, n),
-        Check::Marks => true,
+    match ask {
+        Ask::Left(n) => condition_nodes_exist(c, n),
+        Ask::Right(n) => condition_nodes_exist(c, n),
+        Ask::Lacks(u) => true,
     }
 }
 
-pub fn tests_hold(check: Check, p: &[u8], types: &[u8]) -> bool
-    ensures { λ r. ⌜ For (only anyTag test (limits .tests) (now (p .entry))) (λ l. r ≡ every (testAsked check (now (types .entry))) l) ⌝ }
+fn condition_holds(ask: Ask, c: Condition, types: &[u8]) -> bool
+    ensures { λ r. ⌜ r ≡ conditionAsked ask (now (types .entry)) c ⌝ }
+{
+    if condition_fits(ask, c) {
+        return condition_operands_hold(ask, c, types);
+    }
+    false
+}
+
+pub fn tests_hold(ask: Ask, p: &[u8], types: &[u8]) -> bool
+    ensures { λ r. ⌜ For (only anyTag test (limits .tests) (now (p .entry))) (λ l. r ≡ every (testAsked ask (now (types .entry))) l) ⌝ }
 {
     let mut at: usize = 0;
     while at < p.len() {
@@ -218,7 +242,7 @@ pub fn tests_hold(check: Check, p: &[u8], types: &[u8]) -> bool
         };
         let t = parts::reading::read_test(tag, fields::part(p, start, end));
         let c = t.condition;
-        if condition_holds(check, c, types) {
+        if condition_holds(ask, c, types) {
             at = end;
         } else {
             return false;

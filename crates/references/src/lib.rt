@@ -1,5 +1,5 @@
-// References (answer 17) of the rules of an image that has the form, one small function for each thing that is asked. The
-// parts of the image are walked where they lie.
+// References (answer 17) of the rules of an image that has the form. Each side of a rule and its tests are walked once, where they
+// lie, and once more for each variable.
 ghost use mathlib.Core.Path.{_≡_};
 ghost use Rattle.meaning.specs.Basics.{every};
 ghost use Rattle.meaning.specs.Image.{program};
@@ -13,29 +13,17 @@ use meaning::tags::Tag;
 mod asking;
 mod rules;
 
-// What is asked of every element of a label, and of every operand.
+// What is asked of a graph of a rule or of its tests: of every element of a label and every operand, and of what an item or a
+// test names.
 pub enum Ask {
-    // Named variables exist.
-    Named,
-    // Operands are int.
-    Int,
-    // The variable does not occur.
+    // Of the left side, where there are so many nodes: named variables exist, no label has a sum or a difference or more than one
+    // occurrence of a list variable, and the ends of edges are nodes.
+    Left(usize),
+    // Of the right side or of tests, where so many nodes can be named: named variables exist, operands are int, nodes exist, and
+    // no edge has mark any.
+    Right(usize),
+    // That the variable does not occur.
     Lacks(usize),
-    // There is no sum or difference.
-    Plain,
-}
-
-// What is asked of every item of a graph, or of every test of a rule. The types of the variables matter to the first two alone:
-// for the others any bytes stand in their place.
-pub enum Check {
-    // Each element or operand is as asked.
-    Elements(Ask),
-    // A label has at most one occurrence of a list variable.
-    Lists,
-    // The nodes that an edge or a test names are among so many.
-    Nodes(usize),
-    // No edge has mark any.
-    Marks,
 }
 
 // A rule of the image; of the main command nothing is asked here.

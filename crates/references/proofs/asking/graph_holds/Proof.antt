@@ -13,10 +13,10 @@ use Rattle.references.proofs.asking.graph_holds.Statement.{statement}
 use Rattle.references.proofs.asking.graph_holds.Tie as tie
 
 abbrev Inv-loop : tie.InvT-loop
-Inv-loop check p types at₀ at = Walk graphItem (itemAsked check types) p (ruleGraph p) (graphAsked check types) at
+Inv-loop ask p types at₀ at = Walk graphItem (itemAsked ask types) p (ruleGraph p) (graphAsked ask types) at
 
 abbrev μ-loop : tie.MeasureT-loop
-μ-loop check p types at₀ at = length p - at
+μ-loop ask p types at₀ at = length p - at
 
 loop-holds : tie.Need-loop-holds Inv-loop μ-loop
 unfolding graphAsked

@@ -13,10 +13,10 @@ use Rattle.references.proofs.asking.tests_hold.Statement.{statement}
 use Rattle.references.proofs.asking.tests_hold.Tie as tie
 
 abbrev Inv-loop : tie.InvT-loop
-Inv-loop check p types at₀ at = Walk test (testAsked check types) p (only anyTag test 4 p) (every (testAsked check types)) at
+Inv-loop ask p types at₀ at = Walk test (testAsked ask types) p (only anyTag test 4 p) (every (testAsked ask types)) at
 
 abbrev μ-loop : tie.MeasureT-loop
-μ-loop check p types at₀ at = length p - at
+μ-loop ask p types at₀ at = length p - at
 
 loop-holds : tie.Need-loop-holds Inv-loop μ-loop
 loop-holds c = walk-start (λ l e. (l, only-run anyTag test test (λ t b a p x. x) 4 _ l e, refl))
@@ -44,11 +44,11 @@ loop-less c = nearer (a-field _ _ (c .before .before .before .before .before .be
 
 loop-again : tie.Need-loop-again Inv-loop μ-loop
 unfolding testAsked
-loop-again c = walk-next (c .before .before .before .before .before .before .before .before .before .loop .inv) (c .before .before .before .before .before .before .before .before .loop-test .taken) (a-field _ _ (c .before .before .before .before .before .before .before .read-field .ensures) (c .before .before .before .before .before .found .given .1)) (c .before .before .before .part .ensures) (λ a e. c .before .condition-holds .ensures ∙ ap (testAsked (c .before .before .before .before .before .before .before .before .before .before .before .before .args .check) (c .before .before .before .before .before .before .before .before .before .before .before .before .args .types .now)) (c .before .before .read-test .ensures a e)) (c .if1 .taken)
+loop-again c = walk-next (c .before .before .before .before .before .before .before .before .before .loop .inv) (c .before .before .before .before .before .before .before .before .loop-test .taken) (a-field _ _ (c .before .before .before .before .before .before .before .read-field .ensures) (c .before .before .before .before .before .found .given .1)) (c .before .before .before .part .ensures) (λ a e. c .before .condition-holds .ensures ∙ ap (testAsked (c .before .before .before .before .before .before .before .before .before .before .before .before .args .ask) (c .before .before .before .before .before .before .before .before .before .before .before .before .args .types .now)) (c .before .before .read-test .ensures a e)) (c .if1 .taken)
 
 returns-2 : tie.Need-returns-2 Inv-loop μ-loop
 unfolding testAsked
-returns-2 c = walk-stop (c .before .before .before .before .before .before .before .before .before .loop .inv) (c .before .before .before .before .before .before .before .before .loop-test .taken) (a-field _ _ (c .before .before .before .before .before .before .before .read-field .ensures) (c .before .before .before .before .before .found .given .1)) (c .before .before .before .part .ensures) (λ a e. c .before .condition-holds .ensures ∙ ap (testAsked (c .before .before .before .before .before .before .before .before .before .before .before .before .args .check) (c .before .before .before .before .before .before .before .before .before .before .before .before .args .types .now)) (c .before .before .read-test .ensures a e)) (c .if1 .left)
+returns-2 c = walk-stop (c .before .before .before .before .before .before .before .before .before .loop .inv) (c .before .before .before .before .before .before .before .before .loop-test .taken) (a-field _ _ (c .before .before .before .before .before .before .before .read-field .ensures) (c .before .before .before .before .before .found .given .1)) (c .before .before .before .part .ensures) (λ a e. c .before .condition-holds .ensures ∙ ap (testAsked (c .before .before .before .before .before .before .before .before .before .before .before .before .args .ask) (c .before .before .before .before .before .before .before .before .before .before .before .before .args .types .now)) (c .before .before .read-test .ensures a e)) (c .if1 .left)
 
 returns-3 : tie.Need-returns-3 Inv-loop μ-loop
 returns-3 c = walk-done (c .before .loop .inv) (c .loop-test .left)
