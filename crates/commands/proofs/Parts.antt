@@ -7,9 +7,9 @@ use mathlib.Core.List.{List, [], _∷_}
 use Prim.Native.Nat.{ℕ, zero, suc, _+_, _-_, _<_, _≤_}
 use native.Mathlib.Omega.{arith}
 use lib.ListN.{length, length-take}
-use Rattle.meaning.specs.Tags.{ifTag, loopTag, ruleSetTag, sequenceTag, tryTag}
+use Rattle.meaning.specs.Tags.{breakTag, ifTag, loopTag, ruleSetTag, sequenceTag, tryTag}
 use Rattle.meaning.specs.Basics.{choose, both, every}
-use Rattle.meaning.specs.Image.{Command, ruleSet, sequence, guarded, loop, skip, fail, break, only, anyTag, inOrder, command}
+use Rattle.meaning.specs.Image.{limits, Command, ruleSet, sequence, guarded, loop, skip, fail, break, only, anyTag, inOrder, command}
 use Rattle.meaning.specs.References.{rulesExist, allRulesExist, references}
 use Rattle.meaning.specs.Laws.Tests.{both-true, every-true}
 use Rattle.fields.specs.Image.{field-is}
@@ -33,8 +33,8 @@ unfolding allRulesExist inOrder every
 exist-row n [] = refl
 exist-row n (c ∷ l) = ap (both (rulesExist c n)) (exist-row n l)
 
-pub row-run : (n : ℕ) (bs : List ℕ) (l : List Command) → only anyTag (command n) 16 bs ≡ some l → Run (command n) l [] bs
-row-run n bs l e = only-run anyTag (command n) (command n) (λ t b a p x. x) 16 bs l e
+pub row-run : (n : ℕ) (bs : List ℕ) (l : List Command) → only anyTag (command n) (limits .commands) bs ≡ some l → Run (command n) l [] bs
+row-run n bs l e = only-run anyTag (command n) (command n) (λ t b a p x. x) (limits .commands) bs l e
 
 -- the command of an end that comes at once
 abbrev pub leafOf : End → Command
@@ -44,7 +44,7 @@ leafOf Broke = break
 leafOf (Stopped w) = skip
 
 module _ {image : List ℕ} {tag : ℕ} {bs : List ℕ} (w : Known image tag bs) where
-  pub in-range : (80 ≤ tag) × (tag ≤ 87)
+  pub in-range : (ruleSetTag ≤ tag) × (tag ≤ breakTag)
   in-range = let t = command-tag (w .deep) tag bs (w .cmd) (w .is) in (t .1, t .2)
 
   pub deeper : command (suc (w .deep - 1)) tag bs ≡ some (w .cmd)
@@ -87,7 +87,7 @@ module _ {image : List ℕ} {tag : ℕ} {bs : List ℕ} (w : Known image tag bs)
 
   -- If and try.
 
-  pub three : (keep : Bool) → tag ≡ choose keep tryTag ifTag → (a b c : Command) × (only anyTag (command (w .deep - 1)) 16 bs ≡ some (a ∷ b ∷ c ∷ [])) × (w .cmd ≡ guarded keep a b c)
+  pub three : (keep : Bool) → tag ≡ choose keep tryTag ifTag → (a b c : Command) × (only anyTag (command (w .deep - 1)) (limits .commands) bs ≡ some (a ∷ b ∷ c ∷ [])) × (w .cmd ≡ guarded keep a b c)
   unfolding choose
   three true h = command-53 (w .deep - 1) tag bs (w .cmd) deeper h
   three false h = command-52 (w .deep - 1) tag bs (w .cmd) deeper h
@@ -192,7 +192,7 @@ module _ {image : List ℕ} (w : Runnable image) {tag : ℕ} {part : List ℕ} (
   main-known =
       record {
         programmed = w .programmed;
-        deep = 16;
+        deep = limits .depth;
         cmd = w .programmed .tree .main;
         is = main-is image part tag (w .programmed .tree) (w .programmed .is) q p;
         exist = both-true _ _ (w .exist) .1;

@@ -7,7 +7,7 @@ use mathlib.Core.List.{List, [], _∷_}
 use Prim.Native.Nat.{ℕ, _+_, _-_, _/_, _<_, _≤_}
 use native.Mathlib.Omega.{arith}
 use lib.ListN.{length, take, drop, length-take}
-use Rattle.meaning.specs.Tags.{ifTag, loopTag, ruleSetTag, sequenceTag, tryTag}
+use Rattle.meaning.specs.Tags.{breakTag, ifTag, loopTag, ruleSetTag, sequenceTag, tryTag}
 use Rattle.meaning.specs.Basics.{choose, every}
 use Rattle.meaning.specs.Layout.{recordLength}
 use Rattle.meaning.specs.Image.{Program, Command, ruleSet, sequence, guarded, loop, field, inOrder, command}
@@ -37,7 +37,7 @@ use Rattle.commands.proofs.Parts.{in-range, rule-set-is, row-of, row-is
 use Rattle.commands.proofs.States.{done-is, settled-fuel, settled-steps, enter-none, enter-paid, leaf-work, row-more, row-ends, row-done, guarded-runs, guarded-stops, loop-out, loop-more, loop-closes}
 
 -- the kind of a command that is known
-pub is-kind : {image : List ℕ} {tag : ℕ} {bs : List ℕ} {kind : Kind} → Known image tag bs → (80 ≤ tag → tag ≤ 87 → Tagged tag kind) → (k : Kind) → kind ≡ k → Tagged tag k
+pub is-kind : {image : List ℕ} {tag : ℕ} {bs : List ℕ} {kind : Kind} → Known image tag bs → (ruleSetTag ≤ tag → tag ≤ breakTag → Tagged tag kind) → (k : Kind) → kind ≡ k → Tagged tag k
 is-kind {tag = tag} w h k e = subst (λ (x : Kind). Tagged tag x) e (h (in-range w .0) (in-range w .1))
 
 pub part-less : (e : End) → partAfter e < 3

@@ -10,7 +10,7 @@ use Rattle.meaning.specs.Basics.{choose, every}
 use Rattle.meaning.specs.Image.{Command, guarded, loop, skip, inOrder, command}
 use Rattle.meaning.specs.References.{rulesExist}
 use Rattle.meaning.specs.Commands.{State, Out, ends, back, work, works, exec}
-use Rattle.meaning.specs.Calls.{journalRoom}
+use Rattle.meaning.specs.Calls.{journalRoom, mostFuel}
 use Rattle.laws.specs.Hosts.{LegalHost}
 use Rattle.laws.specs.Restoring.{From}
 use Rattle.meaning.specs.declared.Layout.{Layout}
@@ -65,7 +65,7 @@ module _ (L : Layout) where
   -- the bytes hold a state, and the steps can be counted
   pub record Begun (nodes edges journal : List ℕ) (t : Tally) : Type 0 where
     pub running : Running L nodes edges journal (t .records)
-    pub sum : t .fuel + t .steps ≤ 1000000
+    pub sum : t .fuel + t .steps ≤ mostFuel
 
   -- what is left: the end and the state that the definition gives for whatever is known of the bytes, and bytes that run on
   pub record Comes (W : Type 0) (runs : ℕ → W → State → Out) (nodes edges journal : List ℕ) (t : Tally) (r : Ran) (nodes′ edges′ journal′ : List ℕ) : Type 0 where

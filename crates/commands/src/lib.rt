@@ -2,6 +2,8 @@
 // a loop call each other, over parts of the lent image; what needs no call of these is outside the cycle.
 ghost use mathlib.Core.Path.{_≡_};
 ghost use Prim.Native.Nat.{_+_, _≤_};
+ghost use Rattle.meaning.specs.Tags.{ruleSetTag};
+ghost use Rattle.meaning.specs.Calls.{mostFuel};
 ghost use Rattle.ledger.specs.Running.{Running};
 ghost use Rattle.commands.specs.Program.{Runnable, RunsProgram};
 ghost use Rattle.commands.specs.Cycle.{Begun, Known, Row, Comes, runsCommand, runsRow, runsGuarded, runsLoop};
@@ -13,6 +15,31 @@ use meaning::Ran;
 use meaning::Stop;
 use meaning::Tally;
 use meaning::tags::Tag;
+
+// Enters and runs a rule set of these numbers.
+fn run_set(
+    l: Layout,
+    image: &[u8],
+    p: &[u8],
+    nodes: &mut [u8],
+    edges: &mut [u8],
+    journal: &mut [u8],
+    t: Tally,
+) -> Ran
+    requires { ⌜ Begun l (now nodes) (now edges) (now journal) t ⌝ }
+    requires { ⌜ Known (now image) ruleSetTag (now p) ⌝ }
+    ensures { λ r. ⌜ Comes l (Known (now (image .entry)) ruleSetTag (now (p .entry))) (runsCommand l) (now (nodes .entry)) (now (edges .entry)) (now (journal .entry)) t r (now (nodes .exit)) (now (edges .exit)) (now (journal .exit)) ⌝ }
+{
+    let fuel = t.fuel;
+    if fuel == 0 {
+        return Ran {
+            end: End::Stopped(Stop::OutOfFuel),
+            tally: t,
+        };
+    }
+    let spent = tally::entered(t);
+    calling::call(l, image, p, nodes, edges, journal, spent)
+}
 
 // Enters and runs a command, from its tag and payload.
 fn run_command(
@@ -39,7 +66,7 @@ fn run_command(
     let spent = tally::entered(t);
     let kind = ends::kind_of(tag);
     match kind {
-        Kind::RuleSet => calling::call(l, image, p, nodes, edges, journal, spent),
+        Kind::RuleSet => run_set(l, image, p, nodes, edges, journal, t),
         Kind::Sequence => run_row(l, image, p, nodes, edges, journal, spent),
         Kind::Guarded(keep) => run_guarded(l, image, keep, p, nodes, edges, journal, spent),
         Kind::Loop => run_loop(l, image, p, nodes, edges, journal, spent),
@@ -161,31 +188,6 @@ fn run_loop(
     }
 }
 
-// Enters and runs a rule set of these numbers.
-fn run_set(
-    l: Layout,
-    image: &[u8],
-    p: &[u8],
-    nodes: &mut [u8],
-    edges: &mut [u8],
-    journal: &mut [u8],
-    t: Tally,
-) -> Ran
-    requires { ⌜ Begun l (now nodes) (now edges) (now journal) t ⌝ }
-    requires { ⌜ Known (now image) 80 (now p) ⌝ }
-    ensures { λ r. ⌜ Comes l (Known (now (image .entry)) 80 (now (p .entry))) (runsCommand l) (now (nodes .entry)) (now (edges .entry)) (now (journal .entry)) t r (now (nodes .exit)) (now (edges .exit)) (now (journal .exit)) ⌝ }
-{
-    let fuel = t.fuel;
-    if fuel == 0 {
-        return Ran {
-            end: End::Stopped(Stop::OutOfFuel),
-            tally: t,
-        };
-    }
-    let spent = tally::entered(t);
-    calling::call(l, image, p, nodes, edges, journal, spent)
-}
-
 // Runs the main command of an image. A lone rule set is called at once: with two callers the compiler keeps the call, and the
 // arrays of the search, out of the frame of run_command, so that a level of nested commands takes little stack.
 pub fn run_program(
@@ -197,7 +199,7 @@ pub fn run_program(
     t: Tally,
 ) -> Ran
     requires { ⌜ Running l (now nodes) (now edges) (now journal) (t .records) ⌝ }
-    requires { ⌜ Runnable (now image) × (t .fuel + t .steps ≤ 1000000) ⌝ }
+    requires { ⌜ Runnable (now image) × (t .fuel + t .steps ≤ mostFuel) ⌝ }
     ensures { λ r. ⌜ RunsProgram l (now (image .entry)) (now (nodes .entry)) (now (edges .entry)) (now (journal .entry)) t r (now (nodes .exit)) (now (edges .exit)) (now (journal .exit)) ⌝ }
 {
     let tag = parts::main_tag(image);

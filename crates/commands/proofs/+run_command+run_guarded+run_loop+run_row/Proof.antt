@@ -24,7 +24,6 @@ use Rattle.commands.proofs.+run_command+run_guarded+run_loop+run_row.Lt
 use Rattle.commands.proofs.run_row.Reads as run-row
 use Rattle.commands.proofs.run_row.Kinds as run-row-kinds
 use Rattle.commands.proofs.+run_command+run_guarded+run_loop+run_row.Lts-run_row as run-row-lts
-use Rattle.calling.proofs.call.Reads as call-reads
 use Rattle.ends.proofs.close.Reads as close-reads
 use Rattle.ends.proofs.goes_on.Reads as goes-on-reads
 use Rattle.ends.proofs.kind_of.Reads as kind-of-reads
@@ -35,6 +34,7 @@ use Rattle.fields.proofs.read_field.Reads as read-field-reads
 use Rattle.parts.proofs.nth_part.Reads as nth-part-reads
 use Rattle.parts.proofs.nth_tag.Reads as nth-tag-reads
 use Rattle.tally.proofs.entered.Reads as entered-reads
+use Rattle.commands.proofs.run_set.Reads as run-set-reads
 use Rattle.commands.proofs.+run_command+run_guarded+run_loop+run_row.{statement}
 use Rattle.commands.proofs.+run_command+run_guarded+run_loop+run_row.Tie.{close}
 
@@ -80,7 +80,7 @@ abbrev run-row-below : ℕ → In 5 run-row-kinds.ps
 run-row-below t = and 5 run-row-kinds.ps (falls 5 run-row-kinds.ps _<_ μ-run-row t) run-row.Pre
 
 abbrev run-command-claims : ℕ → run-command-lts.Claims
-run-command-claims t = (entered-reads.Asked, entered-reads.Learnt, kind-of-reads.Asked, kind-of-reads.Learnt, call-reads.Asked, call-reads.Learnt, run-row-below t, run-row.Post, run-guarded-below t, run-guarded.Post, run-loop-below t, run-loop.Post)
+run-command-claims t = (entered-reads.Asked, entered-reads.Learnt, kind-of-reads.Asked, kind-of-reads.Learnt, run-set-reads.Asked, run-set-reads.Learnt, run-row-below t, run-row.Post, run-guarded-below t, run-guarded.Post, run-loop-below t, run-loop.Post)
 
 abbrev run-guarded-claims : ℕ → run-guarded-lts.Claims
 run-guarded-claims t = (nth-part-reads.Asked, nth-part-reads.Learnt, nth-tag-reads.Asked, nth-tag-reads.Learnt, run-command-below t, run-command.Post, part-after-reads.Asked, part-after-reads.Learnt, settle-reads.Asked, settle-reads.Learnt)
@@ -103,8 +103,8 @@ run-command-kind-of-requires t c κs = search needs
 run-command-enum-told : (t : ℕ) → run-command-lts.Need-enum-told (run-command-claims t) (run-command-at t) run-command.Post
 run-command-enum-told t c = search needs
 
-run-command-call-requires : (t : ℕ) → run-command-lts.Need-call-requires (run-command-claims t) (run-command-at t) run-command.Post
-run-command-call-requires t c κs = (begun-spent _ (c .before .before .before .before .before .before .entered .ensures) (c .before .before .before .before .before .before .before .if1 .left) (c .before .before .before .before .before .before .before .before .before .before .before .before .before .pre .1 .0) .running, listed (c .before .before .before .before .before .before .before .before .before .before .before .before .before .pre .1 .1) (is-kind (c .before .before .before .before .before .before .before .before .before .before .before .before .before .pre .1 .1) (c .before .before .before .before .before .kind-of .ensures) RuleSet (c .before .before .before .enum-told .given .1)))
+run-command-run-set-requires : (t : ℕ) → run-command-lts.Need-run-set-requires (run-command-claims t) (run-command-at t) run-command.Post
+run-command-run-set-requires t c κs = (c .before .before .before .before .before .before .before .before .before .before .before .before .before .pre .1 .0, rw (is-kind (c .before .before .before .before .before .before .before .before .before .before .before .before .before .pre .1 .1) (c .before .before .before .before .before .kind-of .ensures) RuleSet (c .before .before .before .enum-told .given .1)) at (c .before .before .before .before .before .before .before .before .before .before .before .before .before .pre .1 .1))
 
 run-command-enum-told-2 : (t : ℕ) → run-command-lts.Need-enum-told-2 (run-command-claims t) (run-command-at t) run-command.Post
 run-command-enum-told-2 t c = search needs
@@ -137,7 +137,7 @@ run-command-same-length-3 : (t : ℕ) → run-command-lts.Need-same-length-3 (ru
 run-command-same-length-3 t c = search needs
 
 run-command-returns-2 : (t : ℕ) → run-command-lts.Need-returns-2 (run-command-claims t) (run-command-at t) run-command.Post
-run-command-returns-2 t c = paid-call _ (c .before .before .before .before .before .before .before .before .before .before .before .before .before .entered .ensures) (c .before .before .before .before .before .before .before .before .before .before .before .before .before .before .if1 .left) (is-kind (c .before .before .before .before .before .before .before .before .before .before .before .before .before .before .before .before .before .before .before .before .pre .1 .1) (c .before .before .before .before .before .before .before .before .before .before .before .before .kind-of .ensures) RuleSet (c .before .before .before .before .before .before .before .before .before .before .enum-told .given .1)) (c .before .before .before .before .before .before .call .ensures)
+run-command-returns-2 t c = rw (sym (is-kind (c .before .before .before .before .before .before .before .before .before .before .before .before .before .before .before .before .before .before .before .before .pre .1 .1) (c .before .before .before .before .before .before .before .before .before .before .before .before .kind-of .ensures) RuleSet (c .before .before .before .before .before .before .before .before .before .before .enum-told .given .1))) at (c .before .before .before .before .before .before .run-set .ensures)
 
 run-command-same-length-4 : (t : ℕ) → run-command-lts.Need-same-length-4 (run-command-claims t) (run-command-at t) run-command.Post
 run-command-same-length-4 t c = search needs
@@ -354,7 +354,7 @@ pub +run-command+run-guarded+run-loop+run-row-spec : {M : Type 1} → statement 
     (run-command-entered-requires t)
     (run-command-kind-of-requires t)
     (run-command-enum-told t)
-    (run-command-call-requires t)
+    (run-command-run-set-requires t)
     (run-command-enum-told-2 t)
     (run-command-run-row-requires t)
     (run-command-enum-known-kind t)
