@@ -4,20 +4,10 @@ ghost use lib.ListN.{length};
 ghost use Rattle.meaning.specs.Basics.{every};
 ghost use Rattle.meaning.specs.Layout.{Sized, keepsNode, keepsEdge, keepsLayout, isEdgeMark, readNodes, nodeLength, edgeLength, cut};
 use meaning::Layout;
+use meaning::tags::Mark;
 use slots::held;
 use slots::held::Place;
 use slots::held::SlotState;
-
-// The marks at the ends of their ranges: blue is the last that nodes and edges share, grey is for nodes, dashed for edges.
-pub struct Mark {}
-
-impl Mark {
-    pub const BLUE: u8 = 3;
-
-    pub const GREY: u8 = 4;
-
-    pub const DASHED: u8 = 5;
-}
 
 fn keeps_node(l: Layout, b: &[u8]) -> bool
     requires { ⌜ Sized l ⌝ }

@@ -13,7 +13,7 @@ use lib.ListN.{length, drop, getD, length-drop, drop-of-length-le}
 use lib.Seq.{drop-cons, drop-drop}
 use Rattle.meaning.specs.Basics.{both, either, every, isEmpty, isSome, _>>=_}
 use Rattle.meaning.specs.Layout.{isNodeMark, isEdgeMark}
-use Rattle.meaning.specs.Tags.{constantTag, variableTag, sumTag, differenceTag, edgeTestTag, inDegreeTag, outDegreeTag, relationTag, equalRelation, lessRelation, anyMark}
+use Rattle.meaning.specs.Tags.{constantTag, variableTag, sumTag, differenceTag, edgeTestTag, inDegreeTag, outDegreeTag, relationTag, equalRelation, lessRelation, blueMark, greyMark, dashedMark, anyMark}
 use Rattle.meaning.specs.Image.{Command, limits, only, anyTag, operand, twoOperands, element, label, ruleNode, ruleEdge, condition, test, isType, types, leaf, command}
 use Rattle.meaning.specs.Laws.Tests.{both-no, both-yes, both-true}
 use Rattle.fields.specs.Image.{isSome-no, isSome-after, first-at, operand-constant, operand-variable, operand-other, element-constant, element-variable, element-sum, element-difference, element-other, ruleNode-ok, ruleEdge-ok, related-ok, condition-edge, condition-in, condition-out, condition-relation, test-ok, types-ok, leaf-ok, command-no-depth}
@@ -28,26 +28,28 @@ failed o e = sym (isSome-no o e)
 -- Marks: all up to any, but one.
 
 module _ (m : ℕ) where
-  node-mark : both (not (eqb m 5)) (leb m anyMark) ≡ either (isNodeMark m) (eqb m anyMark)
+  node-mark : both (not (eqb m dashedMark)) (leb m anyMark) ≡ either (isNodeMark m) (eqb m anyMark)
   unfolding both either isNodeMark
-  node-mark = at (decLt m 5) (ℕ-discrete m 5) (ℕ-discrete m 6)
+  node-mark = at (decLt m dashedMark) (ℕ-discrete m dashedMark) (ℕ-discrete m anyMark)
     where
-      at : Dec (m < 5) → Dec (m ≡ 5) → Dec (m ≡ 6) → both (not (eqb m 5)) (leb m 6) ≡ either (leb m 4) (eqb m 6)
-      at (yes l) d e = rw (ne-eqb m 5 (λ q. omega arith), le-leb m 6 (omega arith), le-leb m 4 (omega arith))
+      at : Dec (m < dashedMark) → Dec (m ≡ dashedMark) → Dec (m ≡ anyMark)
+          → both (not (eqb m dashedMark)) (leb m anyMark) ≡ either (leb m greyMark) (eqb m anyMark)
+      at (yes l) d e = rw (ne-eqb m dashedMark (λ q. omega arith), le-leb m anyMark (omega arith), le-leb m greyMark (omega arith))
       at (no l) (yes d) e = rw d
       at (no l) (no d) (yes e) = rw e
-      at (no l) (no d) (no e) = rw (ne-eqb m 5 d, lt-leb m 6 (omega arith), lt-leb m 4 (omega arith), ne-eqb m 6 e)
+      at (no l) (no d) (no e) = rw (ne-eqb m dashedMark d, lt-leb m anyMark (omega arith), lt-leb m greyMark (omega arith), ne-eqb m anyMark e)
 
-  edge-mark : both (not (eqb m 4)) (leb m anyMark) ≡ either (isEdgeMark m) (eqb m anyMark)
+  edge-mark : both (not (eqb m greyMark)) (leb m anyMark) ≡ either (isEdgeMark m) (eqb m anyMark)
   unfolding both either isEdgeMark
-  edge-mark = at (decLt m 4) (ℕ-discrete m 4) (ℕ-discrete m 5) (ℕ-discrete m 6)
+  edge-mark = at (decLt m greyMark) (ℕ-discrete m greyMark) (ℕ-discrete m dashedMark) (ℕ-discrete m anyMark)
     where
-      at : Dec (m < 4) → Dec (m ≡ 4) → Dec (m ≡ 5) → Dec (m ≡ 6) → both (not (eqb m 4)) (leb m 6) ≡ either (either (leb m 3) (eqb m 5)) (eqb m 6)
-      at (yes l) d e f = rw (ne-eqb m 4 (λ q. omega arith), le-leb m 6 (omega arith), le-leb m 3 (omega arith))
+      at : Dec (m < greyMark) → Dec (m ≡ greyMark) → Dec (m ≡ dashedMark) → Dec (m ≡ anyMark)
+          → both (not (eqb m greyMark)) (leb m anyMark) ≡ either (either (leb m blueMark) (eqb m dashedMark)) (eqb m anyMark)
+      at (yes l) d e f = rw (ne-eqb m greyMark (λ q. omega arith), le-leb m anyMark (omega arith), le-leb m blueMark (omega arith))
       at (no l) (yes d) e f = rw d
       at (no l) (no d) (yes e) f = rw e
       at (no l) (no d) (no e) (yes f) = rw f
-      at (no l) (no d) (no e) (no f) = rw (ne-eqb m 4 d, lt-leb m 6 (omega arith), lt-leb m 3 (omega arith), ne-eqb m 5 e, ne-eqb m 6 f)
+      at (no l) (no d) (no e) (no f) = rw (ne-eqb m greyMark d, lt-leb m anyMark (omega arith), lt-leb m blueMark (omega arith), ne-eqb m dashedMark e, ne-eqb m anyMark f)
 
 -- Nodes and edges.
 
@@ -55,7 +57,7 @@ module _ (bs : List ℕ) where
   pub node-short : length bs < 2 → false ≡ isSome (ruleNode bs)
   node-short h = sym (ruleNode-ok bs ∙ both-no _ _ (lt-leb 2 _ h))
 
-  module _ (l : 2 ≤ length bs) {r : Bool} (q : r ≡ both (not (eqb (getD bs 0 0) 5)) (leb (getD bs 0 0) anyMark)) where
+  module _ (l : 2 ≤ length bs) {r : Bool} (q : r ≡ both (not (eqb (getD bs 0 0) dashedMark)) (leb (getD bs 0 0) anyMark)) where
     node-parts : isSome (ruleNode bs) ≡ both r (both (leb (getD bs 1 0) 1) (isSome (label (drop 2 bs))))
     node-parts = ruleNode-ok bs ∙ both-yes _ _ (le-leb 2 _ l) ∙ ap₂ both (sym (q ∙ node-mark (getD bs 0 0))) refl
 
@@ -71,7 +73,7 @@ module _ (bs : List ℕ) where
   pub edge-short : length bs < 3 → false ≡ isSome (ruleEdge bs)
   edge-short h = sym (ruleEdge-ok bs ∙ both-no _ _ (lt-leb 3 _ h))
 
-  module _ (l : 3 ≤ length bs) {r : Bool} (q : r ≡ both (not (eqb (getD bs 0 0) 4)) (leb (getD bs 0 0) anyMark)) where
+  module _ (l : 3 ≤ length bs) {r : Bool} (q : r ≡ both (not (eqb (getD bs 0 0) greyMark)) (leb (getD bs 0 0) anyMark)) where
     edge-parts : isSome (ruleEdge bs) ≡ both r (isSome (label (drop 3 bs)))
     edge-parts = ruleEdge-ok bs ∙ both-yes _ _ (le-leb 3 _ l) ∙ ap₂ both (sym (q ∙ edge-mark (getD bs 0 0))) refl
 

@@ -187,7 +187,7 @@ element tag bs =
 unfoldable pub label : List ℕ → Option (List Element)
 label bs = only anyTag element (limits .elements) bs
 
--- Graphs. Mark 6, any, is legal in form on nodes and edges.
+-- Graphs. Mark any is legal in form on nodes and edges.
 
 unfoldable pub ruleNode : List ℕ → Option RuleNode
 ruleNode bs = do

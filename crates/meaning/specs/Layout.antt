@@ -1,5 +1,5 @@
 -- Host tables and journal: slots and records, the bytes that they are laid out in, and the test that a host keeps the layout.
--- Nothing outside this file knows the size of a slot in bytes. Rests on Basics and Numbers.
+-- Nothing outside this file knows the size of a slot in bytes. Rests on Basics, Numbers and, for marks, Tags.
 use mathlib.Core.Bool.{Bool, true, false}
 use mathlib.Core.List.{List, [], _∷_, _++_, map}
 use mathlib.Core.Path.{_≡_}
@@ -8,6 +8,7 @@ use lib.ListN.{length, getD, set, take, drop, replicate}
 use lib.Dec.{eqb, leb, ltb}
 use Rattle.meaning.specs.Basics.{choose, both, either, clauses, every, zeros, concat, padded}
 use Rattle.meaning.specs.Numbers.{number, bytes}
+use Rattle.meaning.specs.Tags.{blueMark, greyMark, dashedMark}
 use Rattle.meaning.specs.declared.Layout.{Layout}
 
 -- Slots. An atom is its 32-bit word, a label a list of atoms.
@@ -58,13 +59,13 @@ unfoldable pub undone : {A B : Type 0} → List (Change A B) → Tables A B → 
 undone [] t = t
 undone (c ∷ cs) t = undone cs (put c t)
 
--- Marks: 0 none, 1 red, 2 green, 3 blue, 4 grey (nodes only), 5 dashed (edges only).
+-- Marks: those up to grey for nodes; those up to blue, and dashed, for edges.
 
 unfoldable pub isNodeMark : ℕ → Bool
-isNodeMark m = leb m 4
+isNodeMark m = leb m greyMark
 
 unfoldable pub isEdgeMark : ℕ → Bool
-isEdgeMark m = either (leb m 3) (eqb m 5)
+isEdgeMark m = either (leb m blueMark) (eqb m dashedMark)
 
 -- Places of a slot's bytes. Behind the four of its head an edge has its ends, then both have the atoms.
 

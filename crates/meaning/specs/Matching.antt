@@ -11,7 +11,7 @@ use Rattle.meaning.specs.Basics.{choose, both, either, any, count, every
 use Rattle.meaning.specs.Numbers.{less}
 use Rattle.meaning.specs.Layout.{Slot, free, live, Node, Edge, Host, liveAt}
 use Rattle.meaning.specs.Image.{RuleNode, RuleEdge, Rule}
-use Rattle.meaning.specs.Tags.{anyMark}
+use Rattle.meaning.specs.Tags.{noneMark, anyMark}
 use Rattle.meaning.specs.References.{isInt}
 use Rattle.meaning.specs.declared.Operand.{Operand}
 use Rattle.meaning.specs.declared.Operand.the-variants.{Constant as constantOperand, Variable as variableOperand}
@@ -24,11 +24,11 @@ use Rattle.meaning.specs.declared.Test.{Test}
 -- The host's nodes and edges by slot number. A slot that is free or not there has nothing.
 
 unfoldable pub nodeIn : Slot Node → Node
-nodeIn free = record { mark = 0; root = 0; label = [] }
+nodeIn free = record { mark = noneMark; root = 0; label = [] }
 nodeIn (live n) = n
 
 unfoldable pub edgeIn : Slot Edge → Edge
-edgeIn free = record { mark = 0; source = 0; target = 0; label = [] }
+edgeIn free = record { mark = noneMark; source = 0; target = 0; label = [] }
 edgeIn (live e) = e
 
 abbrev pub nodeAt : Host → ℕ → Node
@@ -40,10 +40,10 @@ edgeAt h x = edgeIn (getD (h .edges) x free)
 -- A rule's left items by number, and their slots in a placement p: node slots in left order, then edge slots.
 
 abbrev pub leftNode : Rule → ℕ → RuleNode
-leftNode r i = getD (r .left .nodes) i (record { mark = 0; root = 0; label = [] })
+leftNode r i = getD (r .left .nodes) i (record { mark = noneMark; root = 0; label = [] })
 
 abbrev pub leftEdge : Rule → ℕ → RuleEdge
-leftEdge r k = getD (r .left .edges) k (record { mark = 0; source = 0; target = 0; label = [] })
+leftEdge r k = getD (r .left .edges) k (record { mark = noneMark; source = 0; target = 0; label = [] })
 
 abbrev pub leftNodes : Rule → ℕ
 leftNodes r = length (r .left .nodes)

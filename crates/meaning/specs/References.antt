@@ -6,7 +6,7 @@ use Prim.Native.Nat.{ℕ, zero, suc}
 use lib.ListN.{length, getD, drop}
 use lib.Dec.{eqb, leb, ltb}
 use Rattle.meaning.specs.Basics.{choose, both, either, clauses, all, every, absent, concat}
-use Rattle.meaning.specs.Tags.{intType, listType, anyMark}
+use Rattle.meaning.specs.Tags.{intType, listType, noneMark, anyMark}
 use Rattle.meaning.specs.Image.{RuleNode, RuleEdge, RuleGraph, Rule, Program, Command, ruleSet, sequence, guarded, loop, skip, fail, break, Commands, stop, then}
 use Rattle.meaning.specs.declared.Operand.{Operand}
 use Rattle.meaning.specs.declared.Operand.the-variants.{Constant as constantOperand, Variable as variableOperand}
@@ -136,7 +136,7 @@ anyKept r j =
     either (not (eqb (markAt (r .right) j) anyMark)) (both (ltb j (r .interface)) (eqb (markAt (r .left) j) anyMark))
   where
     markAt : RuleGraph → ℕ → ℕ
-    markAt g i = getD (map (λ n. n .mark) (g .nodes)) i 0
+    markAt g i = getD (map (λ n. n .mark) (g .nodes)) i noneMark
 
 -- mark any on the right stands only on such nodes
 unfoldable pub anyPlaced : Rule → Bool

@@ -83,7 +83,7 @@ failTag = 0x56
 abbrev pub breakTag : ℕ
 breakTag = 0x57
 
--- The types of variables, the relations of a relation test, and the mark that agrees with every mark.
+-- The types of variables, and the relations of a relation test.
 
 abbrev pub intType : ℕ
 intType = 1
@@ -96,6 +96,26 @@ equalRelation = 1
 
 abbrev pub lessRelation : ℕ
 lessRelation = 2
+
+-- Marks: grey is for nodes only, dashed for edges only; any, in rules alone, agrees with every mark.
+
+abbrev pub noneMark : ℕ
+noneMark = 0
+
+abbrev pub redMark : ℕ
+redMark = 1
+
+abbrev pub greenMark : ℕ
+greenMark = 2
+
+abbrev pub blueMark : ℕ
+blueMark = 3
+
+abbrev pub greyMark : ℕ
+greyMark = 4
+
+abbrev pub dashedMark : ℕ
+dashedMark = 5
 
 abbrev pub anyMark : ℕ
 anyMark = 6

@@ -1,5 +1,5 @@
-// The numbers that stand in an image, by name: its tags, the other bytes that stand for a word, and its limits. specs/Tags and
-// `limits` in specs/Image have the same for definitions.
+// The numbers that stand in an image, by name: its tags, the other bytes that stand for a word, and its limits; marks stand in
+// tables too. specs/Tags and `limits` in specs/Image have the same for definitions.
 pub struct Tag {}
 
 impl Tag {
@@ -75,10 +75,18 @@ impl Relation {
     pub const LESS: u8 = 2;
 }
 
-// Marks that have a rule of their own: no node is dashed and no edge grey, and any agrees with every mark.
+// Marks: no edge is grey and no node dashed, and any, which no host item has, agrees with every mark.
 pub struct Mark {}
 
 impl Mark {
+    pub const NONE: u8 = 0;
+
+    pub const RED: u8 = 1;
+
+    pub const GREEN: u8 = 2;
+
+    pub const BLUE: u8 = 3;
+
     pub const GREY: u8 = 4;
 
     pub const DASHED: u8 = 5;

@@ -7,6 +7,7 @@ use native.Mathlib.Omega.{arith}
 use lib.ListN.{length, getD, take, drop, length-take, drop-of-length-le, List·getD-eq-default}
 use lib.Seq.{drop-cons, getD-take}
 use Rattle.meaning.specs.Numbers.{half, whole}
+use Rattle.meaning.specs.Tags.{anyMark}
 use Rattle.meaning.specs.Laws.Tests.{choose-lt, choose-le, choose-eq, choose-ne}
 use Rattle.writing.specs.Words.{letters, lineFeed, space, minus, decimal, signed, markName, rootName, wordDigits, atomSize, markSize, rootSize}
 use Rattle.writing.specs.Lines.{onward}
@@ -31,7 +32,7 @@ module _ {before after : List ℕ} {at end : ℕ} where
   unfolding rootName
   root-root root e a = rw (choose-ne root 0 (letters "plain") (letters "root") e) (within 5 rootSize (omega arith) a)
 
-pub mark-none : (mark : ℕ) → 6 ≤ mark → markName mark ≡ []
+pub mark-none : (mark : ℕ) → anyMark ≤ mark → markName mark ≡ []
 unfolding markName
 mark-none mark h =
     List·getD-eq-default (letters "none" ∷ letters "red" ∷ letters "green" ∷ letters "blue" ∷ letters "grey" ∷ letters "dashed" ∷ []) [] h

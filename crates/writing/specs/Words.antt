@@ -42,6 +42,7 @@ decimal n = digits (suc n) n
 unfoldable pub signed : ℕ → List ℕ
 signed w = choose (ltb w half) (decimal w) (minus ∷ decimal (whole - w))
 
+-- a mark of a host, in the order of their numbers
 unfoldable pub markName : ℕ → List ℕ
 markName m = getD (letters "none" ∷ letters "red" ∷ letters "green" ∷ letters "blue" ∷ letters "grey" ∷ letters "dashed" ∷ []) m []
 
