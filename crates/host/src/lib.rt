@@ -2,32 +2,25 @@
 ghost use mathlib.Core.Path.{_≡_};
 ghost use lib.ListN.{length};
 ghost use Rattle.meaning.specs.Basics.{every};
-ghost use Rattle.meaning.specs.Layout.{Sized, keepsNode, keepsEdge, keepsLayout, isEdgeMark, readNodes, nodeLength, edgeLength, cut};
+ghost use Rattle.meaning.specs.Layout.{Sized, keepsNode, keepsEdge, keepsLayout, isEdgeMark, liveAt, readNodes, nodeLength, edgeLength, cut};
+ghost use Rattle.host.specs.Tables.{slotLength, keepsSlot, Filled};
 use meaning::Layout;
+use meaning::Table;
 use meaning::tags::Mark;
 use slots::held;
 use slots::held::Place;
 use slots::held::SlotState;
 
+// The rest of the test of a live node's slot whose label has room.
 fn keeps_node(l: Layout, b: &[u8]) -> bool
     requires { ⌜ Sized l ⌝ }
-    requires { ⌜ length (now b) ≡ nodeLength l ⌝ }
+    requires { ⌜ (length (now b) ≡ nodeLength l) × Filled l (now b) ⌝ }
     ensures { λ r. ⌜ r ≡ keepsNode l (now (b .entry)) ⌝ }
 {
-    let state = held::state(b);
-    if state == SlotState::FREE {
-        return slots::bytes::zeros_from(b, 0);
-    }
-    if state != SlotState::LIVE {
-        return false;
-    }
     if held::mark(b) > Mark::GREY {
         return false;
     }
     if held::root(b) > 1 {
-        return false;
-    }
-    if held::atom_count(b) > l.atoms {
         return false;
     }
     held::zeros_behind(b, Place::NODE_ATOMS)
@@ -43,10 +36,40 @@ fn is_edge_mark(mark: u8) -> bool
     mark == Mark::DASHED
 }
 
+// Whether node slot i, an edge's end, is there and live.
+fn is_end(l: Layout, nodes: &[u8], i: usize) -> bool
+    requires { ⌜ Sized l ⌝ }
+    ensures { λ r. ⌜ r ≡ liveAt (readNodes l (now (nodes .entry))) i ⌝ }
+{
+    slots::live_slot(nodes, l.node, i)
+}
+
+// The rest of the test of a live edge's slot whose label has room.
 fn keeps_edge(l: Layout, nodes: &[u8], b: &[u8]) -> bool
     requires { ⌜ Sized l ⌝ }
-    requires { ⌜ length (now b) ≡ edgeLength l ⌝ }
+    requires { ⌜ (length (now b) ≡ edgeLength l) × Filled l (now b) ⌝ }
     ensures { λ r. ⌜ r ≡ keepsEdge l (readNodes l (now (nodes .entry))) (now (b .entry)) ⌝ }
+{
+    if !is_edge_mark(held::mark(b)) {
+        return false;
+    }
+    if held::root(b) != 0 {
+        return false;
+    }
+    if !is_end(l, nodes, held::source(l, b)) {
+        return false;
+    }
+    if !is_end(l, nodes, held::target(l, b)) {
+        return false;
+    }
+    held::zeros_behind(b, held::edge_atoms(l))
+}
+
+// Whether a slot of a table keeps the layout: what nodes and edges have in common, then the rest.
+fn keeps_slot(l: Layout, nodes: &[u8], which: Table, b: &[u8]) -> bool
+    requires { ⌜ Sized l ⌝ }
+    requires { ⌜ length (now b) ≡ slotLength l which ⌝ }
+    ensures { λ r. ⌜ r ≡ keepsSlot l (readNodes l (now (nodes .entry))) which (now (b .entry)) ⌝ }
 {
     let state = held::state(b);
     if state == SlotState::FREE {
@@ -55,50 +78,36 @@ fn keeps_edge(l: Layout, nodes: &[u8], b: &[u8]) -> bool
     if state != SlotState::LIVE {
         return false;
     }
-    if !is_edge_mark(held::mark(b)) {
-        return false;
-    }
-    if held::root(b) != 0 {
-        return false;
-    }
     if held::atom_count(b) > l.atoms {
         return false;
     }
-    if !slots::live_slot(nodes, l.node, held::source(l, b)) {
-        return false;
+    match which {
+        Table::Nodes => keeps_node(l, b),
+        Table::Edges => keeps_edge(l, nodes, b),
     }
-    if !slots::live_slot(nodes, l.node, held::target(l, b)) {
-        return false;
-    }
-    held::zeros_behind(b, held::edge_atoms(l))
 }
 
-fn keep_nodes(l: Layout, nodes: &[u8]) -> bool
+// The bytes of a slot of a table.
+fn slot_length(l: Layout, which: Table) -> usize
     requires { ⌜ Sized l ⌝ }
-    ensures { λ r. ⌜ r ≡ every (keepsNode l) (cut (nodeLength l) (now (nodes .entry))) ⌝ }
+    ensures { λ r. ⌜ r ≡ slotLength l which ⌝ }
 {
-    let w = l.node;
-    let n = nodes.len() / w;
-    let mut i: usize = 0;
-    while i < n {
-        if keeps_node(l, slots::slot(nodes, w, i)) {
-            i += 1;
-        } else {
-            return false;
-        }
+    match which {
+        Table::Nodes => l.node,
+        Table::Edges => l.edge,
     }
-    true
 }
 
-fn keep_edges(l: Layout, nodes: &[u8], edges: &[u8]) -> bool
+// Whether each slot of a table keeps the layout.
+fn keeps_slots(l: Layout, nodes: &[u8], which: Table, table: &[u8]) -> bool
     requires { ⌜ Sized l ⌝ }
-    ensures { λ r. ⌜ r ≡ every (keepsEdge l (readNodes l (now (nodes .entry)))) (cut (edgeLength l) (now (edges .entry))) ⌝ }
+    ensures { λ r. ⌜ r ≡ every (keepsSlot l (readNodes l (now (nodes .entry))) which) (cut (slotLength l which) (now (table .entry))) ⌝ }
 {
-    let w = l.edge;
-    let n = edges.len() / w;
+    let w = slot_length(l, which);
+    let n = table.len() / w;
     let mut i: usize = 0;
     while i < n {
-        if keeps_edge(l, nodes, slots::slot(edges, w, i)) {
+        if keeps_slot(l, nodes, which, slots::slot(table, w, i)) {
             i += 1;
         } else {
             return false;
@@ -112,8 +121,8 @@ pub fn keeps_layout(l: Layout, nodes: &[u8], edges: &[u8]) -> bool
     requires { ⌜ Sized l ⌝ }
     ensures { λ r. ⌜ r ≡ keepsLayout l (now (nodes .entry)) (now (edges .entry)) ⌝ }
 {
-    if keep_nodes(l, nodes) {
-        return keep_edges(l, nodes, edges);
+    if keeps_slots(l, nodes, Table::Nodes, nodes) {
+        return keeps_slots(l, nodes, Table::Edges, edges);
     }
     false
 }

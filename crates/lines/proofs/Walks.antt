@@ -11,10 +11,10 @@ use lib.Seq.{drop-cons, drop-length}
 use Rattle.meaning.specs.Layout.{Slot, free, live, isLive, Node, Edge, readNodes, readEdges}
 use Rattle.meaning.specs.Matching.{nodeIn, edgeIn}
 use Rattle.meaning.specs.declared.Layout.{Layout}
+use Rattle.meaning.specs.declared.Table.{Table}
+use Rattle.meaning.specs.declared.Table.the-variants.{Nodes, Edges}
 use Rattle.lines.specs.Lines.{nodeLine, edgeLine, slotLine, liveLines}
 use Rattle.lines.specs.Tables.{lineSize, slotsIn, slotText, linesFrom}
-use Rattle.lines.specs.declared.Table.{Table}
-use Rattle.lines.specs.declared.Table.the-variants.{Nodes, Edges}
 
 -- The line of a slot.
 

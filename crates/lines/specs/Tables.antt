@@ -4,10 +4,10 @@ use Prim.Native.Nat.{ℕ}
 use lib.ListN.{length, getD, drop}
 use Rattle.meaning.specs.Layout.{free, readNodes, readEdges}
 use Rattle.meaning.specs.declared.Layout.{Layout}
+use Rattle.meaning.specs.declared.Table.{Table}
+use Rattle.meaning.specs.declared.Table.the-variants.{Nodes, Edges}
 use Rattle.lines.specs.Lines.{nodeLine, edgeLine, slotLine, liveLines}
 use Rattle.lines.specs.Rooms.{nodeSize, edgeSize}
-use Rattle.lines.specs.declared.Table.{Table}
-use Rattle.lines.specs.declared.Table.the-variants.{Nodes, Edges}
 
 -- the most bytes of a slot's line
 abbrev pub lineSize : Table → ℕ

@@ -10,6 +10,7 @@ ghost use Rattle.lines.specs.Lines.{reportSize, answerLine, nodeLine, ed
 ghost use Rattle.lines.specs.Tables.{lineSize, slotsIn, slotText, linesFrom};
 ghost use Rattle.lines.specs.Rooms.{answerSize, nodeSize, edgeSize, listingRoom, Ready};
 use meaning::Layout;
+use meaning::Table;
 use writing::put;
 use writing::put_label;
 use writing::put_mark;
@@ -73,12 +74,6 @@ fn put_edge(l: Layout, nodes: &[u8], edges: &[u8], x: usize, out: &mut [u8], at:
         return put_label(out, e, label);
     }
     at
-}
-
-// A table of a host.
-pub enum Table {
-    Nodes,
-    Edges,
 }
 
 // How many slots a table has.

@@ -109,6 +109,12 @@ impl Room {
     pub const ATOMS: usize = 48;
 }
 
+// A table of a host.
+pub enum Table {
+    Nodes,
+    Edges,
+}
+
 // The kinds of table: the bytes of a slot and the most slots.
 pub struct NodeTable {}
 
