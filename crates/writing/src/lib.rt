@@ -8,6 +8,7 @@ ghost use Rattle.writing.specs.Words.{space, decimal, signed, markName, 
 ghost use Rattle.writing.specs.Lines.{onward};
 ghost use Rattle.writing.specs.Text.{Adds};
 use labels::Label;
+use meaning::tags::Mark;
 
 // Decimal numbers: the most digits of one of eight bytes.
 pub struct Digits {}
@@ -76,25 +77,15 @@ pub fn put_mark(out: &mut [u8], at: usize, mark: u8) -> usize
     requires { ⌜ at + markSize ≤ length (now out) ⌝ }
     ensures { λ r. ⌜ Adds markSize (space ∷ markName mark) (now (out .entry)) at (now (out .exit)) r ⌝ }
 {
-    if mark == 0 {
-        return put(out, at, b" none");
+    match mark {
+        Mark::NONE => put(out, at, b" none"),
+        Mark::RED => put(out, at, b" red"),
+        Mark::GREEN => put(out, at, b" green"),
+        Mark::BLUE => put(out, at, b" blue"),
+        Mark::GREY => put(out, at, b" grey"),
+        Mark::DASHED => put(out, at, b" dashed"),
+        _ => put(out, at, b" "),
     }
-    if mark == 1 {
-        return put(out, at, b" red");
-    }
-    if mark == 2 {
-        return put(out, at, b" green");
-    }
-    if mark == 3 {
-        return put(out, at, b" blue");
-    }
-    if mark == 4 {
-        return put(out, at, b" grey");
-    }
-    if mark == 5 {
-        return put(out, at, b" dashed");
-    }
-    put(out, at, b" ")
 }
 
 // Whether a node is a root.
