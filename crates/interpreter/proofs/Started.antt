@@ -12,7 +12,7 @@ use Rattle.meaning.specs.Basics.{choose, concat, padded}
 use Rattle.meaning.specs.Layout.{recordLength, fitsTable, pieces, readNodes, readEdges, writeNodes, writeEdges, writeRecord}
 use Rattle.meaning.specs.Applying.{Ledger}
 use Rattle.meaning.specs.Commands.{Out, exec}
-use Rattle.meaning.specs.Calls.{answerNumber, refusalNumber, reportOf, refused, runRefusal, journalRoom, givenBack, finished, run, lending, Leaves}
+use Rattle.meaning.specs.Calls.{answerNumber, refusalNumber, reportOf, mostFuel, refused, runRefusal, journalRoom, givenBack, finished, run, lending, Leaves}
 use Rattle.laws.specs.Numbers.{Bytes}
 use Rattle.laws.specs.Calls.{Accepted, accepted, run-refused, run-started, starting, ending}
 use Rattle.laws.specs.Commands.{exec-from}
@@ -77,7 +77,7 @@ module _ (L : Layout) (nodes edges journal image : List ℕ) (fuel : ℕ) (repor
           exist = input .references;
         }
 
-    pub fuel-fits : fuel + 0 ≤ 1000000
+    pub fuel-fits : fuel + 0 ≤ mostFuel
     fuel-fits = omega (arith, input .fuelFits)
 
     -- What the program did.

@@ -1,5 +1,6 @@
 // The numbers that stand in an image, by name: its tags, the other bytes that stand for a word, and its limits; marks stand in
-// tables too. specs/Tags and `limits` in specs/Image have the same for definitions.
+// tables too, and one limit is of fuel. specs/Tags, `limits` in specs/Image and `mostFuel` in specs/Calls have the same for
+// definitions.
 pub struct Tag {}
 
 impl Tag {
@@ -94,7 +95,7 @@ impl Mark {
     pub const ANY: u8 = 6;
 }
 
-// The limits of an image.
+// The limits of an image, and of the fuel of a run.
 pub struct Limit {}
 
 impl Limit {
@@ -117,4 +118,6 @@ impl Limit {
     pub const COMMANDS: usize = 16;
 
     pub const DEPTH: usize = 16;
+
+    pub const FUEL: u32 = 1000000;
 }

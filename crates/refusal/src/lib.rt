@@ -56,7 +56,7 @@ pub fn length_check(
     match fit {
         Checked::Refused(w) => fit,
         Checked::Fine => {
-            if fuel > 1000000 {
+            if fuel > Limit::FUEL {
                 return Checked::Refused(Refusal::TooMuchFuel);
             }
             if image.len() > Limit::BYTES {

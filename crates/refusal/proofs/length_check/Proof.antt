@@ -5,7 +5,8 @@ use borrow.Author.Needs.{needs}
 use borrow.Author.Tests.{le-leb, lt-leb}
 use lib.ListN.{length}
 use Rattle.answers.specs.Answers.{refusalOf}
-use Rattle.meaning.specs.Calls.{runRefusal}
+use Rattle.meaning.specs.Image.{limits}
+use Rattle.meaning.specs.Calls.{mostFuel}
 use Rattle.meaning.specs.Laws.Checks.{first-no, first-yes, first-none, behind-fine, behind-refused}
 use Rattle.refusal.proofs.length_check.Statement.{statement}
 use Rattle.refusal.proofs.length_check.Tie as tie
@@ -21,11 +22,11 @@ enum-told c = search needs
 
 returns : tie.Need-returns
 unfolding refusalOf
-returns c = sym (behind-fine _ _ (sym (c .before .before .before .lengths .ensures) ∙ ap refusalOf (c .before .enum-told .given .1)) ∙ first-no _ _ _ (lt-leb (c .before .before .before .before .before .before .before .before .before .args .fuel) 1000000 (omega arith)))
+returns c = sym (behind-fine _ _ (sym (c .before .before .before .lengths .ensures) ∙ ap refusalOf (c .before .enum-told .given .1)) ∙ first-no _ _ _ (lt-leb (c .before .before .before .before .before .before .before .before .before .args .fuel) mostFuel (omega arith)))
 
 returns-2 : tie.Need-returns-2
 unfolding refusalOf
-returns-2 c = sym (behind-fine _ _ (sym (c .before .before .before .before .lengths .ensures) ∙ ap refusalOf (c .before .before .enum-told .given .1)) ∙ first-yes _ _ _ (le-leb (c .before .before .before .before .before .before .before .before .before .before .args .fuel) 1000000 (omega arith)) ∙ first-no _ _ _ (lt-leb (length (c .before .before .before .before .before .before .before .before .before .before .args .image .now)) 8192 (omega arith)))
+returns-2 c = sym (behind-fine _ _ (sym (c .before .before .before .before .lengths .ensures) ∙ ap refusalOf (c .before .before .enum-told .given .1)) ∙ first-yes _ _ _ (le-leb (c .before .before .before .before .before .before .before .before .before .before .args .fuel) mostFuel (omega arith)) ∙ first-no _ _ _ (lt-leb (length (c .before .before .before .before .before .before .before .before .before .before .args .image .now)) (limits .bytes) (omega arith)))
 
 returns-3 : tie.Need-returns-3
 unfolding refusalOf
@@ -33,7 +34,7 @@ returns-3 c = sym (behind-refused _ _ _ (sym (c .before .before .before .lengths
 
 returns-4 : tie.Need-returns-4
 unfolding refusalOf
-returns-4 c = sym (behind-fine _ _ (sym (c .before .before .before .before .lengths .ensures) ∙ ap refusalOf (c .before .before .enum-told .given .1)) ∙ first-yes _ _ _ (le-leb (c .before .before .before .before .before .before .before .before .before .before .args .fuel) 1000000 (omega arith)) ∙ first-yes _ _ _ (le-leb (length (c .before .before .before .before .before .before .before .before .before .before .args .image .now)) 8192 (omega arith)) ∙ first-none)
+returns-4 c = sym (behind-fine _ _ (sym (c .before .before .before .before .lengths .ensures) ∙ ap refusalOf (c .before .before .enum-told .given .1)) ∙ first-yes _ _ _ (le-leb (c .before .before .before .before .before .before .before .before .before .before .args .fuel) mostFuel (omega arith)) ∙ first-yes _ _ _ (le-leb (length (c .before .before .before .before .before .before .before .before .before .before .args .image .now)) (limits .bytes) (omega arith)) ∙ first-none)
 
 pub length-check-spec : {M : Type 1} → statement M
 length-check-spec =
