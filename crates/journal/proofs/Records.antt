@@ -5,12 +5,12 @@ use mathlib.Core.List.{List, [], _∷_, _++_, map, map-append, reverse-append, a
 use mathlib.Core.Bool.{Bool, true, false}
 use mathlib.Core.Logic.{_⊎_, inl, inr}
 use native.Mathlib.Omega.{arith}
-use native.Mathlib.Nat.{add-mul, mul-le-mul-right, div-mul-le-self}
+use native.Mathlib.Nat.{add-mul}
 use borrow.Author.Tests.{ne-eqb, le-leb, lt-leb}
 use borrow.Rule.Slice.PartMut.{putMid}
 use lib.Dec.{eqb, ltb}
 use lib.ListN.{length, getD, set, take, drop, replicate, length-append, length-set, length-take, length-drop, length-replicate}
-use lib.Seq.{drop-cons, drop-drop, length-take-le}
+use lib.Seq.{drop-cons, drop-drop}
 use Rattle.meaning.specs.Basics.{both, either, clauses, every, zeros, padded}
 use Rattle.meaning.specs.Numbers.{bytes}
 use Rattle.meaning.specs.Layout.{Sized, Tables, ofNode, ofEdge, put, undone, nodeLength, edgeLength, recordLength, pieces, cut, slotOf, readRecord, keepsRecord}
@@ -178,26 +178,6 @@ module _ (L : Layout) (mark : ℕ) (journal : List ℕ) where
   pub back-none : (u : ℕ) (t : Tables (List ℕ) (List ℕ)) → u ≤ mark → putBack L mark u journal t ≡ t
   unfolding putBack undone pieces
   back-none u t h = let e : u - mark ≡ 0 = omega arith in rw e
-
--- Clearing records.
-
-pub times-less : (w mark used : ℕ) → mark ≤ used → used * w ≡ mark * w + (used - mark) * w
-times-less w mark used h = ap (λ (n : ℕ). n * w) (omega arith) ∙ add-mul mark (used - mark) w
-
-pub cleared : (w mark used : ℕ) (bs : List ℕ) → mark ≤ used → used * w ≤ length bs
-    → putMid (mark * w) (used * w - mark * w) bs (replicate (length (take (used * w - mark * w) (drop (mark * w) bs))) 0)
-    ≡ take (mark * w) bs ++ replicate ((used - mark) * w) 0 ++ drop (used * w) bs
-cleared w mark used bs h k =
-    let e : used * w - mark * w ≡ (used - mark) * w = omega (arith, times-less w mark used h) in
-    let n : length (take ((used - mark) * w) (drop (mark * w) bs)) ≡ (used - mark) * w =
-    length-take-le ((used - mark) * w) (drop (mark * w) bs) (rw length-drop (omega (arith, times-less w mark used h))) in
-    rw (e, n, drop-drop ((used - mark) * w) (mark * w) bs, ← (times-less w mark used h))
-    (sym (append-assoc (take (mark * w) bs) (replicate ((used - mark) * w) 0) (drop (used * w) bs)))
-
-pub used-within : (w used n : ℕ) → used ≤ n / w → used * w ≤ n
-used-within w used n h =
-    let k : used * w ≤ n / w * w = mul-le-mul-right w h in
-    omega (arith, div-mul-le-self n w)
 
 -- The test of all counted records.
 

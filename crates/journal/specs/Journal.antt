@@ -1,10 +1,11 @@
 -- The counted records of a journal: both tables as slots with them put back, and the journal with them zeroed. Rests on the
--- meaning's Layout.
+-- meaning's Layout and on slots zeroed in a row.
 use Prim.Native.Nat.{ℕ, _-_, _*_}
-use mathlib.Core.List.{List, _++_, map, reverse}
-use lib.ListN.{take, drop, replicate}
+use mathlib.Core.List.{List, map, reverse}
+use lib.ListN.{drop}
 use Rattle.meaning.specs.Layout.{Tables, undone, nodeLength, edgeLength, recordLength, pieces, cut, readRecord}
 use Rattle.meaning.specs.declared.Layout.{Layout}
+use Rattle.slots.specs.Slots.{slotsCleared}
 
 module _ (L : Layout) where
   -- both tables as slots
@@ -21,5 +22,4 @@ module _ (L : Layout) where
 
   -- the journal with these records zeroed
   abbrev pub clearedFrom : ℕ → ℕ → List ℕ → List ℕ
-  clearedFrom mark used journal =
-      take (mark * recordLength L) journal ++ replicate ((used - mark) * recordLength L) 0 ++ drop (used * recordLength L) journal
+  clearedFrom mark used journal = slotsCleared (recordLength L) mark used journal

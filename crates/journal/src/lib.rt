@@ -161,8 +161,5 @@ pub fn undo_to(
     ensures { λ _. ⌜ (tablesOf l (now (nodes .exit)) (now (edges .exit)) ≡ putBack l mark used (now (journal .entry)) (tablesOf l (now (nodes .entry)) (now (edges .entry)))) × (now (journal .exit) ≡ clearedFrom l mark used (now (journal .entry))) ⌝ }
 {
     put_back_from(l, nodes, edges, &journal[..], used, mark);
-    let w = l.change;
-    let start = mark * w;
-    let end = used * w;
-    slots::bytes::clear(&mut journal[start..end]);
+    slots::clear_slots(journal, l.change, mark, used);
 }

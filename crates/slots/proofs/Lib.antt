@@ -1,3 +1,4 @@
 mod Loops
+mod Rows
 mod Slots
 mod Written

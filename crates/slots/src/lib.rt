@@ -7,7 +7,7 @@ ghost use lib.ListN.{length, getD, set, replicate};
 ghost use Rattle.meaning.specs.Layout.{Sized, fitsTable, live, writeNode, writeEdge, liveAt, nodeLength, edgeLength, cut};
 ghost use Rattle.meaning.specs.Applying.{lowestFree, freeSlots};
 ghost use Rattle.laws.specs.Pieces.{stored};
-ghost use Rattle.slots.specs.Slots.{states};
+ghost use Rattle.slots.specs.Slots.{states, slotsCleared};
 use meaning::Layout;
 
 pub mod bytes;
@@ -92,6 +92,16 @@ pub fn free_slot(table: &mut [u8], w: usize, i: usize)
 {
     let start = slot_start(table.len(), w, i);
     let end = start + w;
+    bytes::clear(&mut table[start..end]);
+}
+
+// Zeros the slots from one number up to another.
+pub fn clear_slots(table: &mut [u8], w: usize, from: usize, to: usize)
+    requires { ⌜ (from ≤ to) × (to ≤ length (now table) / w) ⌝ }
+    ensures { λ _. ⌜ now (table .exit) ≡ slotsCleared w from to (now (table .entry)) ⌝ }
+{
+    let start = from * w;
+    let end = to * w;
     bytes::clear(&mut table[start..end]);
 }
 
