@@ -1,7 +1,9 @@
-// Reads a runner image on standard input, and prints the listing of its run. One byte more than an image may have is read, so
+// Reads a run image on standard input, and prints the listing of its run. One byte more than an image may have is read, so
 // that a longer one is refused.
+use run_input::RunImage;
+
 fn main() {
-    let mut image = [0u8; 65537];
+    let mut image = [0u8; RunImage::READ];
     let mut out = listing::buffer();
     let n = io::read_full(0, &mut image);
     let end = listing::list_image(&image[..n], &mut out);
