@@ -66,7 +66,7 @@ module _ (x : List ℕ) (len from n : ℕ) (fits : from + n ≤ len) (there : le
   part-at : (j : ℕ) → j < n → getD (take n (drop from (take len x))) j 0 ≡ getD x (from + j) 0
   part-at j h = getD-take n _ j 0 h ∙ getD-drop from _ j 0 ∙ getD-take len x (from + j) 0 (omega arith)
 
-  pub part-same : take n (drop from x) ≡ take n (drop from (take len x))
+  part-same : take n (drop from x) ≡ take n (drop from (take len x))
   part-same =
       let d = length-drop from x in
       let k = length-take-le n (drop from x) (omega arith) in
@@ -75,40 +75,41 @@ module _ (x : List ℕ) (len from n : ℕ) (fits : from + n ≤ len) (there : le
       getD-take n (drop from x) j 0 i ∙ getD-drop from x j 0 ∙ sym (part-at j i))
 
 -- copying a part
-module _ (a : Label) (from n j : ℕ) (l : List ℕ) (h : Held a) (fits : from + n ≤ a .len) (f : Filled (take n (drop from (a .atoms))) j l) where
-  copied-length : length (take n (drop from (a .atoms))) ≡ n
+module _ (atoms : List ℕ) (from n j : ℕ) (l : List ℕ) (few : n ≤ mostAtoms) (fits : from + n ≤ length atoms) (f : Filled (take n (drop from atoms)) j l) where
+  copied-length : length (take n (drop from atoms)) ≡ n
   copied-length =
-      let w = h .few in
-      let r = h .room in
-      let d = length-drop from (a .atoms) in
-      length-take-le n (drop from (a .atoms)) (omega arith)
+      let d = length-drop from atoms in
+      length-take-le n (drop from atoms) (omega arith)
 
-  pub copied-more : j < n → Filled (take n (drop from (a .atoms))) (j + 1) (set l j (getD (a .atoms) (from + j) 0))
-  copied-more k =
-      let w = h .few in
+  pub copied-more : j < n → getD atoms (from + j) 0 < whole → Filled (take n (drop from atoms)) (j + 1) (set l j (getD atoms (from + j) 0))
+  copied-more k s =
       let e = copied-length in
-      filled-more _ l j _ f (omega arith) (omega arith) (h .small (from + j))
-      (sym (getD-take n (drop from (a .atoms)) j 0 k ∙ getD-drop from (a .atoms) j 0))
+      filled-more _ l j _ f (omega arith) (omega arith) s
+      (sym (getD-take n (drop from atoms) j 0 k ∙ getD-drop from atoms j 0))
 
-  pub copied-all : j ≡ n → Holds (take n (drop from (atomsIn a))) (record { len = n; atoms = l })
-  copied-all e =
-      let w = h .few in
-      let r = h .room in
-      rw (← (part-same (a .atoms) (a .len) from n fits (omega arith)))
-      (filled-all _ l n (rw e at f) (omega arith) (sym copied-length))
+  pub copied-all : j ≡ n → Holds (take n (drop from atoms)) (record { len = n; atoms = l })
+  copied-all e = filled-all _ l n (rw e at f) few (sym copied-length)
 
--- cutting: nothing from the end on, and what is left where that is less
+-- cutting: a part that is there, nothing from the end on, and what is left where that is less
+pub cut-part : (a r : Label) (from n : ℕ) → Held a → from + n ≤ a .len → Holds (take n (drop from (a .atoms))) r
+    → Holds (take n (drop from (atomsIn a))) r
+cut-part a r from n h fits e =
+    let w = h .few in
+    let q = h .room in
+    rw (← (part-same (a .atoms) (a .len) from n fits (omega arith))) e
+
 pub cut-none : (a r : Label) (from n : ℕ) → Held a → a .len ≤ from → Holds [] r → Holds (take n (drop from (atomsIn a))) r
 cut-none a r from n h k e =
     let i = held-length a h in
     rw (drop-of-length-le (atomsIn a) {i = from} (omega arith), take-nil {A = ℕ} n) e
 
-pub cut-rest : (a r : Label) (from n : ℕ) → Held a → a .len - from ≤ n → Holds (take (a .len - from) (drop from (atomsIn a))) r
+pub cut-rest : (a r : Label) (from n : ℕ) → Held a → from ≤ a .len → a .len - from ≤ n → Holds (take (a .len - from) (drop from (a .atoms))) r
     → Holds (take n (drop from (atomsIn a))) r
-cut-rest a r from n h k e =
+cut-rest a r from n h f k e =
     let i = held-length a h in
     let d = length-drop from (atomsIn a) in
-    rw (take-all n (drop from (atomsIn a)) (omega arith)) (rw (take-all (a .len - from) (drop from (atomsIn a)) (omega arith)) at e)
+    rw (take-all n (drop from (atomsIn a)) (omega arith))
+    (rw (take-all (a .len - from) (drop from (atomsIn a)) (omega arith)) at (cut-part a r from (a .len - from) h (omega arith) e))
 
 -- Comparing.
 

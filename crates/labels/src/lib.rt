@@ -3,10 +3,10 @@ ghost use mathlib.Core.Path.{_≡_};
 ghost use mathlib.Core.Bool.{true};
 ghost use mathlib.Core.List.{[], _∷_};
 ghost use Prim.Native.Nat.{_+_, _<_, _≤_};
-ghost use lib.ListN.{take, drop};
+ghost use lib.ListN.{length, take, drop};
 ghost use Rattle.meaning.specs.Basics.{same};
 ghost use Rattle.meaning.specs.Numbers.{height};
-ghost use Rattle.meaning.specs.Layout.{atoms};
+ghost use Rattle.meaning.specs.Layout.{mostAtoms};
 ghost use Rattle.labels.specs.Labels.{atomsIn, Held, Holds};
 
 // The most atoms of a label that there is room for, at any layout.
@@ -38,22 +38,18 @@ pub fn one(x: u32) -> Label
     }
 }
 
-// The n atoms of a label from a place on.
-fn copied(a: Label, from: usize, n: usize) -> Label
-    requires { ⌜ Held a × (from + n ≤ a .len) ⌝ }
-    ensures { λ r. ⌜ Holds (take n (drop from (atomsIn a))) r ⌝ }
+// The n atoms from a place on.
+pub fn copied(atoms: &[u32], from: usize, n: usize) -> Label
+    requires { ⌜ (n ≤ mostAtoms) × (from + n ≤ length (now atoms)) ⌝ }
+    ensures { λ r. ⌜ Holds (take n (drop from (now (atoms .entry)))) r ⌝ }
 {
-    let whole = a.atoms;
-    let mut atoms = [0u32; MOST];
+    let mut out = [0u32; MOST];
     let mut j: usize = 0;
     while j < n {
-        atoms[j] = whole[from + j];
+        out[j] = atoms[from + j];
         j += 1;
     }
-    Label {
-        len: n,
-        atoms: atoms,
-    }
+    Label { len: n, atoms: out }
 }
 
 // At most n atoms of a label from a place on.
@@ -65,11 +61,12 @@ pub fn cut(a: Label, from: usize, n: usize) -> Label
     if len <= from {
         return none();
     }
+    let atoms = a.atoms;
     let left = len - from;
     if n <= left {
-        return copied(a, from, n);
+        return copied(&atoms, from, n);
     }
-    copied(a, from, left)
+    copied(&atoms, from, left)
 }
 
 // Whether label a has atom x at a place.

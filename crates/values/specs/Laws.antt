@@ -9,8 +9,8 @@ use native.Mathlib.Omega.{arith}
 use native.Mathlib.Decide.{decLt}
 use borrow.Author.Tests.{le-leb, lt-leb, lt-ltb, le-ltb}
 use lib.Dec.{leb, ltb}
-use lib.ListN.{length, getD, set, take, drop, length-append, length-drop, List·getD-eq-default}
-use lib.Seq.{length-take-le, getD-take, getD-drop, getD-append-add, take-append-seam}
+use lib.ListN.{length, getD, set, take, drop, length-append, List·getD-eq-default}
+use lib.Seq.{getD-take, getD-append-add, take-append-seam}
 use Rattle.meaning.specs.Basics.{choose, both, isSome, concat, ensure, each, _>>_, _>>=_}
 use Rattle.meaning.specs.Numbers.{half, whole, height, sum, difference}
 use Rattle.meaning.specs.Layout.{mostAtoms}
@@ -20,7 +20,6 @@ use Rattle.meaning.specs.Applying.{elementValue, labelValue}
 use Rattle.meaning.specs.Laws.Tests.{both-of, both-no, both-yes, choose-true, choose-false, ensure-some, ensure-yes, ensure-no, some-inj}
 use Rattle.laws.specs.Numbers.{height-lt}
 use Rattle.fields.specs.Image.{first-at}
-use Rattle.laws.specs.Layout.{Words}
 use Rattle.meaning.specs.declared.Operand.{Operand}
 use Rattle.meaning.specs.declared.Operand.the-variants.{Constant as constantOperand, Variable as variableOperand}
 use Rattle.meaning.specs.declared.Element.{Element}
@@ -31,7 +30,7 @@ use Rattle.labels.specs.Laws.{Filled, filled-more, filled-all, held-length}
 use Rattle.parts.specs.Walks.{spells-label}
 use Rattle.labels.specs.declared.Label.{Label}
 use Rattle.parts.specs.Runs.{For}
-use Rattle.values.specs.Values.{valuesOf, Stored, asOption, lowered, ofAtom, valueIn, Kept, fitting, valuesRoom}
+use Rattle.values.specs.Values.{valuesOf, Stored, asOption, lowered, ofAtom, valueIn, Kept, fitting}
 use Rattle.values.specs.declared.Atom.{Atom}
 use Rattle.values.specs.declared.Atom.the-variants.{Word, Outside}
 use Rattle.values.specs.declared.Valued.{Valued}
@@ -115,22 +114,6 @@ module _ (lens atoms : List ℕ) (v : ℕ) where
 
   pub value-far : (r : Label) → Stored lens atoms → 6 ≤ v → Holds [] r → Holds (valuesOf lens atoms v) r
   value-far r s h k = rw (no-atoms (far s h)) k
-
--- copying atoms
-module _ (atoms : List ℕ) (from n j : ℕ) (l : List ℕ) (room : length atoms ≡ valuesRoom) (words : Words atoms) (few : n ≤ mostAtoms) (fits : from + n ≤ valuesRoom) (f : Filled (take n (drop from atoms)) j l) where
-  copied-length : length (take n (drop from atoms)) ≡ n
-  copied-length =
-      let d = length-drop from atoms in
-      length-take-le n (drop from atoms) (omega arith)
-
-  pub copied-more : j < n → Filled (take n (drop from atoms)) (j + 1) (set l j (getD atoms (from + j) 0))
-  copied-more k =
-      let e = copied-length in
-      filled-more _ l j _ f (omega arith) (omega arith) (words (from + j))
-      (sym (getD-take n (drop from atoms) j 0 k ∙ getD-drop from atoms j 0))
-
-  pub copied-all : j ≡ n → Holds (take n (drop from atoms)) (record { len = n; atoms = l })
-  copied-all e = filled-all _ l n (rw e at f) few (sym copied-length)
 
 -- A value in hand.
 

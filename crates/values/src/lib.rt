@@ -1,18 +1,17 @@
 // What the labels of a rule's right side come to under the values of the variables, or that a label can't be held.
 ghost use mathlib.Core.Path.{_≡_};
-ghost use mathlib.Core.List.{List, _++_};
-ghost use Prim.Native.Nat.{ℕ, _+_, _*_, _<_, _≤_};
-ghost use lib.ListN.{length, getD, take, drop};
+ghost use mathlib.Core.List.{_++_};
+ghost use Prim.Native.Nat.{_≤_};
+ghost use lib.ListN.{getD};
 ghost use Rattle.meaning.specs.Numbers.{sum, difference};
 ghost use Rattle.meaning.specs.Layout.{mostAtoms};
 ghost use Rattle.meaning.specs.Image.{label, ruleGraph};
 ghost use Rattle.meaning.specs.Matching.{atomOf};
 ghost use Rattle.meaning.specs.Applying.{elementValue, labelValue};
-ghost use Rattle.laws.specs.Layout.{Words};
 ghost use Rattle.labels.specs.Labels.{atomsIn, Held, Holds};
 ghost use Rattle.parts.specs.Runs.{For};
 ghost use Rattle.parts.specs.Rows.{graphItem, itemLabel};
-ghost use Rattle.values.specs.Values.{valuesOf, Stored, asOption, lowered, valueIn, Kept, ofAtom, fitting, allHeld, valuesRoom};
+ghost use Rattle.values.specs.Values.{valuesOf, Stored, asOption, lowered, valueIn, Kept, ofAtom, fitting, allHeld};
 use fields::Found;
 use labels::Label;
 use meaning::Element;
@@ -84,20 +83,6 @@ pub fn atom_of(lens: &[usize; Room::VARIABLES], atoms: &[u32; Room::ATOMS], o: O
     }
 }
 
-// The n atoms from a place on.
-fn copied(atoms: &[u32; Room::ATOMS], from: usize, n: usize) -> Label
-    requires { ⌜ (length (now atoms) ≡ valuesRoom) × Words (now atoms) × (n ≤ mostAtoms) × (from + n ≤ valuesRoom) ⌝ }
-    ensures { λ r. ⌜ Holds (take n (drop from (now (atoms .entry)))) r ⌝ }
-{
-    let mut out = [0u32; labels::MOST];
-    let mut j: usize = 0;
-    while j < n {
-        out[j] = atoms[from + j];
-        j += 1;
-    }
-    Label { len: n, atoms: out }
-}
-
 pub fn value_of(lens: &[usize; Room::VARIABLES], atoms: &[u32; Room::ATOMS], v: usize) -> Label
     requires { ⌜ Stored (now lens) (now atoms) ⌝ }
     ensures { λ r. ⌜ Holds (valuesOf (now (lens .entry)) (now (atoms .entry)) v) r ⌝ }
@@ -105,7 +90,7 @@ pub fn value_of(lens: &[usize; Room::VARIABLES], atoms: &[u32; Room::ATOMS], v: 
     if v >= Room::VARIABLES {
         return labels::none();
     }
-    copied(atoms, labels::MOST * v, lens[v])
+    labels::copied(atoms, labels::MOST * v, lens[v])
 }
 
 // A label of one atom.

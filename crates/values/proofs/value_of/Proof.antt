@@ -22,9 +22,10 @@ element-copy-out-copied c = search needs
 
 copied-requires : tie.Need-copied-requires
 copied-requires c κs =
-    let s = c .before .before in
+    let s = c .before .before .before in
     let k = s .pre .few (s .args .v) in
-    (s .pre .room, s .pre .words, k, omega arith)
+    let r = s .pre .room in
+    (k, omega arith)
 
 returns-2 : tie.Need-returns-2
 returns-2 c = search needs
