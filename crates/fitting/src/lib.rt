@@ -19,6 +19,7 @@ use meaning::Layout;
 use meaning::Room;
 use meaning::tags::Mark;
 use plan::At;
+use plan::Side;
 
 // Marks, slots and edges.
 
@@ -113,8 +114,8 @@ fn link_holds(
     requires { ⌜ TriedEdge (hostOf l (now nodes) (now edges)) (now rule) (now plan) (now at) i c k ⌝ }
     ensures { λ r. ⌜ ((w : Tried (hostOf l (now (nodes .entry)) (now (edges .entry))) (now (rule .entry)) (now (plan .entry)) (now (at .entry)) i c) → r ≡ isLinked (hostOf l (now (nodes .entry)) (now (edges .entry))) (w .trial .rule) (w .trial .placed) i k) ⌝ }
 {
-    let s = plan::source(rule, plan, k);
-    let t = plan::target(rule, plan, k);
+    let s = plan::end_of(rule, plan, k, Side::Source);
+    let t = plan::end_of(rule, plan, k, Side::Target);
     if plan::later(s, t) == i {
         return any_joins(
             l,
@@ -159,10 +160,10 @@ fn left_touches(rule: &[u8], plan: &[usize; At::LENGTH], i: usize, k: usize) -> 
     requires { ⌜ HasEdge (now rule) (now plan) k ⌝ }
     ensures { λ b. ⌜ For (now (rule .entry)) (now (plan .entry)) (λ r. (h : Host) → b ≡ leftTouches h r i k) ⌝ }
 {
-    if plan::source(rule, plan, k) == i {
+    if plan::end_of(rule, plan, k, Side::Source) == i {
         return true;
     }
-    plan::target(rule, plan, k) == i
+    plan::end_of(rule, plan, k, Side::Target) == i
 }
 
 fn left_degree(rule: &[u8], plan: &[usize; At::LENGTH], i: usize) -> usize

@@ -17,6 +17,7 @@ use labels::Label;
 use meaning::Layout;
 use meaning::Room;
 use plan::At;
+use plan::Side;
 
 // The next slot that fits, or none.
 pub enum Next {
@@ -159,8 +160,8 @@ fn next_candidate(
     let m = plan[At::EDGES];
     let mut k: usize = 0;
     while k < m {
-        let s = plan::source(rule, plan, k);
-        let t = plan::target(rule, plan, k);
+        let s = plan::end_of(rule, plan, k, Side::Source);
+        let t = plan::end_of(rule, plan, k, Side::Target);
         if t == i {
             if s < i {
                 let mark = plan::mark(rule, plan, plan[At::NODES] + k);
@@ -234,8 +235,8 @@ fn next_edge(
     ensures { λ x. ⌜ Of (now (rule .entry)) (now (plan .entry)) (λ r. NextLikely (hostOf l (now (nodes .entry)) (now (edges .entry))) r (getD (now (plan .entry)) (sortAt + i) 0) (take i (now (at .entry))) i c x) ⌝ }
 {
     let k = i - plan[At::NODES];
-    let a = plan::source(rule, plan, k);
-    let b = plan::target(rule, plan, k);
+    let a = plan::end_of(rule, plan, k, Side::Source);
+    let b = plan::end_of(rule, plan, k, Side::Target);
     let s = at[a];
     let t = at[b];
     let n = graph::edge_slots(l, edges);

@@ -19,7 +19,9 @@ use Rattle.fields.specs.declared.Found.{Found}
 use Rattle.fields.specs.declared.Found.the-variants.{Field}
 use Rattle.parts.specs.Runs.{Run, only-run, nthPart, nthTag, nth-item, part-field, tag-field}
 use Rattle.parts.proofs.Loops.{NoField, no-part, nth-in}
-use Rattle.plan.specs.Plan.{Placed, testOf, Laid, HasItem, HasNode, HasEdge, Marked, Part, edgesAt, endAt, nodesAt, startAt, testsEndAt, testsStartAt}
+use Rattle.plan.specs.Plan.{Placed, testOf, Laid, HasItem, HasNode, HasEdge, Marked, edgeEnd, endPlace, Part, edgesAt, endAt, nodesAt, startAt, testsEndAt, testsStartAt}
+use Rattle.plan.specs.declared.Side.{Side}
+use Rattle.plan.specs.declared.Side.the-variants.{Source, Target}
 
 -- Parts of bytes.
 
@@ -89,9 +91,13 @@ pub record EdgeAt (bs : List ℕ) (start end : ℕ) (n : RuleEdge) : Type 0 wher
   pub long : start + 3 ≤ end
   pub inside : end ≤ length bs
   pub mark : n .mark ≡ getD bs start 0
-  pub source : n .source ≡ getD bs (start + 1) 0
-  pub target : n .target ≡ getD bs (start + 2) 0
+  pub ends : (side : Side) → edgeEnd side n ≡ getD bs (start + endPlace side) 0
   pub label : label (take (end - (start + 3)) (drop (start + 3) bs)) ≡ some (n .label)
+
+-- both ends stand before the label
+end-inside : (side : Side) → endPlace side < 3
+end-inside Source = omega arith
+end-inside Target = omega arith
 
 module _ {bs : List ℕ} {start end : ℕ} where
   pub node-at : {n : RuleNode} → Placed ruleNode bs start end n → NodeAt bs start end n
@@ -118,10 +124,13 @@ module _ {bs : List ℕ} {start end : ℕ} where
         long = long;
         inside = p .inside;
         mark = i .mark ∙ part-byte bs start end (p .ordered) (p .inside) 0 (omega arith) ∙ ap (λ (x : ℕ). getD bs x 0) z;
-        source = i .source ∙ part-byte bs start end (p .ordered) (p .inside) 1 (omega arith);
-        target = i .target ∙ part-byte bs start end (p .ordered) (p .inside) 2 (omega arith);
+        ends = λ side. end-byte side ∙ part-byte bs start end (p .ordered) (p .inside) (endPlace side) (omega (arith, end-inside side));
         label = ap label (sym (part-behind bs start end (p .ordered) (p .inside) 3)) ∙ i .label;
       }
+    where
+      end-byte : (side : Side) → edgeEnd side n ≡ getD (take (end - start) (drop start bs)) (endPlace side) 0
+      end-byte Source = ruleEdge-is _ n (p .is) .source
+      end-byte Target = ruleEdge-is _ n (p .is) .target
 
 -- The left items of a plan.
 
@@ -166,6 +175,12 @@ node-there w = omega (arith, w .there, w .laid .items .nodes)
 
 pub edge-there : {bs plan : List ℕ} {k : ℕ} → HasEdge bs plan k → k < getD plan edgesAt 0
 edge-there w = omega (arith, w .there, w .laid .items .edges)
+
+pub end-there : {bs plan : List ℕ} {k : ℕ} → HasEdge bs plan k → (side : Side)
+    → getD plan (startAt + (getD plan nodesAt 0 + k)) 0 + endPlace side < length bs
+end-there {k = k} w side =
+    let a = planned-edge (w .laid) k (edge-there w) in
+    omega (arith, a .long, a .inside, end-inside side)
 
 module _ {bs plan : List ℕ} {j : ℕ} (w : HasItem bs plan j) where
   pub item-there : j < getD plan nodesAt 0 + getD plan edgesAt 0

@@ -23,6 +23,8 @@ use Rattle.meaning.specs.declared.Test.{Test}
 use Rattle.meaning.specs.declared.Element.{Element}
 use Rattle.meaning.specs.declared.Element.the-variants.{Constant as constantElement, Variable}
 use Rattle.parts.specs.Runs.{nthPart}
+use Rattle.plan.specs.declared.Side.{Side}
+use Rattle.plan.specs.declared.Side.the-variants.{Source, Target}
 
 -- how many numbers a plan has
 abbrev pub planLength : ℕ
@@ -110,6 +112,15 @@ nodeOf g i = getD (g .nodes) i (record { mark = 0; root = 0; label = [] })
 
 abbrev pub edgeOf : RuleGraph → ℕ → RuleEdge
 edgeOf g k = getD (g .edges) k (record { mark = 0; source = 0; target = 0; label = [] })
+
+-- the node at an end of an edge, and where the edge's bytes have it
+abbrev pub edgeEnd : Side → RuleEdge → ℕ
+edgeEnd Source e = e .source
+edgeEnd Target e = e .target
+
+abbrev pub endPlace : Side → ℕ
+endPlace Source = 1
+endPlace Target = 2
 
 abbrev pub testOf : Rule → ℕ → Test
 testOf r t = getD (r .tests) t (record { negated = false; condition = Edge 0 0 })

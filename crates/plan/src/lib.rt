@@ -9,7 +9,7 @@ ghost use lib.ListN.{length, getD};
 ghost use Rattle.meaning.specs.Image.{mostItems, label};
 ghost use Rattle.meaning.specs.References.{labels};
 ghost use Rattle.meaning.specs.Matching.{leftNode, leftEdge};
-ghost use Rattle.plan.specs.Plan.{planLength, elementsAt, listsAt, IsLaid, HasItem, HasNode, HasEdge, For, Marked, testOf};
+ghost use Rattle.plan.specs.Plan.{planLength, elementsAt, listsAt, IsLaid, HasItem, HasNode, HasEdge, For, Marked, edgeEnd, endPlace, testOf};
 use fields::Found;
 use meaning::Condition;
 use meaning::Test;
@@ -75,6 +75,24 @@ impl Sorted {
     pub const CONSTANT: usize = 2;
 }
 
+// The ends of an edge.
+pub enum Side {
+    Source,
+    Target,
+}
+
+impl Side {
+    // Where an edge's payload has this end.
+    fn place(self) -> usize
+        ensures { λ p. ⌜ p ≡ endPlace self ⌝ }
+    {
+        match self {
+            Side::Source => 1,
+            Side::Target => 2,
+        }
+    }
+}
+
 // Reading a plan.
 
 // The label of left item j.
@@ -108,23 +126,15 @@ pub fn root(rule: &[u8], plan: &[usize; At::LENGTH], i: usize) -> u8
     rule[start + 1]
 }
 
-// The left nodes that left edge k runs from and to.
-pub fn source(rule: &[u8], plan: &[usize; At::LENGTH], k: usize) -> usize
+// The left node at an end of left edge k.
+pub fn end_of(rule: &[u8], plan: &[usize; At::LENGTH], k: usize, side: Side) -> usize
     requires { ⌜ HasEdge (now rule) (now plan) k ⌝ }
-    ensures { λ a. ⌜ For (now (rule .entry)) (now (plan .entry)) (λ r. a ≡ leftEdge r k .source) ⌝ }
+    ensures { λ a. ⌜ For (now (rule .entry)) (now (plan .entry)) (λ r. a ≡ edgeEnd side (leftEdge r k)) ⌝ }
 {
     let j = plan[At::NODES] + k;
     let start = plan[At::START + j];
-    fields::wide(rule[start + 1])
-}
-
-pub fn target(rule: &[u8], plan: &[usize; At::LENGTH], k: usize) -> usize
-    requires { ⌜ HasEdge (now rule) (now plan) k ⌝ }
-    ensures { λ a. ⌜ For (now (rule .entry)) (now (plan .entry)) (λ r. a ≡ leftEdge r k .target) ⌝ }
-{
-    let j = plan[At::NODES] + k;
-    let start = plan[At::START + j];
-    fields::wide(rule[start + 2])
+    let place = side.place();
+    fields::wide(rule[start + place])
 }
 
 // The types of the variables.

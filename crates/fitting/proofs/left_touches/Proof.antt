@@ -8,25 +8,25 @@ use borrow.Author.Needs.{needs}
 use Rattle.fitting.proofs.left_touches.Statement.{statement}
 use Rattle.fitting.proofs.left_touches.Tie as tie
 
-source-requires : tie.Need-source-requires
-source-requires c κs = search needs
+end-of-requires : tie.Need-end-of-requires
+end-of-requires c κs = search needs
 
 returns : tie.Need-returns
 unfolding leftTouches
-returns c = λ r q h. sym (either-left _ _ (eq-eqb _ _ (sym (c .before .source .ensures r q) ∙ c .if1 .taken)))
+returns c = λ r q h. sym (either-left _ _ (eq-eqb _ _ (sym (c .before .end-of .ensures r q) ∙ c .if1 .taken)))
 
-target-requires : tie.Need-target-requires
-target-requires c κs = search needs
+end-of-requires-2 : tie.Need-end-of-requires-2
+end-of-requires-2 c κs = search needs
 
 returns-2 : tie.Need-returns-2
 unfolding leftTouches either
-returns-2 c = λ r q h. rw (← (c .before .before .source .ensures r q), ← (c .target .ensures r q), ne-eqb _ _ (c .before .if1 .left))
+returns-2 c = λ r q h. rw (← (c .before .before .end-of .ensures r q), ← (c .end-of2 .ensures r q), ne-eqb _ _ (c .before .if1 .left))
 
 pub left-touches-spec : {M : Type 1} → statement M
 left-touches-spec =
     tie.close
     (tie.spec
-    source-requires
+    end-of-requires
     returns
-    target-requires
+    end-of-requires-2
     returns-2)

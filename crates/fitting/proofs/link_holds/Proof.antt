@@ -6,13 +6,13 @@ use native.Mathlib.Omega.{arith}
 use Rattle.fitting.proofs.link_holds.Statement.{statement}
 use Rattle.fitting.proofs.link_holds.Tie as tie
 
-source-requires : tie.Need-source-requires
-source-requires c κs =
+end-of-requires : tie.Need-end-of-requires
+end-of-requires c κs =
     let start = c .before .before .before in
     record { tree = start .pre .1 .trial .rule; laid = start .pre .1 .trial .planned .laid; there = start .pre .1 .there }
 
-target-requires : tie.Need-target-requires
-target-requires c κs =
+end-of-requires-2 : tie.Need-end-of-requires-2
+end-of-requires-2 c κs =
     let start = c .before .before .before .before in
     record { tree = start .pre .1 .trial .rule; laid = start .pre .1 .trial .planned .laid; there = start .pre .1 .there }
 
@@ -39,7 +39,7 @@ returns c =
     λ w.
     let r = w .trial .rule in
     let q = w .trial .planned .laid in
-    linked-near w _ _ _ (c .before .before .before .before .before .before .source .ensures r q) (c .before .before .before .before .before .target .ensures r q) (sym (c .before .before .before .before .later .ensures) ∙ c .before .before .before .if1 .taken) _ _ _ (c .before .before .slot-of .ensures) (c .before .slot-of2 .ensures)
+    linked-near w _ _ _ (c .before .before .before .before .before .before .end-of .ensures r q) (c .before .before .before .before .before .end-of2 .ensures r q) (sym (c .before .before .before .before .later .ensures) ∙ c .before .before .before .if1 .taken) _ _ _ (c .before .before .slot-of .ensures) (c .before .slot-of2 .ensures)
     (c .any-joins .ensures r q)
 
 returns-2 : tie.Need-returns-2
@@ -47,14 +47,14 @@ returns-2 c =
     λ w.
     let r = w .trial .rule in
     let q = w .trial .planned .laid in
-    linked-far w _ _ _ (c .before .before .before .source .ensures r q) (c .before .before .target .ensures r q) (λ e. c .if1 .left (c .before .later .ensures ∙ e))
+    linked-far w _ _ _ (c .before .before .before .end-of .ensures r q) (c .before .before .end-of2 .ensures r q) (λ e. c .if1 .left (c .before .later .ensures ∙ e))
 
 pub link-holds-spec : {M : Type 1} → statement M
 link-holds-spec =
     tie.close
     (tie.spec
-    source-requires
-    target-requires
+    end-of-requires
+    end-of-requires-2
     later-requires
     slot-of-requires
     slot-of-requires-2

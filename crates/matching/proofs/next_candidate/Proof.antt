@@ -23,13 +23,13 @@ element-copy-out-m c = search needs
 loop-holds : tie.Need-loop-holds Inv-loop μ-loop
 loop-holds c = omega arith
 
-source-requires : tie.Need-source-requires Inv-loop μ-loop
-source-requires c κs =
+end-of-requires : tie.Need-end-of-requires Inv-loop μ-loop
+end-of-requires c κs =
     let pre = c .before .before .before .before .before .before .pre in
     has-edge _ _ (pre .0 .known) (c .before .loop .k) (c .loop-test .taken)
 
-target-requires : tie.Need-target-requires Inv-loop μ-loop
-target-requires c κs =
+end-of-requires-2 : tie.Need-end-of-requires-2 Inv-loop μ-loop
+end-of-requires-2 c κs =
     let pre = c .before .before .before .before .before .before .before .pre in
     has-edge _ _ (pre .0 .known) (c .before .before .loop .k) (c .before .loop-test .taken)
 
@@ -64,8 +64,8 @@ returns c =
     let mark = c .before .before .mark in
     let if2 = c .before .before .before .before .if2 in
     let if1 = c .before .before .before .before .before .if1 in
-    let target = c .before .before .before .before .before .before .target in
-    let source = c .before .before .before .before .before .before .before .source in
+    let target = c .before .before .before .before .before .before .end-of2 in
+    let source = c .before .before .before .before .before .before .before .end-of in
     let test = c .before .before .before .before .before .before .before .before .loop-test in (
       next .ensures .0,
       λ w x h k.
@@ -110,8 +110,8 @@ returns-2 c =
     let mark = c .before .before .mark2 in
     let if4 = c .before .before .before .before .if4 in
     let if3 = c .before .before .before .before .before .if3 in
-    let target = c .before .before .before .before .before .before .before .target in
-    let source = c .before .before .before .before .before .before .before .before .source in
+    let target = c .before .before .before .before .before .before .before .end-of2 in
+    let source = c .before .before .before .before .before .before .before .before .end-of in
     let test = c .before .before .before .before .before .before .before .before .before .loop-test in (
       next .ensures .0,
       λ w x h k.
@@ -145,8 +145,8 @@ next-candidate-spec =
     μ-loop
     element-copy-out-m
     loop-holds
-    source-requires
-    target-requires
+    end-of-requires
+    end-of-requires-2
     element-copy-out-mark
     add-mark
     mark-requires

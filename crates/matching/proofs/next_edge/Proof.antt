@@ -41,18 +41,18 @@ element-copy-out-k c = search needs
 sub-k : tie.Need-sub-k Inv-loop μ-loop
 sub-k c = search needs
 
-source-requires : tie.Need-source-requires Inv-loop μ-loop
-source-requires c κs = has-edge _ _ (c .before .before .before .before .pre .0 .known) _ (omega arith)
+end-of-requires : tie.Need-end-of-requires Inv-loop μ-loop
+end-of-requires c κs = has-edge _ _ (c .before .before .before .before .pre .0 .known) _ (omega arith)
 
-target-requires : tie.Need-target-requires Inv-loop μ-loop
-target-requires c κs = has-edge _ _ (c .before .before .before .before .before .pre .0 .known) _ (omega arith)
+end-of-requires-2 : tie.Need-end-of-requires-2 Inv-loop μ-loop
+end-of-requires-2 c κs = has-edge _ _ (c .before .before .before .before .before .pre .0 .known) _ (omega arith)
 
 mul-s : tie.Need-mul-s Inv-loop μ-loop
 mul-s c =
     let s = c .before .before .before .before .before .before in
     omega (
       arith,
-      c .before .source .ensures (s .pre .0 .known .rule) (s .pre .0 .known .planned .laid),
+      c .before .end-of .ensures (s .pre .0 .known .rule) (s .pre .0 .known .planned .laid),
       few-ends _ _
           (s .pre .0 .known) (s .args .i - getD (s .args .plan .now) nodesAt 0) (omega arith) .0,
       few-each _ _ (s .pre .0 .known) .0,
@@ -63,7 +63,7 @@ element-copy-out-s c =
     let s = c .before .before .before .before .before .before in
     omega (
       arith,
-      c .before .source .ensures (s .pre .0 .known .rule) (s .pre .0 .known .planned .laid),
+      c .before .end-of .ensures (s .pre .0 .known .rule) (s .pre .0 .known .planned .laid),
       few-ends _ _
           (s .pre .0 .known) (s .args .i - getD (s .args .plan .now) nodesAt 0) (omega arith) .0,
       few-each _ _ (s .pre .0 .known) .0,
@@ -74,7 +74,7 @@ mul-t c =
     let s = c .before .before .before .before .before .before .before in
     omega (
       arith,
-      c .before .target .ensures (s .pre .0 .known .rule) (s .pre .0 .known .planned .laid),
+      c .before .end-of2 .ensures (s .pre .0 .known .rule) (s .pre .0 .known .planned .laid),
       few-ends _ _
           (s .pre .0 .known) (s .args .i - getD (s .args .plan .now) nodesAt 0) (omega arith) .1,
       few-each _ _ (s .pre .0 .known) .0,
@@ -85,7 +85,7 @@ element-copy-out-t c =
     let s = c .before .before .before .before .before .before .before in
     omega (
       arith,
-      c .before .target .ensures (s .pre .0 .known .rule) (s .pre .0 .known .planned .laid),
+      c .before .end-of2 .ensures (s .pre .0 .known .rule) (s .pre .0 .known .planned .laid),
       few-ends _ _
           (s .pre .0 .known) (s .args .i - getD (s .args .plan .now) nodesAt 0) (omega arith) .1,
       few-each _ _ (s .pre .0 .known) .0,
@@ -101,8 +101,8 @@ edge-likely-requires : tie.Need-edge-likely-requires Inv-loop μ-loop
 edge-likely-requires c κs =
     let s = c .before .before .before .before .before .before .before .before .before .before .before in
     let a = s .args in
-    let target = c .before .before .before .before .before .target in
-    let source = c .before .before .before .before .before .before .source in
+    let target = c .before .before .before .before .before .end-of2 in
+    let source = c .before .before .before .before .before .before .end-of in
     let w = s .pre .0 .known in (
       s .pre .0 .legal,
       (
@@ -160,8 +160,8 @@ next-edge-spec =
     μ-loop
     element-copy-out-k
     sub-k
-    source-requires
-    target-requires
+    end-of-requires
+    end-of-requires-2
     mul-s
     element-copy-out-s
     mul-t
