@@ -11,6 +11,7 @@ use native.Mathlib.Nat.{mul-le-mul}
 use borrow.Author.Tests.{eqb-true}
 use lib.ListN.{length, getD, take, drop, length-drop, drop-of-length-le}
 use lib.Seq.{take-all, take-nil, drop-drop}
+use Rattle.meaning.specs.Layout.{mostAtoms}
 use Rattle.meaning.specs.Basics.{choose, either}
 use Rattle.meaning.specs.Image.{Rule, mostItems}
 use Rattle.meaning.specs.References.{labels, takesList, lists, ruleHolds}
@@ -143,7 +144,7 @@ module _ {bs plan : List ℕ} {v : ℕ} (w : OnLeft bs plan v) where
       let q = lists-is in
       omega (arith, before-within (w .rule) v pattern, label-short (w .planned .laid) item (w .placed))
 
-  pub place-low : (n : ℕ) → n ≤ 8 → getD plan (singlesAt + v) 0 + getD plan (beforeAt + v) 0 * n ≤ 36
+  pub place-low : (n : ℕ) → n ≤ mostAtoms → getD plan (singlesAt + v) 0 + getD plan (beforeAt + v) 0 * n ≤ 36
   place-low n h = let k : getD plan (beforeAt + v) 0 ≤ 4 = omega (arith, before-few) in omega (arith, before-few, mul-le-mul k h)
 
   -- where a list takes n atoms of a label of so many, it takes k of them from a place on

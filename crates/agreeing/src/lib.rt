@@ -5,7 +5,7 @@ ghost use Prim.Native.Nat.{_+_, _<_, _≤_};
 ghost use lib.ListN.{length, getD};
 ghost use Rattle.meaning.specs.Image.{mostItems};
 ghost use Rattle.meaning.specs.Basics.{same};
-ghost use Rattle.meaning.specs.Layout.{hostOf};
+ghost use Rattle.meaning.specs.Layout.{hostOf, mostAtoms};
 ghost use Rattle.meaning.specs.Matching.{leftNodes, atomsOf, instance};
 ghost use Rattle.meaning.specs.Assigned.{assigned};
 ghost use Rattle.labels.specs.Labels.{atomsIn, Held, Holds};
@@ -64,7 +64,7 @@ fn item_length(
 ) -> usize
     requires { ⌜ Legal l (now nodes) (now edges) ⌝ }
     requires { ⌜ (0 < length (now plan)) × (x < slots (hostOf l (now nodes) (now edges)) (getD (now plan) nodesAt 0) j) ⌝ }
-    ensures { λ r. ⌜ (r ≡ length (labelAt (hostOf l (now (nodes .entry)) (now (edges .entry))) (getD (now (plan .entry)) nodesAt 0) j x)) × (r ≤ 8) ⌝ }
+    ensures { λ r. ⌜ (r ≡ length (labelAt (hostOf l (now (nodes .entry)) (now (edges .entry))) (getD (now (plan .entry)) nodesAt 0) j x)) × (r ≤ mostAtoms) ⌝ }
 {
     if j < plan[At::NODES] {
         return graph::node_length(l, nodes, edges, x);
@@ -104,7 +104,7 @@ pub struct Part {
 // The atoms that variable v takes of a label of len atoms, at the first item that has it.
 fn part_of(rule: &[u8], plan: &[usize; At::LENGTH], v: usize, len: usize) -> Part
     requires { ⌜ OnLeft (now rule) (now plan) v ⌝ }
-    requires { ⌜ len ≤ 8 ⌝ }
+    requires { ⌜ len ≤ mostAtoms ⌝ }
     ensures { λ t. ⌜ (t .from + t .n ≤ len) × ((w : OnLeft (now (rule .entry)) (now (plan .entry)) v) → Takes (w .rule) v len (t .from) (t .n)) ⌝ }
 {
     let n = parts::elements::spare(plan::counts(plan, plan[At::FIRST + v]), len);

@@ -2,6 +2,7 @@
 ghost use mathlib.Core.Path.{_≡_};
 ghost use lib.ListN.{length};
 ghost use Rattle.meaning.specs.Calls.{reportOf};
+ghost use Rattle.answers.specs.Answers.{reportLength};
 ghost use Rattle.ledger.specs.Running.{Running};
 ghost use Rattle.undoing.specs.Undone.{Undone};
 ghost use Rattle.finishing.specs.Finished.{Finishes};
@@ -20,7 +21,7 @@ fn give_back(
     report: &mut [u8],
 )
     requires { ⌜ Running l (now nodes) (now edges) (now journal) records ⌝ }
-    requires { ⌜ length (now report) ≡ 8 ⌝ }
+    requires { ⌜ length (now report) ≡ reportLength ⌝ }
     ensures { λ _. ⌜ Undone l (now (nodes .entry)) (now (edges .entry)) (now (journal .entry)) records 0 (now (nodes .exit)) (now (edges .exit)) (now (journal .exit)) × (now (report .exit) ≡ reportOf steps 0) ⌝ }
 {
     undoing::back_to(l, nodes, edges, journal, records, 0);
@@ -39,7 +40,7 @@ pub fn finish(
     report: &mut [u8],
 ) -> Answer
     requires { ⌜ Running l (now nodes) (now edges) (now journal) records ⌝ }
-    requires { ⌜ length (now report) ≡ 8 ⌝ }
+    requires { ⌜ length (now report) ≡ reportLength ⌝ }
     ensures { λ r. ⌜ Finishes l (now (nodes .entry)) (now (edges .entry)) (now (journal .entry)) steps records r (now (nodes .exit)) (now (edges .exit)) (now (journal .exit)) (now (report .exit)) end ⌝ }
 {
     match end {

@@ -3,6 +3,7 @@ ghost use mathlib.Core.Path.{_≡_};
 ghost use mathlib.Core.Bool.{true};
 ghost use Prim.Native.Nat.{_+_, _/_, _<_, _≤_};
 ghost use lib.ListN.{length, take, drop};
+ghost use Rattle.meaning.specs.Image.{mostItems};
 ghost use Rattle.meaning.specs.Basics.{any};
 ghost use Rattle.meaning.specs.Layout.{Sized, free, live, ofNode, ofEdge, nodeLength, edgeLength, recordLength, readNodes, readEdges};
 ghost use Rattle.meaning.specs.Applying.{store, stores, lowestFree, freeSlots, onFreeNode};
@@ -12,6 +13,7 @@ ghost use Rattle.ledger.specs.Changes.{Went, goes, Below};
 ghost use Rattle.ledger.specs.Rooms.{stopOf, lacking};
 use journal::Record;
 use meaning::Layout;
+use meaning::Room;
 use meaning::Stop;
 
 // What an application comes to.
@@ -132,12 +134,12 @@ pub fn free_edges(
     edges: &mut [u8],
     journal: &mut [u8],
     used: usize,
-    slots: &[usize; 12],
+    slots: &[usize; Room::ITEMS],
     n: usize,
     m: usize,
 )
     requires { ⌜ Held l (now nodes) (now edges) (now journal) used ⌝ }
-    requires { ⌜ (used + m ≤ length (now journal) / recordLength l) × (n + m ≤ length (now slots)) × (length (now slots) ≡ 12) ⌝ }
+    requires { ⌜ (used + m ≤ length (now journal) / recordLength l) × (n + m ≤ length (now slots)) × (length (now slots) ≡ mostItems) ⌝ }
     requires { ⌜ Below (length (now edges) / edgeLength l) (now slots) n m ⌝ }
     ensures { λ _. ⌜ Went l (stores (goes (take m (drop n (now (slots .entry))))) (ledgerOf l (now (nodes .entry)) (now (edges .entry)) (now (journal .entry)) used)) (now (nodes .entry)) (now (edges .entry)) (now (journal .entry)) (now (nodes .entry)) (now (edges .exit)) (now (journal .exit)) (used + m) ⌝ }
 {

@@ -99,10 +99,10 @@ module _ {L : Layout} {nodes p lens atoms : List ℕ} {x : ℕ} (w : Takes L nod
   rule-mark : w .made .rule .mark ≡ getD p 0 0
   rule-mark = ruleNode-is p (w .made .rule) (w .made .is) .mark
 
-  pub any-keeps : {m : ℕ} → getD p 0 0 ≡ 6 → m ≡ nodeIn (getD (readNodes L nodes) x free) .mark → m ≡ w .made .node .mark
+  pub any-keeps : {m : ℕ} → getD p 0 0 ≡ anyMark → m ≡ nodeIn (getD (readNodes L nodes) x free) .mark → m ≡ w .made .node .mark
   any-keeps h e = e ∙ sym (w .mark ∙ choose-eq (w .made .rule .mark) anyMark _ _ (rule-mark ∙ h))
 
-  pub other-takes : (getD p 0 0 ≡ 6 → ⊥) → getD p 0 0 ≡ w .made .node .mark
+  pub other-takes : (getD p 0 0 ≡ anyMark → ⊥) → getD p 0 0 ≡ w .made .node .mark
   other-takes h = sym (w .mark ∙ choose-ne (w .made .rule .mark) anyMark _ _ (λ q. h (sym rule-mark ∙ q)) ∙ rule-mark)
 
 -- and the one that a new node has

@@ -21,7 +21,7 @@ use Rattle.plan.specs.Plan.{edgesAt, nodesAt}
 
 abbrev pub allPlaced : (h : Host) (bs plan at : List ℕ) (w : Known bs plan) → length at ≡ mostItems
     → Inside h (getD plan nodesAt 0) at (getD plan nodesAt 0 + getD plan edgesAt 0) → Full h bs plan at mostItems 0
-allPlaced h bs plan at w room inside = full h bs plan at w room 12 0 (few-items w) (rw (nodes-of _ _ w, edges-of _ _ w) at inside)
+allPlaced h bs plan at w room inside = full h bs plan at w room mostItems 0 (few-items w) (rw (nodes-of _ _ w, edges-of _ _ w) at inside)
 
 abbrev pub numbers : {bs plan : List ℕ} (w : Known bs plan) → Numbers plan (w .rule)
 numbers w = record { nodes = nodes-of _ _ w; edges = edges-of _ _ w; interface = w .planned .laid .interface }

@@ -5,6 +5,7 @@ use mathlib.Core.List.{List}
 use native.Mathlib.Omega.{arith}
 use lib.ListN.{length, take, getD}
 use lib.Seq.{getD-take}
+use Rattle.meaning.specs.Image.{limits}
 use Rattle.meaning.specs.Matching.{leftNodes, leftEdges, total, leftEdge, nodeSlot}
 use Rattle.laws.specs.References.{ends}
 use Rattle.meaning.specs.declared.Layout.{Layout}
@@ -19,7 +20,7 @@ module _ (bs plan : List ℕ) (w : Known bs plan) where
   pub edges-of : getD plan edgesAt 0 ≡ leftEdges (w .rule)
   edges-of = w .planned .laid .items .edges
 
-  pub few-each : (getD plan nodesAt 0 ≤ 6) × (getD plan edgesAt 0 ≤ 6)
+  pub few-each : (getD plan nodesAt 0 ≤ limits .nodes) × (getD plan edgesAt 0 ≤ limits .edges)
   few-each = (
     omega (arith, nodes-of, w .planned .laid .items .fewNodes),
     omega (arith, edges-of, w .planned .laid .items .fewEdges),

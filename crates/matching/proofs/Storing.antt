@@ -12,8 +12,8 @@ use lib.ListN.{length, getD, take, drop, set, length-set, length-drop}
 use lib.Seq.{ext-getD, getD-take, getD-drop, getD-set-same, getD-set-other, length-take-le}
 use Rattle.meaning.specs.Basics.{absent}
 use Rattle.meaning.specs.Numbers.{whole}
-use Rattle.meaning.specs.Layout.{Host}
-use Rattle.meaning.specs.Image.{Rule, mostItems}
+use Rattle.meaning.specs.Layout.{Host, mostAtoms}
+use Rattle.meaning.specs.Image.{Rule, mostItems, limits}
 use Rattle.meaning.specs.References.{labels, names, testNames, variablesExist, ruleHolds}
 use Rattle.meaning.specs.FirstMatch.{firstWith}
 use Rattle.meaning.specs.Assigned.{assigned}
@@ -52,10 +52,10 @@ pub record Copying (start j : ℕ) (new before after : List ℕ) : Type 0 where
 pub copy-none : (start : ℕ) (new before : List ℕ) → length before ≡ valuesRoom → Copying start 0 new before before
 copy-none start new before e = record { room = e; inside = λ x k. absurd (omega arith); outside = λ x k. refl }
 
-pub copied-all : (start j : ℕ) (new before after : List ℕ) → j ≡ 8 → Copying start j new before after
+pub copied-all : (start j : ℕ) (new before after : List ℕ) → j ≡ mostAtoms → Copying start j new before after
     → Copied start new before after
 copied-all start j new before after e s =
-    let t : Copying start 8 new before after = rw e at s in
+    let t : Copying start mostAtoms new before after = rw e at s in
     record { room = t .room; inside = t .inside; outside = t .outside }
 
 pub copy-more : (start j : ℕ) (new before after : List ℕ) → start + j < valuesRoom → Copying start j new before after
@@ -79,25 +79,25 @@ copy-more start j new before after h s = record {
 -- The arrays, one variable at a time.
 
 -- variable v gets the atoms of label a
-module _ (v : ℕ) (lens atoms after : List ℕ) (a : Label) (low : v < 6) (x : Stored lens atoms)
-    (s : Copied (8 * v) (a .atoms) atoms after) (held : Held a) where
+module _ (v : ℕ) (lens atoms after : List ℕ) (a : Label) (low : v < limits .variables) (x : Stored lens atoms)
+    (s : Copied (mostAtoms * v) (a .atoms) atoms after) (held : Held a) where
   pub arrays-more : Stored (set lens v (a .len)) after
   arrays-more = record {
     variables = length-set lens v (a .len) ∙ x .variables;
     room = s .room;
     few = λ u. short u (ℕ-discrete u v);
-    words = λ i. word i (decLt i (8 * v)) (decLt i (8 * v + 8));
+    words = λ i. word i (decLt i (mostAtoms * v)) (decLt i (mostAtoms * v + mostAtoms));
   }
     where
-      short : (u : ℕ) → Dec (u ≡ v) → getD (set lens v (a .len)) u 0 ≤ 8
+      short : (u : ℕ) → Dec (u ≡ v) → getD (set lens v (a .len)) u 0 ≤ mostAtoms
       short u (yes e) = rw (e, getD-set-same lens v (a .len) 0 (omega (arith, x .variables))) (held .few)
       short u (no e) = rw (getD-set-other lens v u (a .len) 0 e) (x .few u)
 
-      word : (i : ℕ) → Dec (i < 8 * v) → Dec (i < 8 * v + 8) → getD after i 0 < whole
+      word : (i : ℕ) → Dec (i < mostAtoms * v) → Dec (i < mostAtoms * v + mostAtoms) → getD after i 0 < whole
       word i (yes d) e = rw (s .outside i (inl d)) (x .words i)
       word i (no d) (yes e) =
-          let f : 8 * v + (i - 8 * v) ≡ i = omega arith in
-          rw (rw f at (s .inside (i - 8 * v) (omega arith))) (held .small (i - 8 * v))
+          let f : mostAtoms * v + (i - mostAtoms * v) ≡ i = omega arith in
+          rw (rw f at (s .inside (i - mostAtoms * v) (omega arith))) (held .small (i - mostAtoms * v))
       word i (no d) (no e) = rw (s .outside i (inr (omega arith))) (x .words i)
 
   -- which it then has
@@ -105,7 +105,7 @@ module _ (v : ℕ) (lens atoms after : List ℕ) (a : Label) (low : v < 6) (x : 
   value-new =
       let e : getD (set lens v (a .len)) v 0 ≡ a .len = getD-set-same lens v (a .len) 0 (omega (arith, x .variables)) in
       rw e
-      (same-part (a .len) (8 * v) 0 after (a .atoms) (omega (arith, s .room, held .few)) (omega (arith, held .room, held .few))
+      (same-part (a .len) (mostAtoms * v) 0 after (a .atoms) (omega (arith, s .room, held .few)) (omega (arith, held .room, held .few))
       (λ j k. s .inside j (omega (arith, held .few)) ∙ ap (λ (i : ℕ). getD (a .atoms) i 0) (sym (zero-plus j))))
     where
       zero-plus : (j : ℕ) → 0 + j ≡ j
@@ -115,8 +115,8 @@ module _ (v : ℕ) (lens atoms after : List ℕ) (a : Label) (low : v < 6) (x : 
   pub value-old : (u : ℕ) → u < v → valuesOf (set lens v (a .len)) after u ≡ valuesOf lens atoms u
   value-old u k =
       rw (getD-set-other lens v u (a .len) 0 (omega arith))
-      (same-part (getD lens u 0) (8 * u) (8 * u) after atoms (omega (arith, s .room, x .few u)) (omega (arith, x .room, x .few u))
-      (λ j l. s .outside (8 * u + j) (inl (omega (arith, x .few u)))))
+      (same-part (getD lens u 0) (mostAtoms * u) (mostAtoms * u) after atoms (omega (arith, s .room, x .few u)) (omega (arith, x .room, x .few u))
+      (λ j l. s .outside (mostAtoms * u + j) (inl (omega (arith, x .few u)))))
 
   pub values-more : (h : Host) (r : Rule) (p : List ℕ) → atomsIn a ≡ assigned h r p v → HasValues h r p v lens atoms
       → HasValues h r p (v + 1) (set lens v (a .len)) after

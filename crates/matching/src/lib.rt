@@ -6,7 +6,7 @@ ghost use lib.ListN.{length, getD, take, replicate};
 ghost use Rattle.meaning.specs.Image.{mostItems};
 ghost use Rattle.meaning.specs.FirstMatch.{nodeFits, complete as isComplete};
 ghost use Rattle.graph.specs.Graph.{Legal};
-ghost use Rattle.meaning.specs.Layout.{hostOf};
+ghost use Rattle.meaning.specs.Layout.{hostOf, mostAtoms};
 ghost use Rattle.plan.specs.Plan.{IsRule, edgesAt, nodesAt, planLength, sortAt};
 ghost use Rattle.matching.specs.Next.{Handed, Ready, Of, endOf, Meets, NextSlot, NextLikely, IsStep};
 ghost use Rattle.meaning.specs.Matching.{total};
@@ -357,18 +357,18 @@ fn advance(
 
 // Copies the atoms of label a to a place.
 fn put_atoms(atoms: &mut [u32; Room::ATOMS], start: usize, a: Label)
-    requires { ⌜ (start + 8 ≤ valuesRoom) × (length (now atoms) ≡ valuesRoom) ⌝ }
+    requires { ⌜ (start + mostAtoms ≤ valuesRoom) × (length (now atoms) ≡ valuesRoom) ⌝ }
     ensures { λ r. ⌜ Copied start (a .atoms) (now (atoms .entry)) (now (atoms .exit)) ⌝ }
 {
     let from = a.atoms;
     let mut j: usize = 0;
-    while j < 8 {
+    while j < labels::MOST {
         atoms[start + j] = from[j];
         j += 1;
     }
 }
 
-// Writes the values that a full placement gives the variables: variable v has lens[v] atoms, from atoms[8 * v] on.
+// Writes the values that a full placement gives the variables: variable v has lens[v] atoms, from atoms[labels::MOST * v] on.
 fn assign(
     l: Layout,
     nodes: &[u8],
@@ -391,7 +391,7 @@ fn assign(
         if plan[At::FIRST + v] < m {
             let a = agreeing::value(l, nodes, edges, rule, plan, at, Room::ITEMS, 0, v);
             lens[v] = a.len;
-            put_atoms(atoms, 8 * v, a);
+            put_atoms(atoms, labels::MOST * v, a);
             v += 1;
         } else {
             v += 1;

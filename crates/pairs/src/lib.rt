@@ -10,6 +10,7 @@ ghost use Rattle.values.specs.Values.{Stored, valuesRoom};
 ghost use Rattle.pairs.specs.Pairs.{isMatch, starts as doesStart, Answers};
 ghost use Rattle.plan.specs.Plan.{planLength};
 use answers::Checked;
+use answers::Report;
 use matching::Matched;
 use matching::Outcome;
 use meaning::Layout;
@@ -20,7 +21,7 @@ use plan::At;
 pub fn starts(nodes: &[u8], edges: &[u8], image: &[u8]) -> bool
     ensures { λ r. ⌜ r ≡ doesStart (now (nodes .entry)) (now (edges .entry)) (now (image .entry)) ⌝ }
 {
-    let report = [0u8; 8];
+    let report = [0u8; Report::LENGTH];
     let check = refusal::run_refusal(nodes, edges, &nodes[..0], image, 0, &report);
     match check {
         Checked::Fine => true,
@@ -76,7 +77,7 @@ fn write_value(atoms: [u32; Room::ATOMS], start: usize, n: usize)
 {
     io::write_all(1, b" =");
     let mut j: usize = 0;
-    while j < 8 {
+    while j < labels::MOST {
         if j >= n {
             return;
         }
@@ -91,7 +92,7 @@ fn write_values(lens: [usize; Room::VARIABLES], atoms: [u32; Room::ATOMS], n: us
         if v >= n {
             return;
         }
-        write_value(atoms, 8 * v, lens[v]);
+        write_value(atoms, labels::MOST * v, lens[v]);
         v += 1;
     }
 }

@@ -8,7 +8,7 @@ use native.Mathlib.Omega.{arith}
 use native.Mathlib.Decide.{ℕ-discrete}
 use lib.ListN.{length, getD, set, take, drop, length-drop}
 use Rattle.meaning.specs.Basics.{concat}
-use Rattle.meaning.specs.Image.{Rule, field, test, mostItems}
+use Rattle.meaning.specs.Image.{Rule, field, test, mostItems, limits}
 use Rattle.meaning.specs.References.{operandNames, conditionOperands, conditionNodes, labels}
 use Rattle.meaning.specs.Matching.{leftNodes}
 use Rattle.meaning.specs.FirstMatch.{firstWith, highest, decidedAt}
@@ -32,7 +32,7 @@ use Rattle.planning.proofs.Stores.{other, stored, all-kept}
 -- Operands.
 
 module _ (plan : List ℕ) (o : Operand) where
-  pub valued : Valued plan o → {v : ℕ} → o ≡ variableOperand v → (v < 6) × (getD plan (firstAt + v) 0 ≤ mostItems)
+  pub valued : Valued plan o → {v : ℕ} → o ≡ variableOperand v → (v < limits .variables) × (getD plan (firstAt + v) 0 ≤ mostItems)
   unfolding operandNames
   valued w {v} e = let a = w .variables in (rw e at a) .0
 
@@ -47,15 +47,15 @@ module _ (plan : List ℕ) (o : Operand) where
 -- Conditions.
 
 module _ (plan : List ℕ) (c : Condition) where
-  pub edge-nodes : Decides plan c → {a b : ℕ} → c ≡ Edge a b → (a < 6) × (b < 6)
+  pub edge-nodes : Decides plan c → {a b : ℕ} → c ≡ Edge a b → (a < limits .nodes) × (b < limits .nodes)
   unfolding conditionNodes
   edge-nodes w e = let n = w .nodes in let m = rw e at n in (m .0, m .1 .0)
 
-  pub in-node : Decides plan c → {a n : ℕ} → c ≡ InDegree a n → a < 6
+  pub in-node : Decides plan c → {a n : ℕ} → c ≡ InDegree a n → a < limits .nodes
   unfolding conditionNodes
   in-node w e = let n = w .nodes in (rw e at n) .0
 
-  pub out-node : Decides plan c → {a n : ℕ} → c ≡ OutDegree a n → a < 6
+  pub out-node : Decides plan c → {a n : ℕ} → c ≡ OutDegree a n → a < limits .nodes
   unfolding conditionNodes
   out-node w e = let n = w .nodes in (rw e at n) .0
 
@@ -124,11 +124,11 @@ module _ {bs : List ℕ} {r : Rule} {plan : List ℕ} (w : Named bs r plan (leng
   decides =
       let few = w .laid .items .fewNodes in
       let fewer = w .laid .items .fewEdges in
-      let low : (v : ℕ) → v < length (r .variables) → (v < 6) × (getD plan (firstAt + v) 0 ≤ mostItems) = λ v k.
+      let low : (v : ℕ) → v < length (r .variables) → (v < limits .variables) × (getD plan (firstAt + v) 0 ≤ mostItems) = λ v k.
       (omega (arith, w .laid .fewVariables), omega (arith, w .first v k .item, first-low v (labels (r .left)), labels-length r))
       in
       record {
-        nodes = Every-then (λ a. a < leftNodes r) (λ a. a < 6) (λ a k. omega arith) (conditionNodes c) (Every-in (λ x. Every (λ a. a < leftNodes r) (conditionNodes (x .condition))) (r .tests) (nodes-exist r (w .laid .holds)) t h _);
+        nodes = Every-then (λ a. a < leftNodes r) (λ a. a < limits .nodes) (λ a k. omega arith) (conditionNodes c) (Every-in (λ x. Every (λ a. a < leftNodes r) (conditionNodes (x .condition))) (r .tests) (nodes-exist r (w .laid .holds)) t h _);
         operands = Every-then _ (Valued plan) (λ o k. record { size = w .laid .items .size; variables = Every-then _ _ low (operandNames o) k }) (conditionOperands c) exist;
       }
 

@@ -6,7 +6,7 @@ use native.Mathlib.Omega.{arith}
 use native.Mathlib.Decide.{ℕ-discrete}
 use lib.ListN.{length, getD, set, length-set}
 use lib.Seq.{getD-set-same, getD-set-other}
-use Rattle.meaning.specs.Image.{RuleGraph, Rule}
+use Rattle.meaning.specs.Image.{RuleGraph, Rule, limits}
 use Rattle.fields.specs.Parsed.{types-is}
 use Rattle.plan.specs.Plan.{Items, Laid, FirstAt, Labelled, constantAt, elementsAt, listsAt, planLength, sortAt, typesEndAt, typesStartAt, beforeAt, endAt, firstAt, singlesAt, startAt}
 use Rattle.planning.specs.Planning.{Named, AllLabelled}
@@ -103,7 +103,7 @@ types-count {bs} {r} {plan} l =
 
 -- What is said of one variable: three stores.
 
-module _ {bs : List ℕ} {r : Rule} {plan : List ℕ} {v j s q : ℕ} (low : v < 6) (w : Named bs r plan v) (f : FirstAt r v j s q) where
+module _ {bs : List ℕ} {r : Rule} {plan : List ℕ} {v j s q : ℕ} (low : v < limits .variables) (w : Named bs r plan v) (f : FirstAt r v j s q) where
   abbrev one : List ℕ
   one = set plan (firstAt + v) j
 

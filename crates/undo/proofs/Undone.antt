@@ -70,7 +70,7 @@ module _ (L : Layout) (nodes edges journal : List ℕ) (count : ℕ) (report : L
 
   -- What undo leaves.
 
-  pub leaves-refused : (w : Refusal) (report′ : List ℕ) → some w ≡ undoFails → report′ ≡ choose (eqb (length report) 8) (reportOf 0 0) report
+  pub leaves-refused : (w : Refusal) (report′ : List ℕ) → some w ≡ undoFails → report′ ≡ choose (eqb (length report) reportLength) (reportOf 0 0) report
       → Leaves (undo L (lendingBack nodes edges journal count report)) (refusalNumber w) nodes edges journal report′
   unfolding undo undoOn refused answerNumber
   leaves-refused w report′ e r =

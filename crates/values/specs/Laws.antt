@@ -14,7 +14,7 @@ use lib.Seq.{getD-take, getD-append-add, take-append-seam}
 use Rattle.meaning.specs.Basics.{choose, both, isSome, concat, ensure, each, _>>_, _>>=_}
 use Rattle.meaning.specs.Numbers.{half, whole, height, sum, difference}
 use Rattle.meaning.specs.Layout.{mostAtoms}
-use Rattle.meaning.specs.Image.{label}
+use Rattle.meaning.specs.Image.{label, limits}
 use Rattle.meaning.specs.Matching.{Assignment, atomOf}
 use Rattle.meaning.specs.Applying.{elementValue, labelValue}
 use Rattle.meaning.specs.Laws.Tests.{both-of, both-no, both-yes, choose-true, choose-false, ensure-some, ensure-yes, ensure-no, some-inj}
@@ -106,13 +106,13 @@ module _ (lens atoms : List ℕ) (v : ℕ) where
   pub first-some : (getD lens v 0 ≡ 0 → ⊥) → getD atoms (mostAtoms * v) 0 ≡ getD (valuesOf lens atoms v) 0 0
   first-some h = sym (getD-take (getD lens v 0) (drop (mostAtoms * v) atoms) 0 0 (omega arith) ∙ first-at atoms (mostAtoms * v))
 
-  pub far : Stored lens atoms → 6 ≤ v → getD lens v 0 ≡ 0
+  pub far : Stored lens atoms → limits .variables ≤ v → getD lens v 0 ≡ 0
   far s h = List·getD-eq-default lens 0 (omega (arith, s .variables))
 
-  pub first-far : Stored lens atoms → 6 ≤ v → 0 ≡ getD (valuesOf lens atoms v) 0 0
+  pub first-far : Stored lens atoms → limits .variables ≤ v → 0 ≡ getD (valuesOf lens atoms v) 0 0
   first-far s h = first-none (far s h)
 
-  pub value-far : (r : Label) → Stored lens atoms → 6 ≤ v → Holds [] r → Holds (valuesOf lens atoms v) r
+  pub value-far : (r : Label) → Stored lens atoms → limits .variables ≤ v → Holds [] r → Holds (valuesOf lens atoms v) r
   value-far r s h k = rw (no-atoms (far s h)) k
 
 -- A value in hand.

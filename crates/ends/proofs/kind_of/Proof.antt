@@ -4,12 +4,13 @@ use Prim.Native.Nat.{ℕ, _≤_}
 use native.Mathlib.Omega.{arith}
 use borrow.Author.Needs.{needs}
 use Rattle.meaning.specs.Basics.{choose}
+use Rattle.meaning.specs.Tags.{ruleSetTag, loopTag, skipTag, failTag, breakTag}
 use Rattle.fields.specs.Laws.{past}
 use Rattle.ends.proofs.kind_of.Statement.{statement}
 use Rattle.ends.proofs.kind_of.Tie as tie
 
 -- the tag that is none of the others
-last : (tag : ℕ) → (tag ≡ 84 → ⊥) → (tag ≡ 85 → ⊥) → (tag ≡ 86 → ⊥) → 84 ≤ tag → tag ≤ 87 → tag ≡ 87
+last : (tag : ℕ) → (tag ≡ loopTag → ⊥) → (tag ≡ skipTag → ⊥) → (tag ≡ failTag → ⊥) → loopTag ≤ tag → tag ≤ breakTag → tag ≡ breakTag
 last tag h4 h5 h6 low high = omega arith
 
 returns : tie.Need-returns
@@ -36,7 +37,7 @@ returns-7 : tie.Need-returns-7
 returns-7 c = search needs
 
 returns-8 : tie.Need-returns-8
-returns-8 c low high = last _ (c .match .rest .0 .0 .1) (c .match .rest .0 .1) (c .match .rest .1) (past 80 _ (c .match .rest .0 .0 .0 .0 .0 .0 .1) (c .match .rest .0 .0 .0 .0 .0 .1) (c .match .rest .0 .0 .0 .0 .1) (c .match .rest .0 .0 .0 .1) low) high
+returns-8 c low high = last _ (c .match .rest .0 .0 .1) (c .match .rest .0 .1) (c .match .rest .1) (past ruleSetTag _ (c .match .rest .0 .0 .0 .0 .0 .0 .1) (c .match .rest .0 .0 .0 .0 .0 .1) (c .match .rest .0 .0 .0 .0 .1) (c .match .rest .0 .0 .0 .1) low) high
 
 pub kind-of-spec : {M : Type 1} → statement M
 kind-of-spec =

@@ -4,6 +4,7 @@ use mathlib.Core.Path.{_≡_, ap}
 use native.Mathlib.Omega.{arith}
 use borrow.Author.Needs.{needs}
 use lib.ListN.{length, take}
+use Rattle.meaning.specs.Image.{limits}
 use Rattle.meaning.specs.Assigned.{assigned}
 use Rattle.labels.specs.Labels.{Holds}
 use Rattle.meaning.specs.Layout.{hostOf}
@@ -108,7 +109,7 @@ loop-again c =
     let put = c .put-atoms in
     let got = c .before .before .value in
     let test = c .before .before .before .before .before .loop-test in
-    let low : l .loop .v < 6 = omega (arith, l .loop .inv .2 (s .pre .0 .known), s .pre .0 .known .planned .laid .fewVariables) in
+    let low : l .loop .v < limits .variables = omega (arith, l .loop .inv .2 (s .pre .0 .known), s .pre .0 .known .planned .laid .fewVariables) in
     let held : (w : Known (a .rule .now) (a .plan .now)) → Holds
     (assigned (hostOf (a .l) (a .nodes .now) (a .edges .now)) (w .rule) (take (total (w .rule)) (a .at .now)) (l .loop .v))
     (got .result) =

@@ -2,15 +2,16 @@
 use Prim.Native.Nat.{_-_, _≤_}
 use native.Mathlib.Omega.{arith}
 use borrow.Author.Needs.{needs}
+use Rattle.meaning.specs.Layout.{mostAtoms}
 use Rattle.matching.proofs.Storing.{Copying, copy-none, copy-more, copied-all}
 use Rattle.matching.proofs.put_atoms.Statement.{statement}
 use Rattle.matching.proofs.put_atoms.Tie as tie
 
 abbrev Inv-loop : tie.InvT-loop
-Inv-loop atoms₀ start from j₀ atoms j = (j ≤ 8) × Copying start j from atoms₀ atoms
+Inv-loop atoms₀ start from j₀ atoms j = (j ≤ mostAtoms) × Copying start j from atoms₀ atoms
 
 abbrev μ-loop : tie.MeasureT-loop
-μ-loop atoms₀ start from j₀ atoms j = 8 - j
+μ-loop atoms₀ start from j₀ atoms j = mostAtoms - j
 
 loop-holds : tie.Need-loop-holds Inv-loop μ-loop
 loop-holds c = (omega arith, copy-none _ _ _ (c .before .pre .1))

@@ -2,6 +2,7 @@
 use Prim.Native.Nat.{_-_}
 use native.Mathlib.Omega.{arith}
 use borrow.Author.Needs.{needs}
+use Rattle.meaning.specs.Image.{mostItems}
 use Rattle.pairs.proofs.write_slots.Statement.{statement}
 use Rattle.pairs.proofs.write_slots.Tie as tie
 
@@ -9,7 +10,7 @@ abbrev Inv-loop : tie.InvT-loop
 Inv-loop n slots i₀ i = Unit {0}
 
 abbrev μ-loop : tie.MeasureT-loop
-μ-loop n slots i₀ i = 12 - i
+μ-loop n slots i₀ i = mostItems - i
 
 loop-holds : tie.Need-loop-holds Inv-loop μ-loop
 loop-holds c = tt

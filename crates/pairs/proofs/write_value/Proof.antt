@@ -1,7 +1,8 @@
--- `write_value` ends: at most eight atoms.
+-- `write_value` ends: at most as many atoms as a label has room for.
 use Prim.Native.Nat.{_-_}
 use native.Mathlib.Omega.{arith}
 use borrow.Author.Needs.{needs}
+use Rattle.meaning.specs.Layout.{mostAtoms}
 use Rattle.pairs.proofs.write_value.Statement.{statement}
 use Rattle.pairs.proofs.write_value.Tie as tie
 
@@ -9,7 +10,7 @@ abbrev Inv-loop : tie.InvT-loop
 Inv-loop start n atoms j₀ j = Unit {0}
 
 abbrev μ-loop : tie.MeasureT-loop
-μ-loop start n atoms j₀ j = 8 - j
+μ-loop start n atoms j₀ j = mostAtoms - j
 
 slice-aggregate-write-all : tie.Need-slice-aggregate-write-all Inv-loop μ-loop
 slice-aggregate-write-all c = search needs

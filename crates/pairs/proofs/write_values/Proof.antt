@@ -2,6 +2,7 @@
 use Prim.Native.Nat.{_-_}
 use native.Mathlib.Omega.{arith}
 use borrow.Author.Needs.{needs}
+use Rattle.meaning.specs.Image.{limits}
 use Rattle.pairs.proofs.write_values.Statement.{statement}
 use Rattle.pairs.proofs.write_values.Tie as tie
 
@@ -9,7 +10,7 @@ abbrev Inv-loop : tie.InvT-loop
 Inv-loop atoms n lens v₀ v = Unit {0}
 
 abbrev μ-loop : tie.MeasureT-loop
-μ-loop atoms n lens v₀ v = 6 - v
+μ-loop atoms n lens v₀ v = limits .variables - v
 
 loop-holds : tie.Need-loop-holds Inv-loop μ-loop
 loop-holds c = tt
