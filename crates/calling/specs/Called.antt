@@ -9,7 +9,7 @@ use lib.ListN.{length}
 use lib.Dec.{ltb}
 use Rattle.meaning.specs.Basics.{every}
 use Rattle.meaning.specs.Image.{Program, program}
-use Rattle.meaning.specs.Commands.{Out, firstRule, call}
+use Rattle.meaning.specs.Commands.{firstRule, call}
 use Rattle.meaning.specs.Calls.{journalRoom}
 use Rattle.laws.specs.LegalCommands.{LegalRules}
 use Rattle.meaning.specs.declared.Layout.{Layout}

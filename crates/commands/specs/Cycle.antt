@@ -1,28 +1,22 @@
 -- The command cycle over lent bytes: what is known of the parts of a program before they are run, and what is left after.
 -- Rests on calling's Called, on references' Runs and on the meaning's Commands.
 use mathlib.Core.Path.{_≡_}
-use mathlib.Core.Bool.{Bool, true, false}
+use mathlib.Core.Bool.{Bool, true}
 use mathlib.Core.Option.{some}
 use mathlib.Core.List.{List, []}
 use Prim.Native.Nat.{ℕ, _+_, _≤_}
 use lib.ListN.{length, getD}
-use Rattle.meaning.specs.Basics.{choose, every}
+use Rattle.meaning.specs.Basics.{every}
 use Rattle.meaning.specs.Image.{Command, guarded, loop, skip, inOrder, command}
 use Rattle.meaning.specs.References.{rulesExist}
-use Rattle.meaning.specs.Commands.{State, Out, ends, back, work, works, exec}
+use Rattle.meaning.specs.Commands.{State, Out, work, works, exec}
 use Rattle.meaning.specs.Calls.{journalRoom, mostFuel}
-use Rattle.laws.specs.Hosts.{LegalHost}
-use Rattle.laws.specs.Restoring.{From}
 use Rattle.meaning.specs.declared.Layout.{Layout}
 use Rattle.meaning.specs.declared.Tally.{Tally}
-use Rattle.meaning.specs.declared.End.{End}
-use Rattle.meaning.specs.declared.End.the-variants.{Done, Failed, Broke, Stopped}
 use Rattle.parts.specs.Runs.{Run}
-use Rattle.ledger.specs.Running.{ledgerOf, stateOf, Running, outOf}
+use Rattle.ledger.specs.Running.{stateOf, Running, outOf}
 use Rattle.calling.specs.Called.{Programmed}
 use Rattle.meaning.specs.declared.Ran.{Ran}
-use Rattle.ends.specs.declared.Kind.{Kind}
-use Rattle.ends.specs.declared.Kind.the-variants.{RuleSet, Sequence, Guarded, Loop, Leaf}
 
 -- What is known of the parts of a program.
 

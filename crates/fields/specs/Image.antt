@@ -6,24 +6,20 @@ use mathlib.Core.Bool.{Bool, true, false}
 use mathlib.Core.Option.{Option, some, none}
 use Prim.Native.Nat.{ℕ, zero, suc, _+_, _-_, _<_, _≤_}
 use native.Mathlib.Omega.{arith}
-use borrow.Author.Tests.{eq-eqb, ne-eqb, lt-ltb, eqb-true, le-leb, lt-leb, leb-true}
+use borrow.Author.Tests.{ne-eqb, lt-ltb, le-leb, lt-leb, leb-true}
 use lib.Dec.{eqb, leb, ltb}
 use lib.ListN.{length, getD, take, drop, length-drop, length-append, drop-of-length-le}
-use lib.Seq.{length-take-le, getD-drop, drop-drop, drop-cons}
+use lib.Seq.{length-take-le, getD-drop, drop-drop}
 use Rattle.meaning.specs.Basics.{choose, both, either, every, isEmpty, isSome, ensure, _>>_, _>>=_}
 use Rattle.meaning.specs.Layout.{isNodeMark, isEdgeMark}
 use Rattle.meaning.specs.Image.{RuleNode, Rule, Command, Field, Read, Pair, stated, field, expect, leading, only, anyTag, constant, oneByte, operand, asPair, twoOperands, element, label, ruleNode, ruleEdge, ruleGraph, relation, condition, test, isType, types, rule, leaf, asRuleSet, asSequence, asGuarded, asLoop, command, program}
-use Rattle.meaning.specs.Tags.{anyMark, breakTag, constantTag, differenceTag, edgeTag, edgeTestTag, failTag, ifTag, inDegreeTag, interfaceTag, leftTag, loopTag, nodeTag, outDegreeTag, relationTag, rightTag, ruleSetTag, ruleTag, sequenceTag, skipTag, sumTag, testsTag, tryTag, variableTag, variablesTag}
+use Rattle.meaning.specs.Tags.{anyMark, breakTag, constantTag, differenceTag, edgeTag, edgeTestTag, failTag, ifTag, inDegreeTag, loopTag, nodeTag, outDegreeTag, relationTag, ruleSetTag, ruleTag, sequenceTag, skipTag, sumTag, tryTag, variableTag}
 use Rattle.meaning.specs.Image.Command.{skip, fail, break}
 use Rattle.meaning.specs.declared.Operand.{Operand}
 use Rattle.meaning.specs.declared.Condition.the-variants.{Equal, Less}
 use Rattle.meaning.specs.Laws.Tests.{choose-true, choose-false, choose-ne, some-inj, bind-some, ensure-some, ensure-yes, ensure-no}
 
 -- Optional values.
-
-pub isSome-of : {A : Type 0} (o : Option A) (a : A) → o ≡ some a → isSome o ≡ true
-unfolding isSome
-isSome-of o a e = rw e
 
 pub isSome-no : {A : Type 0} (o : Option A) → o ≡ none → isSome o ≡ false
 unfolding isSome
@@ -108,25 +104,9 @@ module _ (bs : List ℕ) where
         rest = rw s;
       })
 
-pub expect-yes : (tag : ℕ) (bs : List ℕ) (d : Field) → field bs ≡ some d → d .tag ≡ tag → expect tag bs ≡ some d
-unfolding expect
-expect-yes tag bs d e h = bind-yes _ _ d e ∙ ensure-yes _ _ (eq-eqb _ _ h)
-
 pub expect-other : (tag : ℕ) (bs : List ℕ) (d : Field) → field bs ≡ some d → (d .tag ≡ tag → ⊥) → expect tag bs ≡ none
 unfolding expect
 expect-other tag bs d e h = bind-yes _ _ d e ∙ ensure-no _ _ (ne-eqb _ _ h)
-
-pub expect-no : (tag : ℕ) (bs : List ℕ) → field bs ≡ none → expect tag bs ≡ none
-unfolding expect
-expect-no tag bs e = bind-none _ _ e
-
-pub expect-is : (tag : ℕ) (bs : List ℕ) (d : Field) → expect tag bs ≡ some d → IsField bs d × (d .tag ≡ tag)
-unfolding expect
-expect-is tag bs d e =
-    let t = bind-some (field bs) _ d e in
-    let u = ensure-some (eqb (t .0 .tag) tag) _ d (t .2) in
-    let q : t .0 ≡ d = some-inj _ _ (u .1) in
-    rw (← q) (field-is bs (t .0) (t .1), eqb-true _ _ (u .0))
 
 -- Runs of fields: one step.
 
@@ -277,26 +257,6 @@ module _ {A : Type 0} {passes : ℕ → Bool} {item : ℕ → List ℕ → Optio
 
 -- Nothing behind them.
 
-pub only-none : {A : Type 0} (passes : ℕ → Bool) (item : ℕ → List ℕ → Option A) (bound : ℕ) (bs : List ℕ) → leading passes item bound bs ≡ none → only passes item bound bs ≡ none
-unfolding only
-only-none passes item bound bs e = bind-none _ _ e
-
-module _ {A : Type 0} {passes : ℕ → Bool} {item : ℕ → List ℕ → Option A} {bound : ℕ} {bs : List ℕ} {at n : ℕ} (r : Reading passes item bound bs at n) where
-  pub only-end : length bs ≤ at → only passes item bound bs ≡ some (r .items)
-  unfolding only isEmpty
-  only-end h = bind-yes _ _ _ (reading-end r h) ∙ ensure-yes _ _ (rw (drop-of-length-le bs h))
-
-  -- a run that stops before the end of the bytes
-  only-more : leading passes item bound bs ≡ stopped r → at < length bs → only passes item bound bs ≡ none
-  unfolding only isEmpty
-  only-more e h = bind-yes _ _ _ e ∙ ensure-no _ _ (rw (drop-cons bs at 0 h))
-
-  pub only-full : n ≡ bound → at < length bs → only passes item bound bs ≡ none
-  only-full e h = only-more (reading-full r e) h
-
-  pub only-other : passes (getD bs at 0) ≡ false → at < length bs → only passes item bound bs ≡ none
-  only-other e h = only-more (reading-other r e) h
-
 -- When the readers succeed. Operands and labels.
 
 module _ (tag : ℕ) (bs : List ℕ) where
@@ -338,14 +298,6 @@ asPair-ok [] = refl
 asPair-ok (a ∷ []) = refl
 asPair-ok (a ∷ b ∷ []) = refl
 asPair-ok (a ∷ b ∷ c ∷ l) = sym (ne-eqb (length (a ∷ b ∷ c ∷ l)) 2 (λ e. omega arith))
-
-pub twoOperands-no : (bs : List ℕ) → only anyTag operand 2 bs ≡ none → twoOperands bs ≡ none
-unfolding twoOperands
-twoOperands-no bs e = bind-none _ _ e
-
-pub twoOperands-ok : (bs : List ℕ) (l : List Operand) → only anyTag operand 2 bs ≡ some l → isSome (twoOperands bs) ≡ eqb (length l) 2
-unfolding twoOperands
-twoOperands-ok bs l e = ap isSome (bind-yes _ _ l e) ∙ asPair-ok l
 
 -- Graphs.
 
@@ -411,38 +363,6 @@ module _ (tag : ℕ) (bs : List ℕ) where
 pub types-ok : (bs : List ℕ) → isSome (types bs) ≡ both (leb (length bs) 6) (every isType bs)
 unfolding types
 types-ok bs = isSome-after _ _ _ (isSome-ensure _ _)
-
-module _ (bs : List ℕ) where
-  pub rule-no-1 : expect variablesTag bs ≡ none → rule bs ≡ none
-  unfolding rule
-  rule-no-1 e = bind-none _ _ e
-
-  module _ (v : Field) (e1 : expect variablesTag bs ≡ some v) where
-    pub rule-no-2 : expect leftTag (v .rest) ≡ none → rule bs ≡ none
-    unfolding rule
-    rule-no-2 e = bind-yes _ _ v e1 ∙ bind-none _ _ e
-
-    module _ (l : Field) (e2 : expect leftTag (v .rest) ≡ some l) where
-      pub rule-no-3 : expect rightTag (l .rest) ≡ none → rule bs ≡ none
-      unfolding rule
-      rule-no-3 e = bind-yes _ _ v e1 ∙ bind-yes _ _ l e2 ∙ bind-none _ _ e
-
-      module _ (r : Field) (e3 : expect rightTag (l .rest) ≡ some r) where
-        pub rule-no-4 : expect interfaceTag (r .rest) ≡ none → rule bs ≡ none
-        unfolding rule
-        rule-no-4 e = bind-yes _ _ v e1 ∙ bind-yes _ _ l e2 ∙ bind-yes _ _ r e3 ∙ bind-none _ _ e
-
-        module _ (k : Field) (e4 : expect interfaceTag (r .rest) ≡ some k) where
-          pub rule-no-5 : expect testsTag (k .rest) ≡ none → rule bs ≡ none
-          unfolding rule
-          rule-no-5 e = bind-yes _ _ v e1 ∙ bind-yes _ _ l e2 ∙ bind-yes _ _ r e3 ∙ bind-yes _ _ k e4 ∙ bind-none _ _ e
-
-          pub rule-ok : (t : Field) → expect testsTag (k .rest) ≡ some t
-              → isSome (rule bs) ≡ both (isEmpty (t .rest)) (both (isSome (types (v .payload))) (both (isSome (ruleGraph (l .payload))) (both (isSome (ruleGraph (r .payload))) (both (isSome (oneByte (k .payload))) (isSome (only anyTag test 4 (t .payload)))))))
-          unfolding rule
-          rule-ok t e5 =
-              ap isSome (bind-yes _ _ v e1 ∙ bind-yes _ _ l e2 ∙ bind-yes _ _ r e3 ∙ bind-yes _ _ k e4 ∙ bind-yes _ _ t e5)
-              ∙ isSome-after _ _ _ (isSome-then _ _ _ (λ a. isSome-then _ _ _ (λ b. isSome-then _ _ _ (λ c. isSome-then _ _ _ (λ d. isSome-map _ _)))))
 
 pub oneByte-ok : (bs : List ℕ) → isSome (oneByte bs) ≡ eqb (length bs) 1
 unfolding oneByte

@@ -1,9 +1,8 @@
 -- Laws of Fields: what each answer of the reader says of the field in the bytes, and which answer there is; the items of
 -- a run by the numbers of their fields; numbers of two and four bytes. Rests on Fields and the meaning's laws.
 use mathlib.Core.Path.{_≡_, refl, sym, _∙_, ap}
-use mathlib.Core.Bool.{Bool}
 use mathlib.Core.Option.{Option, some, none}
-use mathlib.Core.List.{List, [], _∷_}
+use mathlib.Core.List.{List, _∷_}
 use Prim.Native.Nat.{ℕ, zero, suc, _+_, _-_, _*_, _<_, _≤_}
 use native.Mathlib.Omega.{arith}
 use native.Mathlib.Decide.{decLt}
@@ -11,9 +10,8 @@ use borrow.Author.Tests.{le-leb, lt-leb}
 use lib.ListN.{length, getD, take, drop, length-drop}
 use lib.Seq.{drop-drop, drop-cons}
 use Rattle.meaning.specs.Numbers.{number}
-use Rattle.meaning.specs.Image.{field, stated, leading, Field as Whole}
+use Rattle.meaning.specs.Image.{field, stated, Field as Whole}
 use Rattle.meaning.specs.Laws.Tests.{choose-true, choose-false}
-use Rattle.fields.specs.Parsed.{Head, leading-head}
 use Rattle.fields.specs.Image.{first-at, field-is, field-of, field-small, field-cut}
 use Rattle.fields.specs.Fields.{placed, fieldAt, onward, nthField}
 use Rattle.fields.specs.declared.Found.{Found}
@@ -199,32 +197,6 @@ pub record ReadFrom {A : Type 0} (item : ℕ → List ℕ → Option A) (bs : Li
 
 there : (bs : List ℕ) (at : ℕ) (d : Whole) → field (drop at bs) ≡ some d → at < length bs
 there bs at d e = omega (arith, field-is (drop at bs) d e .long, length-drop at bs)
-
-at-first : {A : Type 0} {passes : ℕ → Bool} {item : ℕ → List ℕ → Option A} {n : ℕ} (bs : List ℕ) (at : ℕ) {a : A} {l : List A} {behind : List ℕ} → Head passes item n (drop at bs) a l behind → ReadFrom item bs a (fieldAt bs at)
-unfolding lies
-at-first bs at w =
-    let s = lies bs at (w .whole .tag) (at + 3) (at + 3 + length (w .whole .payload)) (w .whole) (w .is) refl in
-    record {
-      tag = w .whole .tag;
-      start = at + 3;
-      end = at + 3 + length (w .whole .payload);
-      is = sym (at-field bs at (there bs at (w .whole) (w .is)) (w .whole) (w .is));
-      ordered = omega arith;
-      inside = s .inside;
-      reads = rw (← (s .payload)) (w .first);
-    }
-
--- the items of a run are read from its fields, by their numbers
-pub nth-read : {A : Type 0} (passes : ℕ → Bool) (item : ℕ → List ℕ → Option A) (l : List A) (n : ℕ) (bs : List ℕ) (at : ℕ) (behind : List ℕ)
-    → leading passes item n (drop at bs) ≡ some (record { items = l; rest = behind }) → (i : ℕ) (d : A) → i < length l → ReadFrom item bs (getD l i d) (nthField i bs at)
-unfolding nthField onward lies
-nth-read passes item [] n bs at behind e i d h = absurd (omega arith)
-nth-read passes item (a ∷ l) n bs at behind e zero d h = at-first bs at (leading-head passes item n (drop at bs) a l behind e)
-nth-read passes item (a ∷ l) n bs at behind e (suc i) d h =
-    let w = leading-head passes item n (drop at bs) a l behind e in
-    let s = lies bs at (w .whole .tag) (at + 3) (at + 3 + length (w .whole .payload)) (w .whole) (w .is) refl in
-    rw (← (at-field bs at (there bs at (w .whole) (w .is)) (w .whole) (w .is)))
-    (nth-read passes item l (n - 1) bs (at + 3 + length (w .whole .payload)) behind (ap (leading passes item (n - 1)) (sym (s .rest)) ∙ w .next) i d (omega arith))
 
 -- Tags: a number that is none of four in a row lies behind them
 pub past : (low t : ℕ) → (t ≡ low → ⊥) → (t ≡ low + 1 → ⊥) → (t ≡ low + 2 → ⊥) → (t ≡ low + 3 → ⊥) → low ≤ t → low + 4 ≤ t

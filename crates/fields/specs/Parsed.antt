@@ -13,8 +13,8 @@ use lib.ListN.{length, getD, drop}
 use Rattle.meaning.specs.Basics.{either, every, isEmpty, _>>=_}
 use Rattle.meaning.specs.Numbers.{number}
 use Rattle.meaning.specs.Layout.{isNodeMark, isEdgeMark}
-use Rattle.meaning.specs.Image.{RuleEdge, RuleGraph, Program, Commands, stop, then, inOrder, RuleNode, Rule, Command, Field, Read, Pair, field, expect, leading, only, anyTag, constant, oneByte, operand, asPair, twoOperands, element, label, ruleNode, ruleEdge, ruleGraph, relation, condition, test, isType, types, rule, leaf, asRuleSet, asSequence, asGuarded, asLoop, command, program}
-use Rattle.meaning.specs.Tags.{anyMark, breakTag, constantTag, differenceTag, edgeTag, edgeTestTag, failTag, ifTag, inDegreeTag, interfaceTag, leftTag, loopTag, nodeTag, outDegreeTag, relationTag, rightTag, ruleSetTag, ruleTag, sequenceTag, skipTag, sumTag, testsTag, tryTag, variableTag, variablesTag}
+use Rattle.meaning.specs.Image.{RuleEdge, RuleGraph, Program, Commands, stop, then, inOrder, RuleNode, Rule, Command, Field, Read, Pair, field, expect, leading, only, anyTag, constant, oneByte, operand, asPair, twoOperands, element, label, ruleNode, ruleEdge, ruleGraph, relation, condition, test, isType, types, rule, leaf, asRuleSet, asSequence, asGuarded, asLoop, command}
+use Rattle.meaning.specs.Tags.{anyMark, breakTag, constantTag, differenceTag, edgeTag, edgeTestTag, failTag, ifTag, inDegreeTag, interfaceTag, leftTag, loopTag, nodeTag, outDegreeTag, rightTag, ruleSetTag, ruleTag, sequenceTag, skipTag, sumTag, testsTag, tryTag, variableTag, variablesTag}
 use Rattle.meaning.specs.Image.Command.{ruleSet, sequence, guarded, loop, skip, fail, break}
 use Rattle.meaning.specs.declared.Operand.{Operand}
 use Rattle.meaning.specs.declared.Operand.the-variants.{Constant as constantOperand, Variable as variableOperand}
@@ -25,7 +25,7 @@ use Rattle.meaning.specs.declared.Condition.{Condition}
 use Rattle.meaning.specs.declared.Condition.the-variants.{Edge, InDegree, OutDegree, Equal, Less}
 use Rattle.meaning.specs.Laws.Every.{Every}
 use Rattle.meaning.specs.Laws.Tests.{both-true, empty-true, choose-eq, choose-true, choose-false, choose-ne, some-inj, bind-some, ensure-some}
-use Rattle.fields.specs.Image.{leading-led, condition-relation, command-no-depth, command-ruleSet, command-sequence, command-if, command-try, command-loop, command-skip, command-fail, command-break, command-other}
+use Rattle.fields.specs.Image.{leading-led, command-no-depth, command-ruleSet, command-sequence, command-if, command-try, command-loop, command-skip, command-fail, command-break, command-other}
 
 -- Runs of fields.
 
@@ -245,12 +245,6 @@ module _ (tag : ℕ) (bs : List ℕ) (x : Condition) (e : condition tag bs ≡ s
       let t = ensure-some _ _ x (sym (choose-ne tag edgeTestTag _ _ (λ q. omega arith) ∙ choose-ne tag inDegreeTag _ _ (λ q. omega arith) ∙ choose-eq tag outDegreeTag _ _ h) ∙ e) in
       (eqb-true _ _ (t .0), sym (some-inj _ x (t .1)))
 
-  pub condition-43 : tag ≡ relationTag → (p : Pair) × (1 ≤ length bs) × (twoOperands (drop 1 bs) ≡ some p) × (relation (getD bs 0 0) p ≡ some x)
-  condition-43 h =
-      let t = ensure-some _ _ x (sym (condition-relation tag bs h) ∙ e) in
-      let u = bind-some (twoOperands (drop 1 bs)) _ x (t .1) in
-      (u .0, leb-true _ _ (t .0), u .1, u .2)
-
 pub relation-1 : (kind : ℕ) (p : Pair) → kind ≡ 1 → relation kind p ≡ some (Equal (p .first) (p .second))
 unfolding relation
 relation-1 kind p h = choose-eq kind 1 _ _ h
@@ -431,63 +425,6 @@ unfoldable mutual
   heights stop = 0
   heights (then c cs) = max (height c) (heights cs)
 
-heights-most : (n : ℕ) (l : List Command) → Every (λ c. height c ≤ n) l → heights (inOrder l) ≤ n
-unfolding heights inOrder
-heights-most n [] e = omega arith
-heights-most n (c ∷ l) e = let h = heights-most n l (e .1) in omega (arith, e .0)
-
-or-more : {P : Type 0} (tag k : ℕ) → k ≤ tag → (tag ≡ k → P) → (suc k ≤ tag → P) → P
-or-more {P} tag k h f g = at (ℕ-discrete tag k)
-  where
-    at : Dec (tag ≡ k) → P
-    at (yes e) = f e
-    at (no e) = g (omega arith)
-
-module _ (n tag : ℕ) (bs : List ℕ) (x : Command) (e : command (suc n) tag bs ≡ some x) (below : (l : List Command) → only anyTag (command n) 16 bs ≡ some l → Every (λ c. height c ≤ n) l) where
-  height-50 : tag ≡ ruleSetTag → height x ≤ suc n
-  unfolding height
-  height-50 h = rw (command-50 n tag bs x e h .0) (omega arith)
-
-  height-51 : tag ≡ sequenceTag → height x ≤ suc n
-  unfolding height
-  height-51 h =
-      let s = command-51 n tag bs x e h in
-      let k = heights-most n (s .0) (below (s .0) (s .1)) in
-      rw (s .4) (omega arith)
-
-  height-three : (keep : Bool) → (a b c : Command) × (only anyTag (command n) 16 bs ≡ some (a ∷ b ∷ c ∷ [])) × (x ≡ guarded keep a b c) → height x ≤ suc n
-  unfolding height
-  height-three keep s =
-      let k = below _ (s .3) in
-      rw (s .4) (omega (arith, k .0, k .1 .0, k .1 .1 .0))
-
-  height-54 : tag ≡ loopTag → height x ≤ suc n
-  unfolding height
-  height-54 h =
-      let s = command-54 n tag bs x e h in
-      let k = below _ (s .1) in
-      rw (s .2) (omega (arith, k .0))
-
-  height-leaf : (c : Command) → height c ≡ 1 → x ≡ c → height x ≤ suc n
-  height-leaf c h q = rw q (omega arith)
-
-  height-at : height x ≤ suc n
-  unfolding height
-  height-at =
-      let t = command-tag (suc n) tag bs x e in
-      or-more tag ruleSetTag (t .1) height-50 (λ h. or-more tag sequenceTag h height-51
-      (λ h. or-more tag ifTag h (λ q. height-three false (command-52 n tag bs x e q))
-      (λ h. or-more tag tryTag h (λ q. height-three true (command-53 n tag bs x e q))
-      (λ h. or-more tag loopTag h height-54
-      (λ h. or-more tag skipTag h (λ q. height-leaf skip refl (command-55 n tag bs x e q .1))
-      (λ h. or-more tag failTag h (λ q. height-leaf fail refl (command-56 n tag bs x e q .1))
-      (λ h. height-leaf break refl (command-57 n tag bs x e (omega (arith, t .2)) .1))))))))
-
-pub command-height : (n tag : ℕ) (bs : List ℕ) (x : Command) → command n tag bs ≡ some x → height x ≤ n
-command-height zero tag bs x e = let h = command-tag 0 tag bs x e .0 in absurd (omega arith)
-command-height (suc n) tag bs x e =
-    height-at n tag bs x e (λ l q. leading-every anyTag (command n) (λ c. height c ≤ n) (λ t cs y r. command-height n t cs y r) l 16 bs [] (only-is anyTag (command n) 16 bs l q))
-
 -- The whole.
 
 pub record IsProgram (bs : List ℕ) (x : Program) : Type 0 where
@@ -498,12 +435,3 @@ pub record IsProgram (bs : List ℕ) (x : Program) : Type 0 where
   pub at-command : field behind ≡ some whole
   pub last : whole .rest ≡ []
   pub main : command 16 (whole .tag) (whole .payload) ≡ some (x .main)
-
-pub program-is : (bs : List ℕ) (x : Program) → program bs ≡ some x → IsProgram bs x
-unfolding program
-program-is bs x e =
-    let r = bind-some (leading (eqb ruleTag) (λ tag. rule) 32 bs) _ x e in
-    let d = bind-some (field (r .0 .rest)) _ x (r .2) in
-    let z = ensure-some (isEmpty (d .0 .rest)) _ x (d .2) in
-    let c = bind-some (command 16 (d .0 .tag) (d .0 .payload)) _ x (z .1) in
-    rw (← (some-inj _ x (c .2))) (record { behind = r .0 .rest; rules = r .1; few = leading-led _ _ 32 bs (r .0) (r .1) .few; whole = d .0; at-command = d .1; last = empty-true _ (z .0); main = c .1 })

@@ -12,11 +12,11 @@ use lib.Dec.{eqb, leb, lit<, lit≤, leb·zero, leb·suc-zero, leb·suc-suc, eqb
 use lib.ListN.{length}
 use Rattle.meaning.specs.Basics.{choose, both, isEmpty, isSome, ensure, _>>_, _>>=_}
 use Rattle.meaning.specs.Tags.{variablesTag, leftTag, rightTag, interfaceTag, testsTag, ruleTag, nodeTag, edgeTag}
-use Rattle.meaning.specs.Image.{Field, Read, Rule, RuleNode, Command, limits, field, expect, leading, only, anyTag, operand, asPair, twoOperands, element, label, ruleNode, ruleEdge, ruleGraph, types, oneByte, test, rule, asSequence, asGuarded, asLoop, command, program}
+use Rattle.meaning.specs.Image.{Field, Read, Rule, RuleNode, limits, field, expect, leading, only, anyTag, operand, asPair, twoOperands, element, label, ruleNode, ruleEdge, ruleGraph, types, oneByte, test, rule, asSequence, asGuarded, asLoop, command, program}
 use Rattle.meaning.specs.declared.Operand.{Operand}
 use Rattle.meaning.specs.Laws.Tests.{both-no, both-yes, both-last}
 use Rattle.fields.specs.Image.{field-small, field-is, isSome-no, isSome-map, isSome-after, isSome-then, asSequence-ok, asGuarded-ok, asLoop-ok, ruleGraph-no, ruleGraph-ok, program-no-rules, program-no-field, program-ok}
-use Rattle.image.specs.declared.Row.the-variants.{Rules, Main, Variables, Left, Right, Interface, Conditions, Nodes, Edges, Tests, Elements, Operands, Sequence, Guarded, Loop}
+use Rattle.image.specs.declared.Row.the-variants.{Rules, Main, Variables, Nodes, Edges, Tests, Elements, Operands, Sequence, Guarded, Loop}
 use Rattle.image.specs.Form.{met, opens, behind, fits}
 
 -- Tests.

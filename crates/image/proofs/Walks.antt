@@ -1,7 +1,6 @@
 -- The walk along rows: what it knows while it reads one, and where one ends. Rests on Form and the laws of the meaning's Image.
 use mathlib.Core.Path.{_≡_, refl, sym, ap, _∙_}
 use mathlib.Core.Bool.{Bool, true, false}
-use mathlib.Core.Option.{none, some}
 use mathlib.Core.List.{List}
 use Prim.Native.Nat.{ℕ, zero, suc, _+_, _-_, _<_, _≤_}
 use native.Mathlib.Omega.{arith}
@@ -11,7 +10,7 @@ use lib.Dec.{eqb, leb, ltb, lit<}
 use lib.ListN.{length, getD, take, drop}
 use Rattle.meaning.specs.Basics.{both, isEmpty, isSome}
 use Rattle.meaning.specs.Image.{leading}
-use Rattle.meaning.specs.Laws.Tests.{both-no, both-yes, both-true, isSome-true, not-so}
+use Rattle.meaning.specs.Laws.Tests.{both-no, both-yes, both-true, isSome-true}
 use Rattle.fields.specs.Image.{Reading, stopped, reading-start, reading-full, reading-end, reading-other, reading-cut, reading-bad, reading-next, isSome-false}
 use Rattle.fields.specs.declared.Found.{Found}
 use Rattle.fields.specs.Fields.{fieldAt}

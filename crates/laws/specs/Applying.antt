@@ -13,7 +13,7 @@ use Rattle.meaning.specs.Layout.{Slot, live, Node, Edge, Host, Change, ofNode, 
 use Rattle.meaning.specs.Image.{RuleNode, Rule}
 use Rattle.meaning.specs.Matching.{leftNodes, leftEdges, Assignment}
 use Rattle.meaning.specs.Assigned.{assigned}
-use Rattle.meaning.specs.Applying.{rightNode, rightNodes, Right, rightSide, Ledger, standing, store, stores, lowestFree, freeSlots, nodesChange, addNodes, between, addEdges, changed, newNodes, goneNodes, recordsOf, hindrance, onFreeNode, applied, hindered, tested, unhindered, apply}
+use Rattle.meaning.specs.Applying.{rightNode, rightNodes, Right, rightSide, Ledger, store, stores, lowestFree, freeSlots, nodesChange, addNodes, between, addEdges, changed, newNodes, goneNodes, recordsOf, hindrance, onFreeNode, applied, hindered, tested, unhindered, apply}
 use Rattle.meaning.specs.Laws.Tests.{some-inj, bind-some, each-some}
 use Rattle.meaning.specs.Laws.Checks.{firstFailing-none}
 use Rattle.meaning.specs.declared.Stop.{Stop}
@@ -104,11 +104,6 @@ addNodes-records [] g = omega arith
 addNodes-records (n ∷ l) g =
     let h = addNodes-records l (store (ofNode (lowestFree (g .host .nodes)) (live n)) g) in
     omega arith
-
-pub addNodes-slots : (l : List Node) (g : Ledger) → length (addNodes l g .slots) ≡ length l
-unfolding addNodes
-addNodes-slots [] g = refl
-addNodes-slots (n ∷ l) g = ap suc (addNodes-slots l (store (ofNode (lowestFree (g .host .nodes)) (live n)) g))
 
 pub addEdges-records : (slots : List ℕ) (l : List Edge) (g : Ledger)
     → length (addEdges slots l g .journal) ≡ length l + length (g .journal)

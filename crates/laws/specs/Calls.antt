@@ -2,10 +2,9 @@
 -- input that is not. Rests on Calls.
 use Prim.Native.Nat.{ℕ, _≤_}
 use mathlib.Core.Path.{_≡_}
-use mathlib.Core.Bool.{Bool, true, false}
+use mathlib.Core.Bool.{true, false}
 use mathlib.Core.Option.{some, none}
-use mathlib.Core.List.{List, [], _∷_}
-use native.Mathlib.Omega.{arith}
+use mathlib.Core.List.{List}
 use borrow.Author.Tests.{eqb-true, leb-true, eq-eqb, le-leb}
 use lib.ListN.{length}
 use lib.Dec.{eqb}
@@ -17,7 +16,6 @@ use Rattle.meaning.specs.Placement.{placement}
 use Rattle.meaning.specs.Commands.{State, Out, beginning, exec}
 use Rattle.meaning.specs.Calls.{Lent, LentBack, mostFuel, refused, referencesHold, placementHolds, runRefusal, journalRoom, finished, started, runOn, run, undoRefusal, undoOn, undo}
 use Rattle.meaning.specs.Laws.Tests.{isSome-true}
-use Rattle.meaning.specs.Laws.Every.{Every}
 use Rattle.meaning.specs.Laws.Checks.{firstFailing-none}
 use Rattle.meaning.specs.declared.Layout.{Layout}
 use Rattle.meaning.specs.declared.Refusal.{Refusal}

@@ -1,18 +1,17 @@
 -- Laws of fuel and steps: what is spent is counted, a command spends, it runs out of fuel only where none is left, and the
 -- rounds of a loop do not depend on their bound. Rests on Commands.
-use Prim.Native.Nat.{ℕ, zero, suc, _+_, _-_, _<_, _≤_}
+use Prim.Native.Nat.{ℕ, zero, suc, _+_, _-_, _≤_}
 use mathlib.Core.Path.{_≡_, refl, _∙_, ap}
 use mathlib.Core.List.{List}
 use mathlib.Core.Bool.{Bool}
 use mathlib.Core.Option.{Option, some, none}
 use native.Mathlib.Omega.{arith}
 use native.Mathlib.Nat.{le-refl}
-use native.Mathlib.Decide.{ℕ-discrete}
 use Rattle.meaning.specs.Image.{Rule, Command, ruleSet, sequence, guarded, loop, skip, fail, break, Commands, stop, then}
 use Rattle.meaning.specs.Applying.{Applied, applied, hindered, apply}
 use Rattle.meaning.specs.Commands.{State, Out, ends, enterAt, enter, Chosen, afterApplying, next, decide, again, rounds, call, work, works, exec}
 use Rattle.laws.specs.Applying.{apply-hindered}
-use Rattle.laws.specs.Commands.{entered, Kept, call-either, work-kept, works-kept, exec-kept, rounds-kept}
+use Rattle.laws.specs.Commands.{entered, Kept, call-either, work-kept, works-kept, exec-kept}
 use Rattle.meaning.specs.declared.Stop.{Stop}
 use Rattle.meaning.specs.declared.Stop.the-variants.{OutOfFuel, NoNodeRoom, NoEdgeRoom, NoRecordRoom, LabelTooLarge, EdgeOnFreeNode}
 use Rattle.meaning.specs.declared.End.{End}

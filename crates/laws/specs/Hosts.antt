@@ -4,21 +4,18 @@ use Prim.Native.Nat.{ℕ, zero, suc, _+_, _-_, _*_, _/_, _^_, _<_, _≤_}
 use mathlib.Core.Path.{_≡_, refl, sym, _∙_, ap}
 use mathlib.Core.List.{List, [], _∷_, _++_, map, append-assoc}
 use mathlib.Core.Bool.{true}
-use mathlib.Core.Logic.{_⊎_, inl, inr}
 use native.Mathlib.Omega.{arith}
 use native.Mathlib.Decide.{ℕ-discrete, decLt}
-use borrow.Author.Tests.{eqb-true, leb-true}
-use lib.Dec.{eqb, leb}
 use lib.ListN.{length, getD, drop, replicate, length-append, List·getD-eq-default}
 use lib.Seq.{drop-at, drop-drop}
 use Rattle.meaning.specs.Basics.{zeros}
 use Rattle.meaning.specs.Numbers.{bytes}
 use Rattle.meaning.specs.Layout.{Slot, free, live, Node, Edge, Host, isLive, liveAt, isNodeMark, isEdgeMark, nodeLength, edgeLength, cut, atoms, readNode, readEdge, readNodes, readEdges, atomBytes, nodeBytes, edgeBytes, writeNode, writeEdge, writeNodes, writeEdges, keepsNode, keepsEdge, keepsLayout}
 use Rattle.meaning.specs.declared.Layout.{Layout}
-use Rattle.meaning.specs.Laws.Tests.{both-of, either-true, zeros-of}
-use Rattle.laws.specs.Numbers.{Bytes, Bytes-bytes, Bytes-drop, Bytes-append, length-bytes, number-bytes, number-take-lt}
+use Rattle.meaning.specs.Laws.Tests.{both-of, zeros-of}
+use Rattle.laws.specs.Numbers.{Bytes, Bytes-drop, length-bytes, number-bytes, number-take-lt}
 use Rattle.laws.specs.Pieces.{getD-map, length-pieces, Bytes-pieces, take-first, take-second, drop-both, length-read, length-write, cut-write, read-write, every-write}
-use Rattle.laws.specs.Layout.{length-padded, Bytes-padded, zeros-padded, getD-zeros, Words, length-atoms, Words-atoms, length-atomBytes, Bytes-atomBytes, atoms-atomBytes, readNode-free, readNode-live, keepsNode-free, keepsNode-live, keepsNode-of, edgeOf, readEdge-free, readEdge-live, KeepsEdge, keepsEdge-free, keepsEdge-live, keepsEdge-of, kept-node, kept-edge}
+use Rattle.laws.specs.Layout.{length-padded, zeros-padded, getD-zeros, Words, length-atoms, Words-atoms, length-atomBytes, atoms-atomBytes, readNode-free, readNode-live, keepsNode-free, keepsNode-live, keepsNode-of, edgeOf, readEdge-free, readEdge-live, KeepsEdge, keepsEdge-free, keepsEdge-live, keepsEdge-of, kept-node, kept-edge}
 
 -- Legal slots: what a slot may hold.
 
@@ -161,49 +158,6 @@ module _ (L : Layout) where
           ∙ zeros-of (edgeLength L - length (edgeBytes L (live e)))
 
 -- What is written of legal slots is bytes.
-
-Bytes-four : (a b c d : ℕ) (l : List ℕ) → (a < 256) × (b < 256) × (c < 256) × (d < 256) → Bytes l → Bytes (a ∷ b ∷ c ∷ d ∷ l)
-Bytes-four a b c d l f h zero = f .0
-Bytes-four a b c d l f h (suc zero) = f .1
-Bytes-four a b c d l f h (suc (suc zero)) = f .2
-Bytes-four a b c d l f h (suc (suc (suc zero))) = f .3
-Bytes-four a b c d l f h (suc (suc (suc (suc i)))) = h i
-
-pub nodeMark-le : (m : ℕ) → isNodeMark m ≡ true → m ≤ 4
-unfolding isNodeMark
-nodeMark-le m e = leb-true m 4 e
-
-pub edgeMark-le : (m : ℕ) → isEdgeMark m ≡ true → m ≤ 5
-unfolding isEdgeMark
-edgeMark-le m e = at (either-true _ _ e)
-  where
-    at : (leb m 3 ≡ true) ⊎ (eqb m 5 ≡ true) → m ≤ 5
-    at (inl k) = omega (arith, leb-true m 3 k)
-    at (inr k) = omega (arith, eqb-true m 5 k)
-
-module _ (L : Layout) (few : L .atoms < 256) where
-  pub Bytes-writeNode : (s : Slot Node) → OnLive (LegalNode L) s → Bytes (writeNode L s)
-  unfolding nodeBytes
-  Bytes-writeNode free h = Bytes-padded (nodeLength L) [] (λ i. omega arith)
-  Bytes-writeNode (live n) h =
-      let m = nodeMark-le (n .mark) (h .mark) in
-      let r = h .root in
-      let k = h .size in
-      Bytes-padded (nodeLength L) (nodeBytes (live n))
-      (Bytes-four 1 (n .mark) (n .root) (length (n .label)) (atomBytes (n .label)) (omega arith) (Bytes-atomBytes (n .label)))
-
-  pub Bytes-writeEdge : (s : Slot Edge) → OnLive (LegalEdge L) s → Bytes (writeEdge L s)
-  unfolding edgeBytes
-  Bytes-writeEdge free h = Bytes-padded (edgeLength L) [] (λ i. omega arith)
-  Bytes-writeEdge (live e) h =
-      let m = edgeMark-le (e .mark) (h .mark) in
-      let k = h .size in
-      let w = L .width in
-      Bytes-padded (edgeLength L) (edgeBytes L (live e))
-      (Bytes-four 1 (e .mark) 0 (length (e .label)) (bytes w (e .source) ++ bytes w (e .target) ++ atomBytes (e .label)) (omega arith)
-      (Bytes-append (bytes w (e .source) ++ bytes w (e .target)) (atomBytes (e .label))
-      (Bytes-append (bytes w (e .source)) (bytes w (e .target)) (Bytes-bytes w _) (Bytes-bytes w _))
-      (Bytes-atomBytes (e .label))))
 
 -- What is read where the test holds is legal.
 

@@ -9,7 +9,7 @@ use native.Mathlib.Omega.{arith}
 use native.Mathlib.Decide.{ℕ-discrete}
 use borrow.Author.Tests.{eqb-true, leb-true, eq-eqb, le-leb}
 use lib.Dec.{eqb}
-use lib.ListN.{length, getD, take, drop, replicate, length-append, length-take, length-drop, length-replicate, length-map, take-append-drop}
+use lib.ListN.{length, getD, take, drop, length-append, length-take, length-drop, length-replicate, length-map, take-append-drop}
 use lib.Seq.{take-add, drop-drop}
 use Rattle.meaning.specs.Basics.{choose, clauses, zeros, concat, padded}
 use Rattle.meaning.specs.Numbers.{number, bytes, whole}
@@ -17,8 +17,8 @@ use Rattle.meaning.specs.Layout.{Sized, base, Slot, free, live, isLive, Node, E
 use Rattle.meaning.specs.declared.Layout.{Layout}
 use Rattle.meaning.specs.Laws.Tests.{both-true, both-of, choose-eq, choose-ne, every-true, zeros-true, zeros-of}
 use Rattle.laws.specs.References.{clauses-true}
-use Rattle.laws.specs.Numbers.{Bytes, Bytes-bytes, Bytes-drop, Bytes-append, length-bytes, number-bytes, number-take-lt, bytes-number, bytes-number-take}
-use Rattle.laws.specs.Pieces.{getD-map, getD-pieces, map-back, length-pieces, Wide, Wide-pieces, Bytes-pieces, length-slot, concat-pieces, length-concat, pieces-concat, write-read, Bytes-write}
+use Rattle.laws.specs.Numbers.{Bytes, Bytes-drop, length-bytes, number-bytes, number-take-lt, bytes-number, bytes-number-take}
+use Rattle.laws.specs.Pieces.{getD-map, getD-pieces, map-back, length-pieces, Wide, Wide-pieces, Bytes-pieces, length-slot, concat-pieces, length-concat, pieces-concat, write-read}
 
 -- Zeros behind.
 
@@ -33,11 +33,6 @@ unfolding zeros
 getD-zeros [] i e = refl
 getD-zeros (a ∷ l) zero e = eqb-true a 0 (both-true _ _ e .0)
 getD-zeros (a ∷ l) (suc i) e = getD-zeros l i (both-true _ _ e .1)
-
-pub Bytes-padded : (n : ℕ) (l : List ℕ) → Bytes l → Bytes (padded n l)
-Bytes-padded n l h =
-    Bytes-append l (replicate (n - length l) 0) h
-    (λ i. rw (getD-zeros (replicate (n - length l) 0) i (zeros-of (n - length l))) (omega arith))
 
 -- bytes whose end is zeros are their front, filled up
 pub padded-take : (n k : ℕ) (l b : List ℕ) → l ≡ take k b → zeros (drop k b) ≡ true → length b ≡ n → padded n l ≡ b
@@ -69,9 +64,6 @@ Wide-bytes w l i h = rw (getD-map (bytes w) l i 0 [] (rw (length-map l (bytes w)
 
 pub length-atomBytes : (l : List ℕ) → length (atomBytes l) ≡ length l * 4
 length-atomBytes l = rw (length-concat 4 (map (bytes 4) l) (Wide-bytes 4 l), length-map l (bytes 4))
-
-pub Bytes-atomBytes : (l : List ℕ) → Bytes (atomBytes l)
-Bytes-atomBytes l = Bytes-write (bytes 4) l 0 (λ i. Bytes-bytes 4 (getD l i 0))
 
 -- the bytes of atoms that were read
 pub atomBytes-atoms : (n : ℕ) (bs : List ℕ) → Bytes bs → n * 4 ≤ length bs → atomBytes (atoms n bs) ≡ take (n * 4) bs

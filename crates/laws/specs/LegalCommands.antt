@@ -6,14 +6,14 @@ use mathlib.Core.List.{List}
 use mathlib.Core.Option.{Option, some, none}
 use native.Mathlib.Omega.{arith}
 use Rattle.meaning.specs.Basics.{both, all, every, clauses, concat}
-use Rattle.meaning.specs.Image.{Rule, Command, Commands}
+use Rattle.meaning.specs.Image.{Rule, Command}
 use Rattle.meaning.specs.References.{variablesExist, endsExist, testNodesExist, interfaceFits, leftPlain, leftSimple, operandsInt, variablesOnLeft, anyPlaced, ruleHolds}
 use Rattle.meaning.specs.Matching.{Match}
 use Rattle.meaning.specs.Applying.{Applied, applied, hindered, apply}
-use Rattle.meaning.specs.Commands.{State, Chosen, ruleAt, firstRule, afterApplying, call, work, works, exec}
+use Rattle.meaning.specs.Commands.{State, Chosen, ruleAt, firstRule, afterApplying, call, exec}
 use Rattle.meaning.specs.Laws.Every.{Every, Every-at}
 use Rattle.laws.specs.FirstMatch.{found-match}
-use Rattle.laws.specs.Commands.{firstRule-some, Kept, call-either, exec-kept, work-kept, works-kept}
+use Rattle.laws.specs.Commands.{firstRule-some, Kept, call-either, exec-kept}
 use Rattle.laws.specs.Values.{LegalRule}
 use Rattle.laws.specs.Legality.{LegalLedger, apply-attached, apply-legal}
 use Rattle.laws.specs.Stops.{OnStop, exec-stops}

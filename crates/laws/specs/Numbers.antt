@@ -2,7 +2,7 @@
 -- Rests on the meaning's Basics, Numbers and Laws/Tests.
 use Prim.Native.Nat.{ℕ, zero, suc, _+_, _-_, _*_, _/_, _%_, _^_, _<_, _≤_}
 use mathlib.Core.Path.{_≡_, refl, sym, _∙_, ap}
-use mathlib.Core.List.{List, [], _∷_, _++_}
+use mathlib.Core.List.{List, [], _∷_}
 use mathlib.Core.Option.{Option, some, none}
 use native.Mathlib.Nat.{mod-one, mod-eq-of-lt, pow-succ', one-le-pow, mul-add-div-right, mul-add-mod-self-right, mul-assoc, pow-le-pow-right, lt-of-lt-of-le}
 use mathlib.Core.Logic.{_↔_}
@@ -30,12 +30,6 @@ unfolding bytes
 length-bytes zero n = refl
 length-bytes (suc w) n = ap suc (length-bytes w n)
 
-pub Bytes-bytes : (w n : ℕ) → Bytes (bytes w n)
-unfolding bytes
-Bytes-bytes zero n i = omega arith
-Bytes-bytes (suc w) n zero = omega arith
-Bytes-bytes (suc w) n (suc i) = Bytes-bytes w n i
-
 pub Bytes-drop : (n : ℕ) (bs : List ℕ) → Bytes bs → Bytes (drop n bs)
 Bytes-drop n bs h i = rw (getD-drop n bs i 0) (h (n + i))
 
@@ -44,11 +38,6 @@ Bytes-take zero bs h i = omega arith
 Bytes-take (suc n) [] h i = omega arith
 Bytes-take (suc n) (b ∷ bs) h zero = h 0
 Bytes-take (suc n) (b ∷ bs) h (suc i) = Bytes-take n bs (λ j. h (suc j)) i
-
-pub Bytes-append : (bs cs : List ℕ) → Bytes bs → Bytes cs → Bytes (bs ++ cs)
-Bytes-append [] cs h k i = k i
-Bytes-append (b ∷ bs) cs h k zero = h 0
-Bytes-append (b ∷ bs) cs h k (suc i) = Bytes-append bs cs (λ j. h (suc j)) k i
 
 pub pow-pos : (w : ℕ) → 0 < 256 ^ w
 pow-pos w = one-le-pow w 256 (omega arith)
@@ -243,11 +232,6 @@ value-height w h = at (decLt w half)
     at (no k) =
         choose-le w half (pos w) (subℕ w whole) (omega arith) ∙ subℕ-of w whole (height w) half (omega arith)
 
--- an optional word is none exactly where no word is its value
-none-iff : (o : Option ℕ) (P : ℕ → Type 0) → ((c : ℕ) → (o ≡ some c) ↔ P c) → (o ≡ none) ↔ ((c : ℕ) → P c → ⊥)
-none-iff none P h = (λ e c p. let q = h c .1 p in let z : _≡_ {A = ℕ} 0 1 = cc in omega arith, λ f. refl)
-none-iff (some c) P h = (λ e. let z : _≡_ {A = ℕ} 0 1 = cc in absurd (omega arith), λ f. absurd (f c (h c .0 refl)))
-
 module _ (a b : ℕ) (ha : a < whole) (hb : b < whole) where
   -- a word is less exactly where its value is
   pub less-value : less a b ≡ ltZ (value a) (value b)
@@ -266,11 +250,6 @@ module _ (a b : ℕ) (ha : a < whole) (hb : b < whole) where
       values : value a +ℤ value b ≡ subℕ (height a + height b) (half + half)
       values = rw (value-height a ha, value-height b hb) (subℕ-add (height a) half (height b) half)
 
-  pub sum-none : (sum a b ≡ none) ↔ ((c : ℕ) → (c < whole) × (value a +ℤ value b ≡ value c) → ⊥)
-  sum-none =
-      none-iff (sum a b) (λ c. (c < whole) × (value a +ℤ value b ≡ value c))
-      (λ c. (λ e. let h = sum-some a b c e .0 in (h, sum-value c h .0 e), λ t. sum-value c (t .0) .1 (t .1)))
-
   pub difference-value : (c : ℕ) → c < whole → (difference a b ≡ some c) ↔ (value a -ℤ value b ≡ value c)
   difference-value c hc = (
     λ e. let h = difference-some a b c e .1 in
@@ -281,8 +260,3 @@ module _ (a b : ℕ) (ha : a < whole) (hb : b < whole) where
     where
       values : value a -ℤ value b ≡ subℕ (height a + half) (half + height b)
       values = rw (value-height a ha, value-height b hb, subℕ-neg (height b) half) (subℕ-add (height a) half half (height b))
-
-  pub difference-none : (difference a b ≡ none) ↔ ((c : ℕ) → (c < whole) × (value a -ℤ value b ≡ value c) → ⊥)
-  difference-none =
-      none-iff (difference a b) (λ c. (c < whole) × (value a -ℤ value b ≡ value c))
-      (λ c. (λ e. let h = difference-some a b c e .0 in (h, difference-value c h .0 e), λ t. difference-value c (t .0) .1 (t .1)))

@@ -4,15 +4,15 @@ use Prim.Native.Nat.{ℕ, zero, suc, _+_, _-_, _*_, _/_, _%_, _<_, _≤_}
 use mathlib.Core.Path.{_≡_, refl, sym, _∙_, ap}
 use mathlib.Core.List.{List, [], _∷_, _++_, map, append-assoc, append-nil}
 use mathlib.Core.Bool.{Bool, true}
-use native.Mathlib.Nat.{suc-mul, zero-mul, zero-add, suc-add, sub-zero, add-comm, div-add-mod', div-mul-le-self, mul-div-cancel, mul-mod-left, mul-le-mul-right}
+use native.Mathlib.Nat.{suc-mul, zero-mul, zero-add, sub-zero, add-comm, div-add-mod', div-mul-le-self, mul-div-cancel, mul-le-mul-right}
 use native.Mathlib.Omega.{arith}
 use lib.ListN.{length, getD, set, take, drop, length-append, length-take, length-drop, take-append-drop, length-map}
-use lib.Seq.{length-take-le, take-all, take-at, drop-at, take-add, drop-drop, take-append-add, drop-append-add, getD-take, getD-drop, take-nil, slice, paste, set-append-left, take-set-le, drop-set-add}
-use borrow.Author.Tests.{eqb-true, leb-true, eq-eqb, le-leb}
+use lib.Seq.{length-take-le, take-all, take-at, drop-at, take-add, drop-drop, take-append-add, drop-append-add}
+use borrow.Author.Tests.{eqb-true, leb-true}
 use Rattle.meaning.specs.Basics.{every, concat}
 use Rattle.meaning.specs.Layout.{pieces, cut, fitsTable}
-use Rattle.meaning.specs.Laws.Tests.{both-true, both-of, every-of}
-use Rattle.laws.specs.Numbers.{Bytes, Bytes-take, Bytes-drop, Bytes-append}
+use Rattle.meaning.specs.Laws.Tests.{both-true, every-of}
+use Rattle.laws.specs.Numbers.{Bytes, Bytes-take, Bytes-drop}
 
 -- Lists, element by element.
 
@@ -215,12 +215,6 @@ module _ {A : Type 0} (w : ℕ) (read : List ℕ → A) where
       ap concat (map-back read write (cut w bs) [] (λ i j. k i (rw (length-pieces w (length bs / w) bs) at j))) ∙ concat-cut w bs h
 
 -- Tables: each slot written as a piece.
-
-pub Bytes-write : {A : Type 0} (write : A → List ℕ) (l : List A) (d : A)
-    → ((i : ℕ) → Bytes (write (getD l i d))) → Bytes (concat (map write l))
-unfolding concat
-Bytes-write write [] d h = λ i. omega arith
-Bytes-write write (a ∷ l) d h = Bytes-append (write a) (concat (map write l)) (h 0) (Bytes-write write l d (λ i. h (suc i)))
 
 -- each slot of the list in w bytes
 module _ {A : Type 0} (w : ℕ) (write : A → List ℕ) (l : List A) (d : A)

@@ -1,25 +1,24 @@
 -- Laws of changes and journal records: undo on slots of any kind, a record written and read back, and undo on bytes as undo
 -- on slots. Rests on Layout, Calls, Every, Numbers, Pieces, Layout and Hosts.
-use Prim.Native.Nat.{ℕ, zero, suc, _-_, _*_, _/_, _^_, _<_, _≤_}
+use Prim.Native.Nat.{ℕ, zero, suc, _-_, _*_, _^_, _<_, _≤_}
 use mathlib.Core.Path.{_≡_, refl, sym, _∙_, ap}
-use mathlib.Core.List.{List, [], _∷_, _++_, map, reverse, reverse-cons, reverse-append, reverse-reverse, map-append, append-assoc}
+use mathlib.Core.List.{List, [], _∷_, _++_, map, reverse, reverse-cons, reverse-reverse, map-append, append-assoc}
 use mathlib.Core.Bool.{true}
 use mathlib.Core.Logic.{_⊎_, inl, inr}
-use native.Mathlib.Nat.{suc-mul}
 use native.Mathlib.Omega.{arith}
 use borrow.Author.Tests.{eqb-true, ltb-true, lt-ltb}
 use lib.Dec.{eqb, ltb}
-use lib.ListN.{length, getD, take, drop, replicate, length-append, length-take, length-drop, length-replicate, length-map, length-reverse}
-use lib.Seq.{take-at, length-take-le}
+use lib.ListN.{length, getD, take, drop, replicate, length-append, length-replicate, length-map, length-reverse}
+use lib.Seq.{take-at}
 use Rattle.meaning.specs.Basics.{choose, both, clauses, every, zeros, concat, padded}
 use Rattle.meaning.specs.Numbers.{bytes}
-use Rattle.meaning.specs.Layout.{Slot, Node, Edge, Tables, Host, Change, ofNode, ofEdge, put, undone, nodeLength, edgeLength, recordLength, pieces, cut, writeNode, writeEdge, writeNodes, writeEdges, recordBytes, writeRecord, slotOf, readRecord, keepsRecord}
+use Rattle.meaning.specs.Layout.{Slot, Node, Edge, Tables, Host, Change, ofNode, ofEdge, put, undone, nodeLength, edgeLength, recordLength, cut, writeNode, writeEdge, writeNodes, writeEdges, recordBytes, writeRecord, slotOf, readRecord, keepsRecord}
 use Rattle.meaning.specs.Calls.{counted, tablesUndone}
 use Rattle.meaning.specs.declared.Layout.{Layout}
-use Rattle.meaning.specs.Laws.Tests.{both-true, both-of, either-true, either-left, either-right, choose-eq, choose-ne, zeros-of}
+use Rattle.meaning.specs.Laws.Tests.{both-true, both-of, either-true, either-left, either-right, zeros-of}
 use Rattle.meaning.specs.Laws.Every.{Every}
 use Rattle.laws.specs.Numbers.{length-bytes, number-bytes}
-use Rattle.laws.specs.Pieces.{map-set, Wide, stored, length-concat, cut-stored, pieces-concat, pieces-suc, take-second, drop-both}
+use Rattle.laws.specs.Pieces.{map-set, Wide, stored, length-concat, pieces-concat, take-second, drop-both}
 use Rattle.laws.specs.Layout.{length-padded}
 use Rattle.laws.specs.Hosts.{LegalNode, LegalEdge, OnLive, LegalHost, length-writeNode, length-writeEdge, cut-nodes, cut-edges}
 
@@ -109,14 +108,6 @@ module _ (L : Layout) (wide : 0 < L .width) where
 -- Records as undo reads them.
 
 module _ (L : Layout) (b : List ℕ) where
-  pub readRecord-node : getD b 0 0 ≡ 1 → readRecord L b ≡ ofNode (slotOf L b) (take (nodeLength L) (drop (2 * L .width) b))
-  unfolding readRecord
-  readRecord-node e = choose-eq (getD b 0 0) 1 _ _ e
-
-  pub readRecord-edge : getD b 0 0 ≡ 2 → readRecord L b ≡ ofEdge (slotOf L b) (take (edgeLength L) (drop (2 * L .width) b))
-  unfolding readRecord
-  readRecord-edge e = choose-ne (getD b 0 0) 1 _ _ (λ k. omega arith)
-
   pub keepsRecord-true : (m n : ℕ) → keepsRecord L m n b ≡ true
       → ((getD b 0 0 ≡ 1) × (slotOf L b < m)) ⊎ ((getD b 0 0 ≡ 2) × (slotOf L b < n))
   unfolding keepsRecord clauses
@@ -148,20 +139,6 @@ keepsRecord-write L wide m n (ofEdge i s) h k =
 
 -- Undo, record by record: the last counted record is stored back first.
 
--- record n of the journal
-abbrev pub recordAt : Layout → ℕ → List ℕ → List ℕ
-recordAt L n journal = take (recordLength L) (drop (n * recordLength L) journal)
-
--- the bytes before, as long as the slot that they go back to
-module _ (L : Layout) (n : ℕ) (journal : List ℕ) (h : suc n * recordLength L ≤ length journal) where
-  length-recordAt : length (recordAt L n journal) ≡ recordLength L
-  length-recordAt = simp (length-take, length-drop) (omega (arith, suc-mul n (recordLength L)))
-
-pub records-suc : (L : Layout) (n : ℕ) (journal : List ℕ)
-    → reverse (map (readRecord L) (counted L (suc n) journal))
-    ≡ readRecord L (recordAt L n journal) ∷ reverse (map (readRecord L) (counted L n journal))
-records-suc L n journal = rw (pieces-suc (recordLength L) n journal, map-append, reverse-append)
-
 module _ (L : Layout) (nodes edges journal : List ℕ) where
   abbrev slots : Tables (List ℕ) (List ℕ)
   slots = record { nodes = cut (nodeLength L) nodes; edges = cut (edgeLength L) edges }
@@ -169,13 +146,6 @@ module _ (L : Layout) (nodes edges journal : List ℕ) where
   -- the first n records, the last of them first
   abbrev earlier : ℕ → List (Change (List ℕ) (List ℕ))
   earlier n = reverse (map (readRecord L) (counted L n journal))
-
-  undo-last : (n : ℕ) (c : Change (List ℕ) (List ℕ)) → readRecord L (recordAt L n journal) ≡ c
-      → tablesUndone L nodes edges journal (suc n) ≡ undone (earlier n) (put c slots)
-  unfolding tablesUndone undone
-  undo-last n c e =
-      ap (λ (cs : List (Change (List ℕ) (List ℕ))). undone cs slots) (records-suc L n journal)
-      ∙ ap (λ (d : Change (List ℕ) (List ℕ)). undone (earlier n) (put d slots)) e
 
 -- Undo of written records is undo of slots.
 

@@ -4,12 +4,12 @@ use Prim.Native.Nat.{ℕ, _+_, _-_}
 use mathlib.Core.Path.{_≡_, refl, sym, _∙_, ap}
 use mathlib.Core.List.{List, [], _∷_, _++_, append-assoc, append-nil}
 use native.Mathlib.Omega.{arith}
-use lib.ListN.{length, take, drop, length-append}
-use lib.Seq.{take-append-seam, drop-append-seam}
+use lib.ListN.{length, take, length-append}
+use lib.Seq.{take-append-seam}
 use Rattle.meaning.specs.Layout.{Slot, live, Node, Edge, Host, Change, ofNode, ofEdge, put, undone}
 use Rattle.meaning.specs.Image.{Rule}
 use Rattle.meaning.specs.Applying.{Right, Ledger, standing, store, stores, lowestFree, addNodes, between, addEdges, changed}
-use Rattle.laws.specs.Slots.{undone-append, undone-nodes, undone-edges, put-back}
+use Rattle.laws.specs.Slots.{undone-append, undone-nodes, put-back}
 use Rattle.laws.specs.Applying.{Applies}
 
 pub record From (a b : Ledger) : Type 0 where
@@ -34,10 +34,6 @@ from-trans a b c f g =
 pub from-nodes : (a b : Ledger) → From a b → length (b .host .nodes) ≡ length (a .host .nodes)
 from-nodes a b f =
     sym (undone-nodes (f .new) (b .host)) ∙ ap (λ (h : Host). length (h .nodes)) (f .restores)
-
-pub from-edges : (a b : Ledger) → From a b → length (b .host .edges) ≡ length (a .host .edges)
-from-edges a b f =
-    sym (undone-edges (f .new) (b .host)) ∙ ap (λ (h : Host). length (h .edges)) (f .restores)
 
 -- the new records are those beyond as many as there were
 pub from-count : (a b : Ledger) (f : From a b) → length (b .journal) ≡ length (f .new) + length (a .journal)

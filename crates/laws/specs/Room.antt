@@ -5,7 +5,7 @@ use mathlib.Core.Path.{_≡_, refl, sym, _∙_, ap}
 use mathlib.Core.List.{List, [], _∷_, _++_, map}
 use mathlib.Core.Bool.{true}
 use native.Mathlib.Omega.{arith}
-use lib.ListN.{length, getD, set, take, drop, length-set, length-take, length-drop}
+use lib.ListN.{length, getD, set, take, drop, length-take, length-drop}
 use lib.Seq.{getD-set-same, getD-set-other, getD-take, getD-drop}
 use Rattle.meaning.specs.Layout.{Slot, free, live, Node, Edge, Host, isLive, liveAt, Change, ofNode, ofEdge, put}
 use Rattle.meaning.specs.Image.{Rule}
@@ -104,17 +104,6 @@ addNodes-free (n ∷ l) g h =
     let k = addNodes-free l (store (ofNode (lowestFree (g .host .nodes)) (live n)) g) (omega arith) in
     omega arith
 
--- each new node has a slot of the table
-pub addNodes-in : (l : List Node) (g : Ledger) → length l ≤ freeSlots (g .host .nodes) → (i : ℕ) → i < length l
-    → getD (addNodes l g .slots) i 0 < length (g .host .nodes)
-unfolding addNodes store put
-addNodes-in [] g h i k = absurd (omega arith)
-addNodes-in (n ∷ l) g h zero k = lowestFree-lt (g .host .nodes) (omega arith)
-addNodes-in (n ∷ l) g h (suc i) k =
-    let q = come-free (g .host .nodes) n (omega arith) in
-    let b = addNodes-in l (store (ofNode (lowestFree (g .host .nodes)) (live n)) g) (omega arith) i (omega arith) in
-    omega (arith, length-set (g .host .nodes) (lowestFree (g .host .nodes)) (live n))
-
 pub addNodes-live : (l : List Node) (g : Ledger) (x : ℕ) → liveAt (g .host .nodes) x ≡ true
     → getD (addNodes l g .ledger .host .nodes) x free ≡ getD (g .host .nodes) x free
 unfolding addNodes store put
@@ -151,15 +140,6 @@ addEdges-free slots (e ∷ l) g h =
     let q = come-free (g .host .edges) (between slots e) (omega arith) in
     let k = addEdges-free slots l (store c g) (omega arith) in
     omega arith
-
-pub addEdges-live : (slots : List ℕ) (l : List Edge) (g : Ledger) (x : ℕ) → liveAt (g .host .edges) x ≡ true
-    → getD (addEdges slots l g .host .edges) x free ≡ getD (g .host .edges) x free
-unfolding addEdges store put
-addEdges-live slots [] g x h = refl
-addEdges-live slots (e ∷ l) g x h =
-    let c : Change (Slot Node) (Slot Edge) = ofEdge (lowestFree (g .host .edges)) (live (between slots e)) in
-    let q = come-live (g .host .edges) (between slots e) x h in
-    addEdges-live slots l (store c g) x (rw q h) ∙ q
 
 pub addEdges-nodes : (slots : List ℕ) (l : List Edge) (g : Ledger) → addEdges slots l g .host .nodes ≡ g .host .nodes
 unfolding addEdges store put

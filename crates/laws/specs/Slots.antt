@@ -6,17 +6,11 @@ use mathlib.Core.List.{List, [], _∷_, _++_}
 use mathlib.Core.Bool.{true, false}
 use native.Mathlib.Omega.{arith}
 use lib.ListN.{length, getD, set, length-set}
-use lib.Seq.{getD-set-same, getD-set-other, set-set, set-getD}
+use lib.Seq.{set-set, set-getD}
 use Rattle.meaning.specs.Layout.{Slot, free, live, Node, Edge, Host, Tables, isLive, liveAt, Change, ofNode, ofEdge, put, undone}
 use Rattle.meaning.specs.Applying.{standing, lowestFree, freeSlots}
 
 -- The lowest free slot.
-
-pub lowestFree-le : {A : Type 0} (l : List (Slot A)) → lowestFree l ≤ length l
-unfolding lowestFree
-lowestFree-le [] = omega arith
-lowestFree-le (free ∷ l) = omega arith
-lowestFree-le (live a ∷ l) = let h = lowestFree-le l in omega arith
 
 pub lowestFree-lt : {A : Type 0} (l : List (Slot A)) → 0 < freeSlots l → lowestFree l < length l
 unfolding lowestFree freeSlots
@@ -30,26 +24,6 @@ unfolding lowestFree
 lowestFree-free [] = refl
 lowestFree-free (free ∷ l) = refl
 lowestFree-free (live a ∷ l) = lowestFree-free l
-
-pub lowestFree-below : {A : Type 0} (l : List (Slot A)) (i : ℕ) → i < lowestFree l → liveAt l i ≡ true
-unfolding lowestFree isLive
-lowestFree-below [] i h = absurd (omega arith)
-lowestFree-below (free ∷ l) i h = absurd (omega arith)
-lowestFree-below (live a ∷ l) zero h = refl
-lowestFree-below (live a ∷ l) (suc i) h = lowestFree-below l i (omega arith)
-
--- nothing else is a free slot with live slots below it
-pub lowestFree-is : {A : Type 0} (l : List (Slot A)) (i : ℕ) → i < length l → liveAt l i ≡ false
-    → ((j : ℕ) → j < i → liveAt l j ≡ true) → lowestFree l ≡ i
-unfolding lowestFree isLive
-lowestFree-is [] i h e k = absurd (omega arith)
-lowestFree-is (free ∷ l) zero h e k = refl
-lowestFree-is (free ∷ l) (suc i) h e k =
-    let q = k 0 (omega arith) in
-    let z : _≡_ {A = ℕ} 0 1 = cc in
-    absurd (omega arith)
-lowestFree-is (live a ∷ l) zero h e k = let z : _≡_ {A = ℕ} 0 1 = cc in absurd (omega arith)
-lowestFree-is (live a ∷ l) (suc i) h e k = ap suc (lowestFree-is l i (omega arith) e (λ j q. k (suc j) (omega arith)))
 
 -- The free slots.
 
@@ -124,12 +98,6 @@ pub undone-nodes : {A B : Type 0} (l : List (Change A B)) (t : Tables A B)
 unfolding undone
 undone-nodes [] t = refl
 undone-nodes (c ∷ l) t = undone-nodes l (put c t) ∙ put-nodes c t
-
-pub undone-edges : {A B : Type 0} (l : List (Change A B)) (t : Tables A B)
-    → length (undone l t .edges) ≡ length (t .edges)
-unfolding undone
-undone-edges [] t = refl
-undone-edges (c ∷ l) t = undone-edges l (put c t) ∙ put-edges c t
 
 -- what stood in a slot, put back after a change of that slot, gives the host before
 pub put-back : (c : Change (Slot Node) (Slot Edge)) (h : Host) → put (standing c h) (put c h) ≡ h

@@ -3,7 +3,7 @@
 -- Rests on Calls, Hosts, Records, Restoring, LegalCommands, LegalImage and Calls.
 use Prim.Native.Nat.{ℕ, _+_, _-_, _*_, _/_, _^_, _<_, _≤_}
 use mathlib.Core.Path.{_≡_, refl, _∙_, ap}
-use mathlib.Core.List.{List, [], _++_, map, reverse}
+use mathlib.Core.List.{List, _++_, map, reverse}
 use mathlib.Core.Bool.{true}
 use mathlib.Core.Option.{Option, some, none}
 use native.Mathlib.Nat.{div-add-mod', div-mul-le-self, mul-le-mul-right}

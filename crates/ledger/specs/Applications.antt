@@ -1,16 +1,15 @@
 -- An application in lent bytes: what is answered before any change, the four parts of the changes put together, and that the
 -- state runs on. Rests on Running, Whole and Rooms, and on the meaning's laws of legality.
-use mathlib.Core.Path.{_≡_, sym, _∙_, ap}
+use mathlib.Core.Path.{_≡_}
 use mathlib.Core.Option.{some, none}
-use mathlib.Core.List.{List, _++_}
+use mathlib.Core.List.{List}
 use Prim.Native.Nat.{ℕ, _/_}
 use borrow.Author.Tests.{leb-true}
-use lib.ListN.{length, take, drop}
+use lib.ListN.{length}
 use Rattle.meaning.specs.Layout.{nodeLength, edgeLength, recordLength}
 use Rattle.meaning.specs.Image.{Rule}
-use Rattle.meaning.specs.Matching.{leftNodes, Match}
-use Rattle.meaning.specs.Applying.{Right, rightSide, Ledger, stores, edgesGo, nodesChange, Added, addNodes, addEdges, changed, hindrance, applied, hindered, unhindered, apply}
-use Rattle.laws.specs.Applying.{stores-append}
+use Rattle.meaning.specs.Matching.{Match}
+use Rattle.meaning.specs.Applying.{Right, rightSide, Ledger, changed, hindrance, applied, hindered, unhindered, apply}
 use Rattle.meaning.specs.Laws.Checks.{firstFailing-none}
 use Rattle.laws.specs.Values.{LegalRule}
 use Rattle.laws.specs.Legality.{LegalLedger, Ready, changed-legal, tested-legal}
@@ -24,22 +23,6 @@ pub stopped-is : (most room : ℕ) (r : Rule) (p : List ℕ) (g : Ledger) (w : S
     → apply most room r p g ≡ hindered w
 unfolding apply unhindered
 stopped-is most room r p g w e = rw e
-
--- The four parts of the changes, each from the ledger that the part before it left.
-pub changed-parts : (L : Layout) (r : Rule) (p : List ℕ) (right : Right) (g gone left come : Ledger)
-    → gone ≡ stores (edgesGo r p) g
-    → left ≡ stores (nodesChange (take (r .interface) (right .nodes)) (take (leftNodes r) p)) gone
-    → come ≡ addNodes (drop (r .interface) (right .nodes)) left .ledger
-    → addEdges (take (r .interface) p ++ addNodes (drop (r .interface) (right .nodes)) left .slots) (right .edges) come
-    ≡ changed r p right g
-unfolding changed
-changed-parts L r p right g gone left come e f h =
-    rw h (ap after (f ∙ ap (stores (nodesChange (take (r .interface) (right .nodes)) (take (leftNodes r) p))) e ∙ sym (stores-append (edgesGo r p) _ g)))
-  where
-    after : Ledger → Ledger
-    after a =
-        let new : Added = addNodes (drop (r .interface) (right .nodes)) a in
-        addEdges (take (r .interface) p ++ new .slots) (right .edges) (new .ledger)
 
 module _ (L : Layout) (nodes edges journal : List ℕ) (used : ℕ) (run : Running L nodes edges journal used) (r : Rule) (rule : LegalRule r)
     (p : List ℕ)

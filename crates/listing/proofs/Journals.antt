@@ -3,7 +3,7 @@ use mathlib.Core.Path.{_≡_, sym, _∙_}
 use mathlib.Core.List.{List}
 use Prim.Native.Nat.{ℕ, _≤_}
 use native.Mathlib.Omega.{arith}
-use lib.ListN.{length, getD, take, replicate, length-replicate}
+use lib.ListN.{length, take, replicate, length-replicate}
 use lib.Seq.{getD-take, length-take-le, ext-getD}
 use Rattle.meaning.specs.Laws.Tests.{zero-at}
 use Rattle.listing.specs.Rooms.{Zeros}

@@ -3,7 +3,7 @@
 use mathlib.Core.Path.{_≡_, refl, sym, _∙_, ap}
 use mathlib.Core.Bool.{true, false}
 use mathlib.Core.Option.{some, none}
-use mathlib.Core.List.{List, [], _∷_, _++_}
+use mathlib.Core.List.{List, [], _∷_}
 use Prim.Native.Nat.{ℕ, suc, _+_, _-_, _<_, _≤_}
 use native.Mathlib.Omega.{arith}
 use native.Mathlib.Decide.{decLt}
@@ -11,12 +11,10 @@ use borrow.Author.Tests.{eq-eqb, ne-eqb}
 use lib.Dec.{eqb, leb}
 use lib.ListN.{length, take, drop, length-drop}
 use lib.Seq.{length-take-le, take-all}
-use Rattle.meaning.specs.Basics.{both, same, concat}
 use Rattle.meaning.specs.Image.{Rule, field, anyTag, element, label}
 use Rattle.meaning.specs.References.{takesList, lists}
-use Rattle.meaning.specs.Matching.{Assignment, atomsOf, instance}
 use Rattle.meaning.specs.FirstMatch.{lengthFits}
-use Rattle.meaning.specs.Laws.Tests.{both-yes, both-no, choose-true, choose-false}
+use Rattle.meaning.specs.Laws.Tests.{choose-true, choose-false}
 use Rattle.meaning.specs.declared.Element.{Element}
 use Rattle.fields.specs.Fields.{fieldAt}
 use Rattle.fields.specs.Laws.{found-field, short-none, end-none}
