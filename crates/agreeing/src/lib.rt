@@ -20,6 +20,7 @@ use meaning::Layout;
 use meaning::Room;
 use parts::Front;
 use plan::At;
+use plan::Sorted;
 
 // The label of an item.
 
@@ -293,7 +294,7 @@ pub fn label_likely(
 {
     let n = item_length(l, nodes, edges, plan, i, c);
     if parts::elements::length_fits(plan::counts(plan, i), n) {
-        if plan[At::SORT + i] == 2 {
+        if plan[At::SORT + i] == Sorted::CONSTANT {
             let x = item_atom(l, nodes, edges, plan, i, c, 0);
             return x as usize == plan[At::CONSTANT + i];
         }

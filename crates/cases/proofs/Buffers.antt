@@ -1,9 +1,10 @@
 -- What stands in a buffer after bytes were read or copied to its front. Rests on the crate's Cases.
 use mathlib.Core.Path.{_≡_, sym, _∙_, ap}
+use mathlib.Core.Logic.{_⊎_, inl, inr}
 use mathlib.Core.List.{List, _++_}
 use Prim.Native.Nat.{ℕ, _≤_}
 use native.Mathlib.Omega.{arith}
-use lib.ListN.{length, take, length-append}
+use lib.ListN.{length, take, length-append, length-take}
 use lib.Seq.{length-take-le, take-at}
 use Rattle.io.specs.Counts.{Counts}
 use Rattle.cases.specs.Cases.{Copied}
@@ -14,14 +15,24 @@ held n r read rest e h =
     let k : n ≤ length (read ++ rest) = omega (arith, length-append read rest) in
     (k, sym (length-take-le n (read ++ rest) k))
 
--- the front of the buffer is the front of what is copied
+-- the front of the buffer is the front of what is copied: all of it, or as much as the buffer holds
 pub copied : (from source rest after : List ℕ) (n : ℕ) → after ≡ source ++ rest → n ≡ length source → source ≡ take n from
-    → (length from ≤ length after → n ≡ length from) → Copied from after n
+    → (n ≡ length from) ⊎ (n ≡ length after) → Copied from after n
 copied from source rest after n left count e all =
     let k : n ≤ length after = omega (arith, ap length left, length-append source rest) in
+    let j : n ≤ length from = omega (arith, count, ap length e, length-take n from) in
     record {
       within = k;
       counts = sym (length-take-le n after k);
       same = ap (take n) left ∙ take-at source rest n (sym count) ∙ e;
-      whole = all;
+      whole = λ h. whole all j h;
+      full = λ h. full all k h;
     }
+  where
+    whole : (n ≡ length from) ⊎ (n ≡ length after) → n ≤ length from → length from ≤ length after → n ≡ length from
+    whole (inl q) j h = q
+    whole (inr q) j h = omega arith
+
+    full : (n ≡ length from) ⊎ (n ≡ length after) → n ≤ length after → length after ≤ length from → n ≡ length after
+    full (inl q) k h = omega arith
+    full (inr q) k h = q

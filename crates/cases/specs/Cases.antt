@@ -10,3 +10,4 @@ pub record Copied (from buffer : List ℕ) (n : ℕ) : Type 0 where
   pub counts : n ≡ length (take n buffer)
   pub same : take n buffer ≡ take n from
   pub whole : length from ≤ length buffer → n ≡ length from
+  pub full : length buffer ≤ length from → n ≡ length buffer

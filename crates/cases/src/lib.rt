@@ -1,6 +1,7 @@
 // What the programs over stored cases share. A stored file is a row of cases, each a field 0x07 whose payload is fields in turn
 // and is not empty. One case is read at a time, so that a file may be of any length.
 ghost use mathlib.Core.Path.{_≡_};
+ghost use mathlib.Core.Option.{none};
 ghost use Rattle.meaning.specs.Image.{constant};
 ghost use Rattle.parts.specs.Runs.{For, nthPart};
 ghost use Rattle.io.specs.Counts.{Counts};
@@ -45,7 +46,7 @@ pub fn part(case: &[u8], n: usize) -> &[u8]
 
 // The word that the field of number n holds; 0 if it holds none.
 pub fn word(case: &[u8], n: usize) -> u32
-    ensures { λ r. ⌜ For (constant (nthPart n (now (case .entry)))) (λ w. r ≡ w) ⌝ }
+    ensures { λ r. ⌜ For (constant (nthPart n (now (case .entry)))) (λ w. r ≡ w) × (constant (nthPart n (now (case .entry))) ≡ none → r ≡ 0) ⌝ }
 {
     parts::word_of(part(case, n))
 }

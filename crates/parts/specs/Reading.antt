@@ -37,13 +37,19 @@ word-is bs n h q c e = q ∙ ap number (take-all 4 bs (omega arith)) ∙ sym (co
 pub word-not : (bs : List ℕ) → (length bs ≡ 4 → ⊥) → For (constant bs) (λ c. 0 ≡ c)
 word-not bs h c e = absurd (h (constant-is bs c e .0))
 
-pub degree-is : (bs : List ℕ) (n : ℕ) → n ≡ number (take 2 (drop 1 bs)) → length bs ≡ 3 → n ≡ number (drop 1 bs)
-degree-is bs n q h = q ∙ ap number (take-all 2 (drop 1 bs) (rw (length-drop 1 bs) (omega arith)))
-
 -- the number of four bytes, where a constant is read
 constant-there : (bs : List ℕ) → length bs ≡ 4 → constant bs ≡ some (number bs)
 unfolding constant
 constant-there bs h = ensure-yes _ _ (eq-eqb _ _ h)
+
+pub word-there : (bs : List ℕ) (n : ℕ) → length bs ≡ 4 → constant bs ≡ none → n ≡ 0
+word-there bs n h e =
+    let f : some (number bs) ≡ none = sym (constant-there bs h) ∙ e in
+    let z : _≡_ {A = ℕ} 0 1 = cc in
+    absurd (omega arith)
+
+pub degree-is : (bs : List ℕ) (n : ℕ) → n ≡ number (take 2 (drop 1 bs)) → length bs ≡ 3 → n ≡ number (drop 1 bs)
+degree-is bs n q h = q ∙ ap number (take-all 2 (drop 1 bs) (rw (length-drop 1 bs) (omega arith)))
 
 never : {A B : Type 0} {o : Option A} {a : A} → o ≡ none → o ≡ some a → B
 never h e = let z : _≡_ {A = ℕ} 0 1 = cc in absurd (omega arith)

@@ -1,7 +1,7 @@
 // Parts of an image, of a rule and of a graph: the bytes of each where they lie, and what stands there. Readings of elements and
 // tests are in `reading`, walks along a label in `elements`.
 ghost use mathlib.Core.Path.{_≡_};
-ghost use mathlib.Core.Option.{some};
+ghost use mathlib.Core.Option.{some, none};
 ghost use mathlib.Core.List.{List, []};
 ghost use Prim.Native.Nat.{ℕ, _<_, _≤_};
 ghost use lib.ListN.{length, getD, drop};
@@ -56,9 +56,9 @@ pub fn behind(p: &[u8], n: usize) -> &[u8]
     &p[..0]
 }
 
-// The word of a constant.
+// The word of a constant; 0 if there is none.
 pub fn word_of(p: &[u8]) -> u32
-    ensures { λ r. ⌜ For (constant (now (p .entry))) (λ c. r ≡ c) ⌝ }
+    ensures { λ r. ⌜ For (constant (now (p .entry))) (λ c. r ≡ c) × (constant (now (p .entry)) ≡ none → r ≡ 0) ⌝ }
 {
     if p.len() == 4 {
         return fields::number4(p, 0) as u32;

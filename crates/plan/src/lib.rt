@@ -66,10 +66,12 @@ impl At {
     pub const LENGTH: usize = 102;
 }
 
-// The sorts of labels: one whose length alone decides, and one constant.
+// The sorts of labels: one whose elements are compared, one whose length alone decides, and one constant.
 pub struct Sorted {}
 
 impl Sorted {
+    pub const ELEMENTS: usize = 0;
+
     pub const LENGTH: usize = 1;
 
     pub const CONSTANT: usize = 2;

@@ -236,14 +236,14 @@ fn plan_label(rule: &[u8], plan: &mut [usize; At::LENGTH], j: usize)
     let s = sort_of(kinds, plan, j, p);
     match s {
         Sort::Length => {
-            plan[At::SORT + j] = 1;
+            plan[At::SORT + j] = Sorted::LENGTH;
         }
         Sort::Constant(x) => {
-            plan[At::SORT + j] = 2;
+            plan[At::SORT + j] = Sorted::CONSTANT;
             plan[At::CONSTANT + j] = x as usize;
         }
         Sort::Elements => {
-            plan[At::SORT + j] = 0;
+            plan[At::SORT + j] = Sorted::ELEMENTS;
         }
     }
 }

@@ -21,6 +21,7 @@ use meaning::Layout;
 use meaning::Operand;
 use meaning::Room;
 use plan::At;
+use plan::Sorted;
 
 // One test.
 
@@ -181,8 +182,8 @@ pub fn rest_fits(
     ensures { λ r. ⌜ ((w : Known (now (rule .entry)) (now (plan .entry))) → r ≡ fits (hostOf l (now (nodes .entry)) (now (edges .entry))) (w .rule) (take i (now (at .entry))) c) ⌝ }
 {
     let sort = plan[At::SORT + i];
-    if sort != 1 {
-        if sort != 2 {
+    if sort != Sorted::LENGTH {
+        if sort != Sorted::CONSTANT {
             if !agreeing::compared(l, nodes, edges, rule, plan, at, i, c) {
                 return false;
             }

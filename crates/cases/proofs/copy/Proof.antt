@@ -1,5 +1,6 @@
 -- `copy` meets its contract: the front of what is copied, all of it where there is room.
 use Prim.Native.Nat.{_-_}
+use mathlib.Core.Logic.{inl, inr}
 use mathlib.Core.List.{[], append-nil}
 use mathlib.Core.Path.{_∙_, ap, refl, sym}
 use native.Mathlib.Omega.{arith}
@@ -29,7 +30,7 @@ same-length c = search needs
 returns : tie.Need-returns
 returns c =
     let from = c .before .before .before .before .before .before .before .args .from .now in
-    copied from from _ _ (length from) (ap (putMid 0 (length from - 0) (c .before .before .before .before .before .before .before .args .to .now)) (c .before .before .copy .ensures)) refl (sym (take-length from)) (λ h. refl)
+    copied from from _ _ (length from) (ap (putMid 0 (length from - 0) (c .before .before .before .before .before .before .before .args .to .now)) (c .before .before .copy .ensures)) refl (sym (take-length from)) (inl refl)
 
 slice-aggregate-copy : tie.Need-slice-aggregate-copy
 slice-aggregate-copy c = sym (length-take-le _ _ (omega arith))
@@ -46,7 +47,7 @@ returns-2 c =
     let from = c .before .before .before .before .before .before .before .before .args .from .now in
     let r = length-take-le (length to) from (omega arith) in
     let e = c .before .before .copy2 .ensures in
-    copied from (take (length to) from) [] _ (length to) (e ∙ sym (append-nil (take (length to) from))) (sym r) refl (λ h. omega (arith, ap length e))
+    copied from (take (length to) from) [] _ (length to) (e ∙ sym (append-nil (take (length to) from))) (sym r) refl (inr (omega (arith, r, ap length e)))
 
 pub copy-spec : {M : Type 1} → statement M
 copy-spec =

@@ -12,7 +12,7 @@ word-of-requires : tie.Need-word-of-requires
 word-of-requires c κs = search needs
 
 returns : tie.Need-returns
-returns c = λ w e. c .word-of .ensures w (ap constant (c .before .part .ensures) ∙ e)
+returns c = let same = ap constant (c .before .part .ensures) in (λ w e. c .word-of .ensures .0 w (same ∙ e), λ e. c .word-of .ensures .1 (same ∙ e))
 
 pub word-spec : {M : Type 1} → statement M
 word-spec = tie.close (tie.spec part-requires word-of-requires returns)
