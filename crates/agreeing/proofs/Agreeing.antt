@@ -1,5 +1,5 @@
 -- Comparing a label in hand with what the elements of a left label stand for, an element at a time; the label of the item
--- that is tried; and what the length of a label and its atom say of it. Rests on Values and on labels' laws.
+-- that is tried; and what the length of a label and its atom say of it. Rests on Values and on labels' Laws.
 use mathlib.Core.Path.{_≡_, refl, sym, _∙_, ap}
 use mathlib.Core.Bool.{Bool, true, false}
 use mathlib.Core.Option.{some}

@@ -1,5 +1,5 @@
--- Elements case by case: what a trial gives their variables, and whether atoms have what they stand for. Rests on Agreeing and on
--- the meaning's Matching.
+-- Elements case by case: what a trial gives their variables, and whether atoms have what they stand for. Rests on
+-- specs/Agreeing and on the meaning's Matching.
 use mathlib.Core.Path.{_≡_, refl, sym}
 use mathlib.Core.Bool.{true, false}
 use mathlib.Core.List.{List, [], _∷_}

@@ -1,5 +1,5 @@
 -- Where the atoms of a variable lie in the label of its first item: behind so many single atoms and lists. Rests on
--- Agreeing and on the meaning's laws of labels.
+-- specs/Agreeing and on laws' Assignment and References.
 use mathlib.Core.Path.{_≡_, refl, sym, _∙_, ap}
 use mathlib.Core.Bool.{Bool, true, false}
 use mathlib.Core.Option.{some}

@@ -1,5 +1,5 @@
 -- The values that a placement gives: that of a variable, from the first item that has it; and that the elements of a placed
--- item's label have values. Rests on Parts, on Assigned and on the meaning's laws of references.
+-- item's label have values. Rests on Parts, on Assigned and on laws' References.
 use mathlib.Core.Path.{_≡_, refl, sym, _∙_}
 use mathlib.Core.Bool.{Bool, true, false}
 use mathlib.Core.List.{List, [], _∷_}

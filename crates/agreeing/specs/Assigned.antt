@@ -1,5 +1,5 @@
--- The value that a placement gives a variable, by the first of the items that has it. Rests on Placed and on the meaning's laws of
--- labels and assignments.
+-- The value that a placement gives a variable, by the first of the items that has it. Rests on Placed and on laws' Labels
+-- and Assignment.
 use mathlib.Core.Path.{_≡_, refl, sym, _∙_, ap}
 use mathlib.Core.Bool.{Bool, true, false}
 use mathlib.Core.List.{List, [], _∷_, _++_, map}

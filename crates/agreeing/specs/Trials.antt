@@ -1,5 +1,5 @@
 -- Making trials: of the slots so far with one more, and of all of them. Rests on Placed and Candidates and on the meaning's
--- laws of tests.
+-- Laws/Tests.
 use mathlib.Core.Path.{_≡_, sym, _∙_}
 use mathlib.Core.List.{List, [], _∷_, _++_}
 use Prim.Native.Nat.{ℕ, _+_, _<_, _≤_}

@@ -303,7 +303,8 @@ pub fn label_likely(
     false
 }
 
-// Whether the label of item i at slot c agrees with its pattern, where its length fits: both are copied out and compared.
+// Whether the label in slot c is what the pattern of item i stands for: the label is copied out, and the pattern's elements are
+// compared with it where they lie.
 pub fn compared(
     l: Layout,
     nodes: &[u8],

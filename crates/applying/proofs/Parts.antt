@@ -1,5 +1,5 @@
 -- Laws of the four parts of an application, one after the other: what each is handed, from what the parts before it left.
--- Rests on Making and Checks, on ledger's Changes and Applications, and on the meaning's laws of room, ends and legality.
+-- Rests on Checks, on making's Making, on ledger's Changes and Applications, and on laws' Room, Attached and Legality.
 use mathlib.Core.Path.{_≡_, refl, sym, _∙_, ap, subst}
 use mathlib.Core.Option.{some}
 use mathlib.Core.List.{List, _++_}

@@ -1,5 +1,5 @@
 -- An application of a rule at its first match in lent bytes: what is known of the match before, and what is left after.
--- Rests on ledger's Running, on matching's Values and on the meaning's Applying.
+-- Rests on ledger's Running, on values' Values and on the meaning's Applying.
 use mathlib.Core.Path.{_≡_}
 use mathlib.Core.Bool.{false}
 use mathlib.Core.Option.{some}

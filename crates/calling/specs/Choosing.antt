@@ -1,5 +1,5 @@
 -- The two steps of a call: the first listed rule that has a match, and how applying it ends the call.
--- Rests on matching's Values, applying's Application and the meaning's Commands.
+-- Rests on values' Values, on the types of matching, ledger and applying and on the meaning's Commands.
 use mathlib.Core.Path.{_≡_}
 use mathlib.Core.Bool.{false}
 use mathlib.Core.Option.{Option, some, none}

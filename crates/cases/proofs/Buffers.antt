@@ -1,4 +1,4 @@
--- What stands in a buffer after bytes were read or copied to its front. Rests on the crate's Cases.
+-- What stands in a buffer after bytes were read or copied to its front. Rests on Cases and io's Counts.
 use mathlib.Core.Path.{_≡_, sym, _∙_, ap}
 use mathlib.Core.Logic.{_⊎_, inl, inr}
 use mathlib.Core.List.{List, _++_}

@@ -1,5 +1,5 @@
 -- What is known of the parts of a command that is known: its row of commands by its tag, a command of a row by its number,
--- and the commands of a row from a place on. Rests on Cycle, on references' Runs and on the meaning's laws of images.
+-- and the commands of a row from a place on. Rests on Cycle, on parts' Runs and on fields' Parsed.
 use mathlib.Core.Path.{_≡_, refl, sym, _∙_, ap}
 use mathlib.Core.Bool.{Bool, true, false}
 use mathlib.Core.Option.{Option, some}

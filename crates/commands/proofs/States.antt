@@ -1,5 +1,5 @@
 -- Laws of the meaning's commands as the code runs them: entering, the next command of a row, the part after a guard, the rounds
--- of a loop. Rests on the meaning's Commands and its laws of fuel.
+-- of a loop. Rests on the meaning's Commands and on laws' Commands and Fuel.
 use mathlib.Core.Path.{_≡_, refl, sym, _∙_, ap}
 use mathlib.Core.Bool.{Bool, true, false}
 use mathlib.Core.List.{List, [], _∷_}

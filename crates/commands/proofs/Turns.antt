@@ -1,5 +1,5 @@
 -- What the members of the cycle leave in the bytes, from what the members that they call leave. Rests on Cycle, Parts and
--- States, on ledger's Whole and on the meaning's laws of commands.
+-- States, on ledger's Whole and on laws' Commands and Restoring.
 use mathlib.Core.Path.{_≡_, refl, sym, _∙_, ap, subst}
 use mathlib.Core.Bool.{Bool, true, false}
 use mathlib.Core.Option.{none}

@@ -1,5 +1,5 @@
 -- The command cycle over lent bytes: what is known of the parts of a program before they are run, and what is left after.
--- Rests on calling's Called, on references' Runs and on the meaning's Commands.
+-- Rests on calling's Called, on parts' Runs and on the meaning's Commands.
 use mathlib.Core.Path.{_≡_}
 use mathlib.Core.Bool.{Bool, true}
 use mathlib.Core.Option.{some}

@@ -1,5 +1,5 @@
 -- What shows that an interpreter does not meet a demand: the cases of document 01 as what run is lent, what ours leaves of
--- them, and interpreters that differ from ours in one thing. Rests on Demands/Second, Demands/Third and ProvedSet.
+-- them, and interpreters that differ from ours in one thing. Rests on Second, Third and the meaning's ProvedSet.
 use Prim.Native.Nat.{ℕ, zero, suc, _*_, _≤_}
 use mathlib.Core.Path.{_≡_, sym, _∙_, ap, subst}
 use mathlib.Core.Bool.{Bool, true}

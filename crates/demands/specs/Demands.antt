@@ -1,7 +1,8 @@
 -- The user's three demands, each of an arbitrary interpreter: a function from all that the calls `run` and `undo` are lent to
 -- all that they leave. Which input is bad, what the bytes of a table stand for and what commands mean is document 01's; how an
--- interpreter works is left open. Rests on Layout, Image, References, Placement and Inference. In the modules below: our calls
--- meet all three (Met), demands 1 and 2 leave one outcome of run (OneOutcome), and who does not meet which (Worthless).
+-- interpreter works is left open. Rests on the meaning's Layout, Image, Commands and Calls, on laws' Numbers (for `Bytes` alone)
+-- and on Inference. Elsewhere in this crate: our calls meet all three (Met), demands 1 and 2 leave one outcome of run
+-- (OneOutcome), and who does not meet which (Worthless).
 use mathlib.Core.Path.{_≡_}
 use mathlib.Core.Bool.{Bool, true, false}
 use mathlib.Core.Option.{Option, some, none}
@@ -31,7 +32,7 @@ pub record Bytewise (x : Lent) : Type 0 where
   pub edges : Bytes (x .edges)
   pub image : Bytes (x .image)
 
--- what either leaves: the answer's number, and every buffer
+-- what either call leaves: the answer's number, and every buffer
 pub record Outcome : Type 0 where
   pub answer : ℕ
   pub nodes : List ℕ

@@ -1,4 +1,4 @@
--- Our two calls, laid out as document 01 says, meet all three demands. Rests on First, Demands/Second and Demands/Third.
+-- Our two calls, laid out as document 01 says, meet all three demands. Rests on First, Second and Third.
 use Rattle.meaning.specs.Layout.{base}
 use Rattle.demands.specs.Demands.{Demand1, Demand2, Demand3}
 use Rattle.demands.specs.Ours.{ours}

@@ -1,5 +1,5 @@
 -- Demands 1 and 2 leave one outcome of run for each input: every interpreter that meets both leaves what ours leaves.
--- Rests on First and Demands/Second.
+-- Rests on First and Second.
 use Prim.Native.Nat.{ℕ}
 use mathlib.Core.Path.{_≡_, refl, sym, _∙_}
 use mathlib.Core.Option.{Option, some, none}

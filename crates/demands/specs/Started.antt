@@ -1,5 +1,5 @@
 -- What is known of a run of ours that starts: its rules are legal, what it ends at is legal and its records fit the journal,
--- and it ends as the rules of inference say. Rests on Ours, laws' Undoing, laws' LegalImage and Laws/Inference.
+-- and it ends as the rules of inference say. Rests on Ours and Laws/Inference and on laws' Undoing and LegalImage.
 use Prim.Native.Nat.{ℕ, _/_, _≤_}
 use mathlib.Core.List.{List, map, reverse}
 use native.Mathlib.Omega.{arith}

@@ -1,4 +1,4 @@
--- What a reader found, as a loop over fields takes it. Rests on the laws of fields.
+-- What a reader found, as a loop over fields takes it. Rests on Fields and Laws.
 use mathlib.Core.Path.{_≡_, sym, _∙_}
 use mathlib.Core.Option.{none}
 use mathlib.Core.Logic.{inl, inr}

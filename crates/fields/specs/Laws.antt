@@ -1,5 +1,5 @@
 -- Laws of Fields: what each answer of the reader says of the field in the bytes, and which answer there is; the items of
--- a run by the numbers of their fields; numbers of two and four bytes. Rests on Fields and the meaning's laws.
+-- a run by the numbers of their fields; numbers of two and four bytes. Rests on Fields and Image.
 use mathlib.Core.Path.{_≡_, refl, sym, _∙_, ap}
 use mathlib.Core.Option.{Option, some, none}
 use mathlib.Core.List.{List, _∷_}

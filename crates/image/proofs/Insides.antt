@@ -1,5 +1,5 @@
 -- What the first bytes of an item tell, one law for each answer of the code: nodes, edges, tests, types, commands. Rests on Rows
--- and the laws of the meaning's Image.
+-- and on fields' Image.
 use mathlib.Core.Path.{_≡_, refl, sym, ap, ap₂, _∙_}
 use mathlib.Core.Bool.{Bool, true, false, not}
 use mathlib.Core.Option.{Option, none}

@@ -1,5 +1,5 @@
 -- Rows, put beside the definition's readers: labels, two operands, graphs, rules, commands in a command, the whole image.
--- Rests on Form and the laws of the meaning's Image.
+-- Rests on Form and on fields' Image.
 use mathlib.Core.Path.{_≡_, refl, sym, ap, ap₂, _∙_}
 use mathlib.Core.Bool.{Bool, true, false}
 use mathlib.Core.Option.{Option, some, none}

@@ -1,4 +1,4 @@
--- The walk along rows: what it knows while it reads one, and where one ends. Rests on Form and the laws of the meaning's Image.
+-- The walk along rows: what it knows while it reads one, and where one ends. Rests on Form and on fields' Image.
 use mathlib.Core.Path.{_≡_, refl, sym, ap, _∙_}
 use mathlib.Core.Bool.{Bool, true, false}
 use mathlib.Core.List.{List}

@@ -1,5 +1,5 @@
--- What a run leaves: refused, with a result, and given back. Rests on the meaning's laws of calls and commands, on ledger's Whole,
--- and on what commands and undoing say of their results.
+-- What a run leaves: refused, with a result, and given back. Rests on laws' Calls and Commands, on ledger's Whole, on
+-- commands' Program and on finishing's Finished.
 use Prim.Native.Nat.{ℕ, _+_, _-_, _/_, _≤_}
 use mathlib.Core.Path.{_≡_, refl, sym, _∙_, ap, subst}
 use mathlib.Core.Bool.{true}

@@ -1,5 +1,5 @@
 -- The counted records of a journal: both tables as slots with them put back, and the journal with them zeroed. Rests on the
--- meaning's Layout and on slots zeroed in a row.
+-- meaning's Layout and on slots' Slots.
 use Prim.Native.Nat.{ℕ, _-_, _*_}
 use mathlib.Core.List.{List, map, reverse}
 use lib.ListN.{drop}

@@ -1,6 +1,6 @@
 -- Putting recorded stores back restores what was there, at the level of slots and of bytes: a journal that holds the records
 -- of some changes, put back from its end to an earlier count, gives the tables of the host that the later changes were made to.
--- Rests on Host and the meaning's Laws/Records.
+-- Rests on Journal and on laws' Hosts and Records.
 use Prim.Native.Nat.{ℕ, zero, suc, _-_, _%_, _<_, _≤_}
 use mathlib.Core.Path.{_≡_, refl, sym, _∙_, ap}
 use mathlib.Core.List.{List, [], _∷_, map, reverse, reverse-append, reverse-reverse}

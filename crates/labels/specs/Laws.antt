@@ -1,5 +1,5 @@
 -- Laws of labels in hand: filling one, a part of one, and comparing one with a part of another.
--- Rests on Labels and on the meaning's laws.
+-- Rests on Labels and on the meaning's Laws/Tests.
 use mathlib.Core.Path.{_≡_, refl, sym, _∙_, ap}
 use mathlib.Core.Bool.{Bool, true, false}
 use mathlib.Core.List.{List, [], _∷_, _++_}

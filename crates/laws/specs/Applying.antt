@@ -1,5 +1,5 @@
 -- Laws of Applying: what a store records, what holds where a rule was applied, how many records that took, and that nothing
--- hinders an application for want of fuel. Rests on Applying.
+-- hinders an application for want of fuel. Rests on the meaning's Applying.
 use Prim.Native.Nat.{ℕ, zero, suc, _+_, _<_, _≤_}
 use mathlib.Core.Path.{_≡_, refl, sym, _∙_, ap}
 use mathlib.Core.List.{List, [], _∷_, _++_}

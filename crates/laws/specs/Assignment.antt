@@ -1,7 +1,7 @@
 -- The assignment that a placement gives. A variable that occurs in a placed item has its value from the placement so far; where
 -- the label of each item agrees with the assignment so far, all agree with the whole and an int has one atom; where the labels
 -- agree with any assignment, the placement's has its values and each label agrees with the assignment so far.
--- Rests on FirstMatch.
+-- Rests on the meaning's Assigned and FirstMatch, and on References and Labels.
 use mathlib.Core.Path.{_≡_, refl, _∙_, ap}
 use mathlib.Core.Bool.{true, false}
 use mathlib.Core.Logic.{_⊎_, inl, inr}

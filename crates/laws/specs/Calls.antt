@@ -1,5 +1,5 @@
 -- Laws of the two calls: what is known of input that is accepted, and what each call does with input that is refused and with
--- input that is not. Rests on Calls.
+-- input that is not. Rests on the meaning's Calls.
 use Prim.Native.Nat.{ℕ, _≤_}
 use mathlib.Core.Path.{_≡_}
 use mathlib.Core.Bool.{true, false}

@@ -1,5 +1,5 @@
 -- Laws of `count`: where each number below n that passes f comes from one below m that passes g, no more pass f than g.
--- Rests on Basics.
+-- Rests on the meaning's Basics.
 use mathlib.Core.Path.{_≡_, refl, _∙_, ap}
 use mathlib.Core.Bool.{Bool, true, false, not}
 use Prim.Native.Nat.{ℕ, zero, suc, _<_, _≤_}

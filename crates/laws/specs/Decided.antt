@@ -1,5 +1,5 @@
 -- Tests under the assignment that a placement gives: a test hangs on the slots of its nodes and the values of its variables
--- alone, so that a placement's front decides it as soon as it has them. Rests on FirstMatch.
+-- alone, so that a placement's front decides it as soon as it has them. Rests on the meaning's FirstMatch and on Assignment.
 use mathlib.Core.Path.{_≡_, refl, sym, _∙_}
 use mathlib.Core.Bool.{Bool, true, false, not}
 use mathlib.Core.List.{List, [], _∷_, _++_, map}

@@ -1,4 +1,4 @@
--- A free edge slot is no edge: it does not run between nodes, leave one or arrive at one. Rests on Matching.
+-- A free edge slot is no edge: it does not run between nodes, leave one or arrive at one. Rests on the meaning's Matching.
 use mathlib.Core.Path.{_≡_}
 use mathlib.Core.Bool.{false}
 use Prim.Native.Nat.{ℕ}

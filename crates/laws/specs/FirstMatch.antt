@@ -1,5 +1,6 @@
 -- The theorem about matching: `firstMatch` is the first match in document 01's order, and `none` exactly where there is no match.
--- It holds of a rule that has the form and whose references hold. Rests on Matching, Search and FirstMatch.
+-- It holds of a rule that has the form and whose references hold. Rests on the meaning's Matching and FirstMatch,
+-- and on Search and Levels.
 use Prim.Native.Nat.{ℕ, _+_, _<_}
 use mathlib.Core.Path.{_≡_, refl, sym, _∙_, ap}
 use mathlib.Core.Logic.{_↔_}

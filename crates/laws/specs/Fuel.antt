@@ -1,5 +1,5 @@
 -- Laws of fuel and steps: what is spent is counted, a command spends, it runs out of fuel only where none is left, and the
--- rounds of a loop do not depend on their bound. Rests on Commands.
+-- rounds of a loop do not depend on their bound. Rests on the meaning's Commands and on Commands.
 use Prim.Native.Nat.{ℕ, zero, suc, _+_, _-_, _≤_}
 use mathlib.Core.Path.{_≡_, refl, _∙_, ap}
 use mathlib.Core.List.{List}

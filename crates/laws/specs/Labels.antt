@@ -1,6 +1,6 @@
 -- Left labels and the atoms that they are placed on: what a label's elements take, what its variables take, and the values
 -- that a list of items gives. A variable keeps the value of its first item; items that each agree with the values so far agree
--- with all of them; items that agree with any assignment give its values. Rests on FirstMatch.
+-- with all of them; items that agree with any assignment give its values. Rests on the meaning's Assigned and FirstMatch.
 use mathlib.Core.Path.{_≡_, refl, sym, _∙_, ap}
 use mathlib.Core.Bool.{Bool, true, false}
 use mathlib.Core.Option.{Option, some, none}

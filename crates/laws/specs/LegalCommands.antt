@@ -1,5 +1,4 @@
--- Every command keeps the host and the journal legal, and none ends with answer 7. Rests on Legality, Stops
--- and FurtherCommands.
+-- Every command keeps the host and the journal legal, and none ends with answer 7. Rests on Commands, Legality and Stops.
 use Prim.Native.Nat.{ℕ, _^_, _≤_}
 use mathlib.Core.Path.{_≡_, refl, ap}
 use mathlib.Core.List.{List}

@@ -1,5 +1,5 @@
 -- The rules of an image that has the form and whose references hold are legal: what the reader finds in bytes.
--- Rests on Image, Numbers, Values and LegalCommands.
+-- Rests on the meaning's Image, and on Numbers, Values and LegalCommands.
 use Prim.Native.Nat.{ℕ, zero, suc, _+_, _^_, _<_}
 use mathlib.Core.Path.{_≡_}
 use mathlib.Core.List.{List, [], _∷_}

@@ -1,5 +1,6 @@
 -- The matches of a rule are the placements that the search accepts: each slot fits behind those before it, and the whole is
--- complete. The tests so far, the links and the count of edges at a node that goes drop no match. Rests on Matching and FirstMatch.
+-- complete. The tests so far, the links and the count of edges at a node that goes drop no match. Rests on the meaning's Matching
+-- and FirstMatch, and on Counting, Assignment and Decided.
 use Prim.Native.Nat.{ℕ, suc, _+_, _-_, _<_, _≤_, max}
 use mathlib.Core.Path.{_≡_, refl, sym, _∙_, ap}
 use mathlib.Core.Logic.{_⊎_, inl, inr, ⊎-map, _↔_}

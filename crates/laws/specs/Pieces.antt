@@ -1,5 +1,5 @@
 -- Laws of pieces: bytes cut into pieces of one width, pieces joined again, one piece stored.
--- Rests on Basics, Layout and Numbers.
+-- Rests on the meaning's Basics and Layout, and on Numbers.
 use Prim.Native.Nat.{ℕ, zero, suc, _+_, _-_, _*_, _/_, _%_, _<_, _≤_}
 use mathlib.Core.Path.{_≡_, refl, sym, _∙_, ap}
 use mathlib.Core.List.{List, [], _∷_, _++_, map, append-assoc, append-nil}

@@ -1,5 +1,5 @@
 -- Laws of changes and journal records: undo on slots of any kind, a record written and read back, and undo on bytes as undo
--- on slots. Rests on Layout, Calls, Every, Numbers, Pieces, Layout and Hosts.
+-- on slots. Rests on the meaning's Layout, Calls and Laws/Every, and on Numbers, Pieces, Layout and Hosts.
 use Prim.Native.Nat.{ℕ, zero, suc, _-_, _*_, _^_, _<_, _≤_}
 use mathlib.Core.Path.{_≡_, refl, sym, _∙_, ap}
 use mathlib.Core.List.{List, [], _∷_, _++_, map, reverse, reverse-cons, reverse-reverse, map-append, append-assoc}

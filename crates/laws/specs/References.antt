@@ -1,4 +1,4 @@
--- What the tests of References say of a rule's left side. Rests on References.
+-- What the tests of references say of a rule's left side, and of the variables of its tests. Rests on the meaning's References.
 use mathlib.Core.Path.{_≡_, refl}
 use mathlib.Core.Bool.{Bool, true, false}
 use mathlib.Core.List.{List, [], _∷_, _++_}

@@ -1,5 +1,5 @@
 -- Laws of Search: `deep` finds the lowest placement, and `none` only where there is none; of two placements of one size, one
--- is before the other or they are the same.
+-- is before the other or they are the same. Rests on the meaning's Search and Matching.
 use Prim.Native.Nat.{ℕ, zero, suc, _-_, _<_, _≤_}
 use mathlib.Core.Path.{_≡_, refl, sym, _∙_, ap}
 use mathlib.Core.List.{List, [], _∷_, _++_, append-assoc, append-nil}

@@ -1,5 +1,5 @@
 -- Laws of slots: the lowest free slot and the free slots, what a change does to the tables, and putting back what stood
--- in a slot. Rests on Layout and Applying.
+-- in a slot. Rests on the meaning's Layout and Applying.
 use Prim.Native.Nat.{ℕ, zero, suc, _+_, _<_, _≤_}
 use mathlib.Core.Path.{_≡_, refl, _∙_, ap}
 use mathlib.Core.List.{List, [], _∷_, _++_}

@@ -1,6 +1,6 @@
 -- A run from tables that keep the layout leaves tables that keep it again, and undo on what a result left, with the count in
 -- its report, gives back the tables byte for byte and a journal of zeros.
--- Rests on Calls, Hosts, Records, Restoring, LegalCommands, LegalImage and Calls.
+-- Rests on the meaning's Calls, and on Hosts, Records, Restoring, LegalCommands, LegalImage and Calls.
 use Prim.Native.Nat.{ℕ, _+_, _-_, _*_, _/_, _^_, _<_, _≤_}
 use mathlib.Core.Path.{_≡_, refl, _∙_, ap}
 use mathlib.Core.List.{List, _++_, map, reverse}

@@ -1,5 +1,5 @@
 -- Laws of free slots as the code asks for them: the lowest free slot of a table, and an edge on a free node.
--- Rests on the meaning's Applying and on host's states.
+-- Rests on the meaning's Applying and on slots' States.
 use mathlib.Core.Path.{_≡_, refl, sym, _∙_, ap}
 use mathlib.Core.Bool.{Bool, true, false, not}
 use mathlib.Core.List.{List}

@@ -1,5 +1,5 @@
--- An application in lent bytes: what is answered before any change, the four parts of the changes put together, and that the
--- state runs on. Rests on Running, Whole and Rooms, and on the meaning's laws of legality.
+-- An application in lent bytes: what hinders it is its answer, and else the changed ledger is, from which the state runs on.
+-- Rests on Running and Whole, and on laws' Legality.
 use mathlib.Core.Path.{_≡_}
 use mathlib.Core.Option.{some, none}
 use mathlib.Core.List.{List}

@@ -1,4 +1,4 @@
--- The checks of room before any change, in order: 3, 4, 5. Rests on the meaning's Applying and on host's states.
+-- The checks of room before any change, in order: 3, 4, 5. Rests on the meaning's Applying and on slots' States.
 use mathlib.Core.Path.{_≡_, refl, sym, _∙_, ap}
 use mathlib.Core.Option.{Option, some, none}
 use mathlib.Core.List.{List, [], _∷_}

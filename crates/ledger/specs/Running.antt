@@ -1,5 +1,5 @@
 -- The state that lent bytes hold while a program runs: the host in both tables, and the records at the front of the journal.
--- Rests on the meaning's Layout, Applying, Commands and Calls, and on its laws of legal slots and records.
+-- Rests on the meaning's Layout, Applying and Commands, and on laws' Hosts and Records.
 use mathlib.Core.Path.{_≡_}
 use mathlib.Core.Bool.{true}
 use mathlib.Core.List.{List, map, reverse}

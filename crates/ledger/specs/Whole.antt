@@ -1,5 +1,5 @@
 -- Laws of the running state between commands: a legal ledger in lent bytes, where it starts, and that it keeps the layout.
--- Rests on Running, Steps and the meaning's laws of legality.
+-- Rests on Running and Steps, and on laws' Hosts and Legality.
 use mathlib.Core.Path.{_≡_, sym, _∙_, ap, subst}
 use mathlib.Core.Bool.{true}
 use mathlib.Core.List.{List}

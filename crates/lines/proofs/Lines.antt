@@ -1,5 +1,5 @@
 -- The words of a line, one writer after the other, are the line; and the lines, one after the other, are the outcome.
--- Rests on Listing, Rooms and writing's laws of Rows.
+-- Rests on specs/Lines, specs/Rooms and writing's Laws/Rows.
 use mathlib.Core.Path.{_≡_, sym, _∙_}
 use mathlib.Core.List.{List, [], _∷_, append-nil, map}
 use Prim.Native.Nat.{ℕ, _+_, _≤_}

@@ -1,5 +1,5 @@
 -- Laws of the walk over a table's slots: what is to come from a slot on is the line of that one, if it is live, and what is to come
--- from the next on. Rests on Listing and Tables.
+-- from the next on. Rests on specs/Lines and specs/Tables.
 use mathlib.Core.Path.{_≡_, refl}
 use mathlib.Core.Bool.{true, false}
 use mathlib.Core.List.{List, [], _++_}

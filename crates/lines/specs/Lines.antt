@@ -1,5 +1,5 @@
 -- The lines of a listing: of an answer, of a live node and of a live edge, and those of an outcome. Rests on the meaning's Layout
--- and on the words and lines of writing.
+-- and on writing's Words and Lines.
 use mathlib.Core.List.{List, [], _∷_, _++_, map}
 use Prim.Native.Nat.{ℕ, suc}
 use lib.ListN.{take, drop}

@@ -1,5 +1,5 @@
 -- A run that came to a result leaves tables whose lines have room; and what a listed run puts in the buffer.
--- Rests on Listing, Rooms and the meaning's laws.
+-- Rests on Listing, on lines' Rooms and on laws' Calls and Undoing.
 use mathlib.Core.Path.{_≡_, refl}
 use mathlib.Core.Option.{Option, some, none}
 use mathlib.Core.List.{List}

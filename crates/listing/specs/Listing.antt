@@ -1,5 +1,5 @@
 -- The listing of a run: from the bytes that the runner program reads to the bytes that it prints.
--- Rests on the meaning's Calls, on the words and lines of writing and on the input of run_input.
+-- Rests on the meaning's Calls, on lines' Lines, on writing's Words and on run_input's Input.
 use mathlib.Core.List.{List}
 use mathlib.Core.Option.{Option, some, none}
 use Prim.Native.Nat.{ℕ, _*_}

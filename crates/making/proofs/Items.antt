@@ -1,5 +1,5 @@
 -- Laws of one right node or right edge: what is read of its bytes is what it comes to, and each item of the right side is one.
--- Rests on Making, on values' Items and on the meaning's laws.
+-- Rests on Making, on values' Items and on laws' Values.
 use mathlib.Core.Path.{_≡_, refl, sym, _∙_, ap, subst}
 use mathlib.Core.Option.{some}
 use mathlib.Core.List.{List, [], _∷_, map}

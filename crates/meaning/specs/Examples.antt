@@ -1,5 +1,5 @@
 -- Further worked cases, computed from bytes to bytes: at each of them a likely mistake in the definitions would give another
--- outcome. Rests on Calls and on the proved set's words.
+-- outcome. Rests on Calls and ProvedSet.
 use mathlib.Core.Path.{_≡_, refl}
 use mathlib.Core.List.{List, [], _∷_, _++_, map}
 use Prim.Native.Nat.{ℕ, _*_}

@@ -1,6 +1,6 @@
 -- The first match of a rule in a host, executable. A candidate is dropped as soon as the placement so far breaks a matching
--- rule, and a node also where a left edge to an earlier node has no host edge, or where it must go and has edges that must
--- dangle. Rests on Matching, Assigned and Search.
+-- rule, and a node also where a left edge to an earlier node or to itself has no host edge, or where it must go and has edges
+-- that must dangle. Rests on Matching, Assigned and Search.
 use mathlib.Core.Bool.{Bool, true, false, not}
 use mathlib.Core.Option.{Option, some, none}
 use mathlib.Core.List.{List, [], _∷_, _++_, map}

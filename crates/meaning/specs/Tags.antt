@@ -1,4 +1,4 @@
--- The tags of an image's fields, and the other bytes of an image that stand for a word of document 01.
+-- The tags of an image's fields, and the other bytes that stand for a word of document 01; marks stand in tables too.
 use Prim.Native.Nat.{ℕ}
 
 -- A rule, and its parts.

@@ -1,5 +1,5 @@
 -- Where a run would start, the tables are legal and each rule of the image is one whose references hold, so its first match can
--- be asked for. Rests on the crate's Pairs and the meaning's laws of calls.
+-- be asked for. Rests on Pairs and on laws' Calls.
 use mathlib.Core.Path.{_≡_, refl, sym, _∙_, ap}
 use mathlib.Core.Bool.{Bool, true, false}
 use mathlib.Core.Option.{Option, some, none}

@@ -1,4 +1,4 @@
--- One turn of a loop over fields: what the reader found, as the laws of rows take it. Rests on the laws of fields and on Runs.
+-- One turn of a loop over fields: what the reader found, as the laws of rows take it. Rests on fields' Finding and on Runs.
 use mathlib.Core.Path.{_≡_, sym, _∙_}
 use mathlib.Core.Logic.{inl, inr}
 use mathlib.Core.List.{List, []}

@@ -1,5 +1,5 @@
--- What the bytes of a left label begin with, and whose counts are counted. Rests on the meaning's Image and References, and on
--- Runs.
+-- What the bytes of a label begin with, and which counts are those of its elements. Rests on the meaning's Image and References,
+-- and on Runs.
 use mathlib.Core.Path.{_≡_}
 use mathlib.Core.List.{List, [], _∷_}
 use Prim.Native.Nat.{ℕ, _-_, _<_, _≤_}

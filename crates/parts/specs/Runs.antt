@@ -1,5 +1,5 @@
 -- Rows of fields: what stands one after the other in bytes, each field read by `item` from its tag and payload; the walk of
--- a loop over them; and the field of a number among them. Rests on the meaning's Image and on Fields.
+-- a loop over them; and the field of a number among them. Rests on the meaning's Image and on fields' Fields and Laws.
 use mathlib.Core.Path.{_≡_, refl, sym, _∙_, ap}
 use mathlib.Core.Bool.{Bool, true, false}
 use mathlib.Core.Option.{Option, some, none}

@@ -1,4 +1,4 @@
--- Walks along the elements of a left label where its bytes lie: a step and the end of one, and counting the elements.
+-- Walks along the elements of a label where its bytes lie: a step and the end of one, and counting the elements.
 -- Rests on Elements, Runs and fields' Laws.
 use mathlib.Core.Path.{_≡_, refl, sym, _∙_, ap}
 use mathlib.Core.Bool.{true, false}
@@ -26,7 +26,7 @@ use Rattle.parts.specs.declared.Front.{Front}
 use Rattle.parts.specs.declared.Front.the-variants.{First, Nothing}
 use Rattle.parts.specs.declared.Counts.{Counts}
 
--- The bytes of a left label.
+-- The bytes of a label.
 
 pub spells-label : (bs : List ℕ) (l : List Element) → label bs ≡ some l → Spells bs l
 unfolding label

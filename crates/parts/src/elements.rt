@@ -1,4 +1,4 @@
-// Walks along the elements of a left label: its first element, how many it has, and how many atoms each can take.
+// Walks along the elements of a label: its first element, how many it has, and, of a left label, how many atoms each can take.
 ghost use mathlib.Core.Path.{_≡_};
 ghost use mathlib.Core.Option.{some};
 ghost use mathlib.Core.List.{List};

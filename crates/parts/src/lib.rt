@@ -16,14 +16,14 @@ use meaning::tags::Tag;
 pub mod elements;
 pub mod reading;
 
-// What is at the front of the bytes of a left label.
+// What is at the front of the bytes of a label.
 pub enum Front {
     // An element, and the place behind it.
     First(Element, usize),
     Nothing,
 }
 
-// How many elements a left label has, and how many of them are list variables.
+// How many elements a label has, and how many of them are list variables.
 pub struct Counts {
     pub elements: usize,
     pub lists: usize,

@@ -1,4 +1,4 @@
--- When conditions and tests are decided. Rests on Plan and on the meaning's References and FirstMatch.
+-- When conditions and tests are decided. Rests on plan's Plan and on the meaning's References and FirstMatch.
 use mathlib.Core.Path.{_≡_, refl, sym, _∙_, ap}
 use mathlib.Core.Option.{some, none}
 use mathlib.Core.Bool.{false}

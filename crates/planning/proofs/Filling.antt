@@ -1,5 +1,5 @@
--- The places of a graph's items, filled in one after the other, and the parts of a rule put beside them. Rests on Plan and
--- on the rows of a graph and of a rule.
+-- The places of a graph's items, filled in one after the other, and the parts of a rule put beside them. Rests on plan's
+-- Plan and on parts' Rows.
 use mathlib.Core.Path.{_≡_, refl, sym, _∙_, ap}
 use mathlib.Core.Option.{Option, some, none}
 use mathlib.Core.Bool.{true}

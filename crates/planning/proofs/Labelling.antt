@@ -1,4 +1,4 @@
--- What a plan says of left labels: their sorts, and the stores that say it. Rests on Plan and on labels' Walks.
+-- What a plan says of left labels: their sorts, and the stores that say it. Rests on plan's Plan and on parts' Walks.
 use mathlib.Core.Path.{_≡_, refl, sym, _∙_, ap}
 use mathlib.Core.Logic.{_⊎_, inl, inr}
 use mathlib.Core.Option.{some}

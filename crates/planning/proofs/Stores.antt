@@ -1,4 +1,4 @@
--- Stores into a plan: what they keep of it, and what they add. Rests on Plan.
+-- Stores into a plan: what they keep of it, and what they add. Rests on plan's Plan.
 use mathlib.Core.Path.{_≡_, sym, _∙_, ap}
 use mathlib.Core.List.{List}
 use Prim.Native.Nat.{ℕ, _+_, _-_, _<_, _≤_}

@@ -1,5 +1,5 @@
 -- Which element is a variable and which takes a list, where a label has a variable, and which label is the first that
--- does. Rests on Plan, on the meaning's FirstMatch and on rows of fields.
+-- does. Rests on plan's Plan, on the meaning's FirstMatch and on parts' Runs.
 use mathlib.Core.Path.{_≡_, refl, sym, _∙_, ap}
 use mathlib.Core.Option.{some, none}
 use mathlib.Core.List.{List, [], _∷_}

@@ -1,7 +1,7 @@
--- What a command does by the meaning's rules of inference follows by the published rules. Graphs, the reading of a host as a
+-- What a command does by demands' rules of inference follows by the published rules. Graphs, the reading of a host as a
 -- graph and the application of a rule set are parameters; what is assumed of them, on good ledgers, is that the first match of
 -- the first rule that has one is such an application (hit), and that there is none where no rule has a match (miss).
--- Rests on Steps and the meaning's Inference.
+-- Rests on Steps and demands' Inference.
 use mathlib.Core.Path.{_≡_}
 use mathlib.Core.Bool.{Bool, true, false}
 use mathlib.Core.List.{List, map}

@@ -1,6 +1,6 @@
 -- What the interpreter answers is an outcome of the program by the published semantics: a result where it answers 0, fail where
 -- it answers 1. First of commands, then of every interpreter that meets demands 1 and 2. Graphs, the reading of a host as a
--- graph and the application of a rule set are parameters. Rests on Following and the meaning's Demands.
+-- graph and the application of a rule set are parameters. Rests on Following and demands' Demands.
 use mathlib.Core.Path.{_≡_, refl, ap}
 use mathlib.Core.Bool.{true, false}
 use mathlib.Core.Option.{Option, some, none}

@@ -1,4 +1,4 @@
--- What the walks ask of each element, item, test and rule. Rests on the meaning's References and on Rows.
+-- What the walks ask of each element, item, test and rule. Rests on the meaning's References and on parts' Rows.
 use mathlib.Core.Bool.{Bool, true, false, not}
 use mathlib.Core.List.{List, []}
 use Prim.Native.Nat.{ℕ}

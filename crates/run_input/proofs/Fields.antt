@@ -1,4 +1,4 @@
--- What is found at a place is what the definition expects there. Rests on Reading and on fields.
+-- What is found at a place is what the definition expects there. Rests on Reading and on fields' Fields and Laws.
 use mathlib.Core.Path.{_≡_, refl, sym, _∙_, ap}
 use mathlib.Core.Option.{some, none}
 use mathlib.Core.List.{List}

@@ -1,4 +1,5 @@
--- Laws of what a live slot holds: it is there, and its bytes say what it holds. Rests on the meaning's Layout and its laws.
+-- Laws of what a live slot holds: it is there, and its bytes say what it holds. Rests on the meaning's Layout and on
+-- laws' Pieces and Layout.
 use Prim.Native.Nat.{ℕ, _/_, _<_}
 use mathlib.Core.Path.{_≡_, sym, _∙_, ap}
 use mathlib.Core.List.{List, [], map}

@@ -1,5 +1,5 @@
 -- Laws of parts of a table that are lent on and come back: where a slot lies, and what the table is when its part is another.
--- Rests on the meaning's laws of pieces.
+-- Rests on laws' Pieces.
 use Prim.Native.Nat.{ℕ, _+_, _-_, _*_, _/_, _<_, _≤_}
 use mathlib.Core.Path.{_≡_, sym, _∙_, ap}
 use mathlib.Core.List.{List, [], _++_, append-assoc}

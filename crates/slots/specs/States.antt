@@ -1,5 +1,5 @@
 -- Laws of states: what a table of nodes and a table of edges say of their slots follows from the state of each.
--- Rests on Slots and the meaning's laws of the layout.
+-- Rests on Slots and on laws' Layout.
 use Prim.Native.Nat.{ℕ, zero, suc}
 use mathlib.Core.Path.{_≡_, refl, sym, _∙_, ap}
 use mathlib.Core.List.{List, [], _∷_, map}

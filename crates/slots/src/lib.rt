@@ -1,5 +1,6 @@
-// Slots of host tables in lent bytes: where a slot lies, storing and freeing one, and which are free. What one slot holds is in
-// `held`, bytes and numbers are in `bytes`. Nothing outside this crate multiplies a slot number by a slot's length.
+// Slots of host tables and of the journal in lent bytes: where a slot lies, storing and freeing one, zeroing some in a row, and
+// which are free. What a slot of a host table holds is in `held`, bytes and numbers are in `bytes`. Where a slot starts is
+// reckoned here alone.
 ghost use mathlib.Core.Path.{_≡_};
 ghost use mathlib.Core.List.{[]};
 ghost use Prim.Native.Nat.{_+_, _*_, _/_, _<_, _≤_};

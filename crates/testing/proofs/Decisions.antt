@@ -1,5 +1,5 @@
--- Tests that a placement decides: their nodes are placed and their variables have values. Rests on Testing, on the
--- plan's Tests and on the meaning's laws of references.
+-- Tests that a placement decides: their nodes are placed and their variables have values. Rests on Testing, on
+-- plan's Tests and on laws' References and Decided.
 use mathlib.Core.Path.{_≡_, sym, _∙_}
 use mathlib.Core.Bool.{Bool, true, false}
 use mathlib.Core.List.{List, _++_, map}

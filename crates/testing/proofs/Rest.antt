@@ -1,5 +1,5 @@
 -- Label and tests of a slot that is likely: a label that agrees where its length fits, one that is compared, and the tests that are
--- left. Rests on agreeing's Candidates and Assigned and on the meaning's laws of labels.
+-- left. Rests on agreeing's Candidates and Assigned and on laws' References and Labels.
 use mathlib.Core.Path.{_≡_, refl, sym, _∙_}
 use mathlib.Core.Logic.{inl, inr}
 use mathlib.Core.Bool.{Bool, true, false}

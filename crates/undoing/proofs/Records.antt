@@ -1,5 +1,5 @@
 -- Laws of a journal that holds written records: it is read as they were written, they keep to their tables, and with the later
--- ones cleared it holds the earlier ones. Rests on the meaning's laws of records and on ledger's Steps.
+-- ones cleared it holds the earlier ones. Rests on laws' Records and on ledger's Steps.
 use Prim.Native.Nat.{ℕ, _+_, _-_, _*_, _<_, _≤_}
 use mathlib.Core.Path.{_≡_, refl, _∙_, ap}
 use mathlib.Core.Bool.{true}

@@ -1,5 +1,5 @@
--- What putting records back and clearing them leaves, for any earlier ledger that the bytes came from. Rests on Records, host's
--- Restores and the meaning's Restoring.
+-- What putting records back and clearing them leaves, for any earlier ledger that the bytes came from. Rests on Records,
+-- on journal's Restores and on laws' Restoring.
 use Prim.Native.Nat.{ℕ, _-_, _*_, _/_, _<_, _≤_}
 use mathlib.Core.Path.{_≡_, sym, _∙_, ap}
 use mathlib.Core.Bool.{true}

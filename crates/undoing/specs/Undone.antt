@@ -1,5 +1,5 @@
 -- Undoing in lent bytes: a ledger that the bytes have come from by recorded changes is there again.
--- Rests on ledger's Running and on the meaning's laws of restoring.
+-- Rests on ledger's Running and on laws' Restoring.
 use mathlib.Core.Path.{_≡_}
 use mathlib.Core.List.{List}
 use Prim.Native.Nat.{ℕ}

@@ -1,5 +1,5 @@
 -- Laws of Values, one for each answer of the code: heights, the values of variables, labels joined and the walk along a label.
--- Rests on Values, on the laws of labels and on the meaning's laws.
+-- Rests on Values, on labels' Laws, on parts' Walks and on laws' Numbers.
 use mathlib.Core.Path.{_≡_, refl, sym, _∙_, ap}
 use mathlib.Core.Bool.{Bool, true, false}
 use mathlib.Core.Option.{Option, some, none}

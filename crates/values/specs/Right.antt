@@ -1,5 +1,5 @@
 -- The right side of a rule: it has values exactly where all its labels can be held, and a label's value hangs on the
--- variables that it names alone. Rests on Values and on the meaning's laws.
+-- variables that it names alone. Rests on Values, on parts' Rows and on the meaning's Applying.
 use mathlib.Core.Path.{_≡_, refl, sym, _∙_, ap}
 use mathlib.Core.Bool.{Bool}
 use mathlib.Core.Option.{Option, some}

@@ -1,5 +1,5 @@
 -- The values of a rule's variables as two arrays, a label's value in hand, and which labels of a right side can be held.
--- Rests on the meaning's Applying and on labels.
+-- Rests on the meaning's Applying and on labels' Labels.
 use mathlib.Core.Path.{_≡_}
 use mathlib.Core.Bool.{Bool}
 use mathlib.Core.Option.{Option, some, none}

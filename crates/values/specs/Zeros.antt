@@ -1,4 +1,4 @@
--- Arrays of zeros hold values. Rests on Values and the meaning's laws of zeros.
+-- Arrays of zeros hold values. Rests on Values and on laws' Layout.
 use mathlib.Core.Path.{refl}
 use native.Mathlib.Omega.{arith}
 use lib.ListN.{replicate}

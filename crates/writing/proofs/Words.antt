@@ -1,4 +1,4 @@
--- The words of a line, as their writers put them. Rests on Words, Lines and the laws of Rows.
+-- The words of a line, as their writers put them. Rests on specs/Words, specs/Lines and Laws/Rows.
 use mathlib.Core.Path.{_≡_}
 use mathlib.Core.List.{List, [], _∷_, _++_, map}
 use Prim.Native.Nat.{ℕ, _+_, _-_, _<_, _≤_}

@@ -1,5 +1,5 @@
 -- Further free slots as bytes: zeros behind a table are read and written as free slots, and the layout is kept with them.
--- Rests on laws' Pieces, laws' Layout and Laws/Further.
+-- Rests on Laws/Further and on laws' Pieces and Layout.
 use Prim.Native.Nat.{ℕ, zero, suc, _+_, _-_, _*_, _/_, _%_, _<_, _≤_}
 use mathlib.Core.Path.{_≡_, refl, sym, _∙_, ap, fun-ext}
 use mathlib.Core.Bool.{Bool, true}

@@ -1,4 +1,4 @@
--- What hinders an application, check by check: the order of document 01 is 6, 3, 4, 5. Rests on Applying.
+-- What hinders an application, check by check: the order of document 01 is 6, 3, 4, 5. Rests on the meaning's Applying.
 use mathlib.Core.Path.{_≡_, refl}
 use mathlib.Core.Bool.{Bool, true, false}
 use mathlib.Core.Option.{Option, some, none}

@@ -1,4 +1,4 @@
--- `running::finish` meets its contract, end by end.
+-- `finishing::finish` meets its contract, end by end.
 use mathlib.Core.Path.{refl}
 use borrow.Author.Needs.{needs}
 use Rattle.finishing.specs.Finished.{Finishes}

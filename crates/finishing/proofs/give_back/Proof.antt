@@ -1,4 +1,4 @@
--- `running::give_back` meets its contract: all records undone, and the steps reported.
+-- `finishing::give_back` meets its contract: all records undone, and the steps reported.
 use borrow.Author.Needs.{needs}
 use Rattle.finishing.proofs.give_back.Statement.{statement}
 use Rattle.finishing.proofs.give_back.Tie as tie

@@ -1,4 +1,4 @@
--- `applying::change_node` meets its contract.
+-- `making::change_node` meets its contract.
 use borrow.Author.Needs.{needs}
 use native.Mathlib.Omega.{arith}
 use Rattle.making.proofs.Loops.{change-takes, change-taken, change-gone}

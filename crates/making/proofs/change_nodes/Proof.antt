@@ -1,4 +1,4 @@
--- `applying::change_nodes` meets its contract. The loop's invariant: the first `i` nodes have changed, each with its record.
+-- `making::change_nodes` meets its contract. The loop's invariant: the first `i` nodes have changed, each with its record.
 use borrow.Author.Needs.{needs}
 use mathlib.Core.Path.{_≡_}
 use Prim.Native.Nat.{_+_, _-_, _≤_}

@@ -1,4 +1,4 @@
--- `applying::new_edges` meets its contract. The loop's invariant: the first `i` edges have come, each with its record.
+-- `making::new_edges` meets its contract. The loop's invariant: the first `i` edges have come, each with its record.
 use borrow.Author.Needs.{needs}
 use Prim.Native.Nat.{_+_, _-_, _≤_}
 use native.Mathlib.Omega.{arith}

@@ -1,4 +1,4 @@
--- `applying::new_nodes` meets its contract. The loop's invariant: the first `i` new nodes have come, each with its record, and the
+-- `making::new_nodes` meets its contract. The loop's invariant: the first `i` new nodes have come, each with its record, and the
 -- first places are the slots of the interface's nodes and theirs.
 use borrow.Author.Needs.{needs}
 use mathlib.Core.Path.{_≡_}

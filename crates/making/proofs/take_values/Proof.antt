@@ -1,4 +1,4 @@
--- `applying::take_values` meets its contract.
+-- `making::take_values` meets its contract.
 use borrow.Author.Needs.{needs}
 use mathlib.Core.Path.{sym, _∙_}
 use native.Mathlib.Omega.{arith}

@@ -1,4 +1,4 @@
--- `asking::label_part` meets its contract.
+-- `parts::label_part` meets its contract.
 use borrow.Author.Needs.{needs}
 use Rattle.parts.specs.Rows.{label-edge, label-node}
 use Rattle.parts.proofs.label_part.Statement.{statement}

@@ -1,4 +1,4 @@
--- `host::undo_call` meets its contract: what it leaves, refused or not, is what the definition says.
+-- `undo::undo_call` meets its contract: what it leaves, refused or not, is what the definition says.
 use mathlib.Core.Path.{sym, ap, _∙_}
 use native.Mathlib.Omega.{arith}
 use borrow.Author.Needs.{needs}

@@ -1,4 +1,4 @@
--- `host::undo_check` meets its contract: the first check that fails.
+-- `undo::undo_check` meets its contract: the first check that fails.
 use mathlib.Core.Path.{sym, ap, _∙_}
 use borrow.Author.Needs.{needs}
 use Rattle.answers.specs.Answers.{refusalOf}
