@@ -1,6 +1,5 @@
 // Running the program of an image, from bytes that hold a state. Running a command, a row of commands, a guarded command and
 // a loop call each other, over parts of the lent image; what needs no call of these is outside the cycle.
-ghost use mathlib.Core.Path.{_≡_};
 ghost use Prim.Native.Nat.{_+_, _≤_};
 ghost use Rattle.meaning.specs.Tags.{ruleSetTag};
 ghost use Rattle.meaning.specs.Calls.{mostFuel};

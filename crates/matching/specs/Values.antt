@@ -1,11 +1,11 @@
 -- What the first match comes with: its slots, and the values of its variables. Rests on Next and the meaning's FirstMatch.
-use Prim.Native.Nat.{ℕ, _+_, _*_, _<_, _≤_}
+use Prim.Native.Nat.{ℕ, _+_, _<_, _≤_}
 use mathlib.Core.Path.{_≡_}
 use mathlib.Core.Logic.{_⊎_}
 use mathlib.Core.Bool.{false}
 use mathlib.Core.Option.{some}
 use mathlib.Core.List.{List}
-use lib.ListN.{length, getD, take, drop}
+use lib.ListN.{length, getD, take}
 use Rattle.meaning.specs.Basics.{absent}
 use Rattle.meaning.specs.Layout.{Host, hostOf, mostAtoms}
 use Rattle.meaning.specs.Image.{Rule, rule, mostItems}

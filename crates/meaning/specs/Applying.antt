@@ -1,11 +1,11 @@
 -- Applying a rule at a match: the values of the right side, the checks before any change, the changes with one record each,
 -- and the test after them. Rests on Matching and Assigned.
-use mathlib.Core.Bool.{Bool, true, false, not}
+use mathlib.Core.Bool.{Bool, not}
 use mathlib.Core.Option.{Option, some, none}
 use mathlib.Core.List.{List, [], _∷_, _++_, map}
 use Prim.Native.Nat.{ℕ, zero, suc, _+_, _-_}
 use lib.ListN.{length, getD, take, drop}
-use lib.Dec.{eqb, leb, ltb}
+use lib.Dec.{eqb, leb}
 use Rattle.meaning.specs.Basics.{choose, both, any, concat, isSome, ensure, each, firstFailing, _>>_, _>>=_}
 use Rattle.meaning.specs.Numbers.{sum, difference}
 use Rattle.meaning.specs.Layout.{Slot, free, live, Node, Edge, Host, Change, ofNode, ofEdge, put, liveAt}
@@ -16,7 +16,7 @@ use Rattle.meaning.specs.Assigned.{assigned}
 use Rattle.meaning.specs.declared.Element.{Element}
 use Rattle.meaning.specs.declared.Element.the-variants.{Constant, Variable, Sum, Difference}
 use Rattle.meaning.specs.declared.Stop.{Stop}
-use Rattle.meaning.specs.declared.Stop.the-variants.{OutOfFuel, NoNodeRoom, NoEdgeRoom, NoRecordRoom, LabelTooLarge, EdgeOnFreeNode}
+use Rattle.meaning.specs.declared.Stop.the-variants.{NoNodeRoom, NoEdgeRoom, NoRecordRoom, LabelTooLarge, EdgeOnFreeNode}
 
 -- The right side under an assignment. A label that can't be held has no value; `most` is how many atoms a label holds.
 

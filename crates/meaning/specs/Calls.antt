@@ -1,15 +1,15 @@
 -- The two calls, each a function from all its inputs to all its outputs, refusals in their order included.
 -- Rests on Layout, Image, References, Placement and Commands.
 use mathlib.Core.Path.{_≡_}
-use mathlib.Core.Bool.{Bool, true, false}
+use mathlib.Core.Bool.{Bool, false}
 use mathlib.Core.Option.{Option, some, none}
 use mathlib.Core.List.{List, [], _∷_, _++_, map, reverse}
-use Prim.Native.Nat.{ℕ, zero, suc, _+_, _-_, _*_, _/_}
-use lib.ListN.{length, getD, take, drop, replicate}
-use lib.Dec.{eqb, leb, ltb}
-use Rattle.meaning.specs.Basics.{choose, both, either, clauses, every, zeros, concat, padded, isSome, each, firstFailing}
+use Prim.Native.Nat.{ℕ, _+_, _-_, _*_, _/_}
+use lib.ListN.{length, drop, replicate}
+use lib.Dec.{eqb, leb}
+use Rattle.meaning.specs.Basics.{choose, both, every, zeros, concat, padded, isSome, each, firstFailing}
 use Rattle.meaning.specs.Numbers.{number, bytes}
-use Rattle.meaning.specs.Layout.{Tables, Change, ofNode, ofEdge, undone, nodeLength, edgeLength, recordLength, fitsTable, pieces, cut, hostOf, writeNodes, writeEdges, writeRecord, keepsLayout, readRecord, keepsRecord}
+use Rattle.meaning.specs.Layout.{Tables, undone, nodeLength, edgeLength, recordLength, fitsTable, pieces, cut, hostOf, writeNodes, writeEdges, writeRecord, keepsLayout, readRecord, keepsRecord}
 use Rattle.meaning.specs.Image.{Program, limits, program}
 use Rattle.meaning.specs.References.{references}
 use Rattle.meaning.specs.Placement.{placement}

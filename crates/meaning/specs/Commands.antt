@@ -1,17 +1,15 @@
 -- Commands: what each does to the host, the journal, the fuel and the steps, and what each end does to a sequence, a guard
 -- and a loop body. Rests on FirstMatch and Applying.
-use mathlib.Core.Bool.{Bool, true, false}
+use mathlib.Core.Bool.{Bool}
 use mathlib.Core.Option.{Option, some, none}
 use mathlib.Core.List.{List, [], _∷_}
-use Prim.Native.Nat.{ℕ, zero, suc, _+_, _-_}
-use lib.ListN.{length, getD}
-use lib.Dec.{eqb}
+use Prim.Native.Nat.{ℕ, zero, suc, _-_}
+use lib.ListN.{getD}
 use Rattle.meaning.specs.Basics.{choose}
 use Rattle.meaning.specs.Layout.{Host}
 use Rattle.meaning.specs.Image.{Rule, Command, ruleSet, sequence, guarded, loop, skip, fail, break, Commands, stop, then}
 use Rattle.meaning.specs.FirstMatch.{firstMatch}
 use Rattle.meaning.specs.Applying.{Ledger, ledgerAt, Applied, applied, hindered, apply}
-use Rattle.meaning.specs.declared.Stop.{Stop}
 use Rattle.meaning.specs.declared.Stop.the-variants.{OutOfFuel}
 use Rattle.meaning.specs.declared.End.{End}
 use Rattle.meaning.specs.declared.End.the-variants.{Done, Failed, Broke, Stopped}

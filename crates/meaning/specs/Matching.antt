@@ -2,12 +2,12 @@
 -- Rests on Basics, Numbers, Layout, Image and References.
 use mathlib.Core.Path.{_≡_}
 use mathlib.Core.Logic.{_⊎_}
-use mathlib.Core.Bool.{Bool, true, false, not}
-use mathlib.Core.List.{List, [], _∷_, _++_, map}
+use mathlib.Core.Bool.{Bool, true, not}
+use mathlib.Core.List.{List, [], _∷_, map}
 use Prim.Native.Nat.{ℕ, _+_, _<_, _≤_}
 use lib.ListN.{length, getD}
 use lib.Dec.{eqb}
-use Rattle.meaning.specs.Basics.{choose, both, either, any, count, every, same, concat}
+use Rattle.meaning.specs.Basics.{choose, both, either, any, count, every, concat}
 use Rattle.meaning.specs.Numbers.{less}
 use Rattle.meaning.specs.Layout.{Slot, free, live, Node, Edge, Host, liveAt}
 use Rattle.meaning.specs.Image.{RuleNode, RuleEdge, Rule}

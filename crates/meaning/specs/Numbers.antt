@@ -1,8 +1,8 @@
 -- Big-endian numbers, and atoms: signed 32-bit numbers, each held as its word (the number that its four bytes write).
 -- A word's height is its signed value plus 2^31: words compare, add and subtract by their heights, in natural numbers.
 -- Rests on Basics.
-use mathlib.Core.Bool.{Bool, true, false}
-use mathlib.Core.Option.{Option, some, none}
+use mathlib.Core.Bool.{Bool}
+use mathlib.Core.Option.{Option, some}
 use mathlib.Core.List.{List, [], _∷_}
 use Prim.Native.Nat.{ℕ, zero, suc, _+_, _-_, _*_, _/_, _%_, _^_}
 use lib.ListN.{length}

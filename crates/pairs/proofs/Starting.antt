@@ -1,14 +1,14 @@
 -- Where a run would start, the tables are legal and each rule of the image is one whose references hold, so its first match can
 -- be asked for. Rests on Pairs and on laws' Calls.
 use mathlib.Core.Path.{_≡_, refl, sym, _∙_, ap}
-use mathlib.Core.Bool.{Bool, true, false}
+use mathlib.Core.Bool.{true, false}
 use mathlib.Core.Option.{Option, some, none}
 use mathlib.Core.List.{List, []}
 use Prim.Native.Nat.{ℕ, _<_}
 use native.Mathlib.Omega.{arith}
 use lib.ListN.{length, getD}
 use Rattle.meaning.specs.Layout.{base}
-use Rattle.meaning.specs.Image.{Rule, Program, rule, program}
+use Rattle.meaning.specs.Image.{Rule, rule, program}
 use Rattle.meaning.specs.References.{ruleHolds, references}
 use Rattle.meaning.specs.Calls.{runRefusal, reportOf, lending}
 use Rattle.meaning.specs.Laws.Tests.{both-true, every-true}

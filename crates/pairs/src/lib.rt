@@ -4,7 +4,7 @@ ghost use mathlib.Core.Bool.{true};
 ghost use lib.ListN.{length};
 ghost use Prim.Native.Nat.{_+_, _<_, _≤_};
 ghost use Rattle.meaning.specs.Layout.{mostAtoms};
-ghost use Rattle.meaning.specs.Image.{program, mostItems};
+ghost use Rattle.meaning.specs.Image.{program};
 ghost use Rattle.parts.specs.Runs.{For};
 ghost use Rattle.values.specs.Values.{Stored, valuesRoom};
 ghost use Rattle.pairs.specs.Pairs.{isMatch, starts as doesStart, Answers};

@@ -5,19 +5,15 @@ use mathlib.Core.Path.{_≡_}
 use mathlib.Core.Logic.{_⊎_}
 use mathlib.Core.Option.{Option, some}
 use mathlib.Core.Bool.{true, false}
-use mathlib.Core.List.{List, [], _∷_, _++_, map}
+use mathlib.Core.List.{List, [], _∷_}
 use Prim.Native.Nat.{ℕ, suc, _+_, _-_, _<_, _≤_}
 use lib.ListN.{length, getD, take, drop}
-use Rattle.meaning.specs.Basics.{choose, concat}
-use Rattle.meaning.specs.Image.{RuleNode, RuleEdge, RuleGraph, Rule, only, anyTag, ruleNode, ruleEdge, ruleGraph, types, test, rule, limits}
-use Rattle.meaning.specs.References.{operandNames, conditionOperands, conditionNodes, labels, lists, takesList, ruleHolds}
+use Rattle.meaning.specs.Basics.{choose}
+use Rattle.meaning.specs.Image.{RuleNode, RuleEdge, RuleGraph, Rule, only, anyTag, ruleNode, ruleEdge, types, test, rule, limits}
+use Rattle.meaning.specs.References.{labels, lists, takesList, ruleHolds}
 use Rattle.meaning.specs.Matching.{leftNode, leftEdge, leftNodes, leftEdges}
 use Rattle.meaning.specs.Assigned.{isVariable}
-use Rattle.meaning.specs.FirstMatch.{has, firstWith, highest, decidedAt}
-use Rattle.meaning.specs.Laws.Every.{Every}
-use Rattle.meaning.specs.declared.Operand.{Operand}
-use Rattle.meaning.specs.declared.Operand.the-variants.{Constant as constantOperand, Variable as variableOperand}
-use Rattle.meaning.specs.declared.Condition.{Condition}
+use Rattle.meaning.specs.FirstMatch.{has, firstWith, decidedAt}
 use Rattle.meaning.specs.declared.Condition.the-variants.{Edge}
 use Rattle.meaning.specs.declared.Test.{Test}
 use Rattle.meaning.specs.declared.Element.{Element}

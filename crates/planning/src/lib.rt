@@ -1,14 +1,14 @@
 // Making the plan of a rule, in an array that the caller lends.
 ghost use mathlib.Core.Path.{_≡_};
 ghost use mathlib.Core.Option.{some};
-ghost use mathlib.Core.List.{List, []};
+ghost use mathlib.Core.List.{List};
 ghost use Prim.Native.Nat.{_+_, _<_};
 ghost use lib.ListN.{length, getD};
-ghost use Rattle.meaning.specs.Image.{mostItems, Rule, RuleGraph, ruleGraph, element, label};
-ghost use Rattle.meaning.specs.References.{labels, takesList};
+ghost use Rattle.meaning.specs.Image.{Rule, RuleGraph, ruleGraph, element, label};
+ghost use Rattle.meaning.specs.References.{takesList};
 ghost use Rattle.meaning.specs.Assigned.{isVariable};
 ghost use Rattle.meaning.specs.declared.Element.{Element};
-ghost use Rattle.plan.specs.Plan.{planLength, firstAt, Placed, Items, Planned, IsLaid, HasItem, For, FirstAt, Labelled, IsRule, Part, edgesAt, nodesAt};
+ghost use Rattle.plan.specs.Plan.{planLength, Placed, Items, Planned, IsLaid, For, FirstAt, Labelled, IsRule, Part, edgesAt, nodesAt};
 ghost use Rattle.planning.specs.Planning.{Named, HasGraph, IsNamed, Valued, decidedBy, Decides, Plans, operandDecided, Occurring, Sorts, OnlyLabel, AllLabelled, IsLabelled};
 use fields::Found;
 use meaning::Condition;

@@ -4,7 +4,7 @@ use mathlib.Core.Option.{Option, some}
 use Prim.Native.Nat.{ℕ}
 use lib.ListN.{length}
 use lib.Dec.{eqb, leb}
-use Rattle.meaning.specs.Basics.{isEmpty, ensure}
+use Rattle.meaning.specs.Basics.{isEmpty, ensure, _>>_, _>>=_}
 use Rattle.meaning.specs.Numbers.{number}
 use Rattle.meaning.specs.Layout.{base}
 use Rattle.meaning.specs.Image.{expect}

@@ -8,8 +8,8 @@ use borrow.Author.Needs.{needs}
 use lib.ListN.{length}
 use Rattle.parts.proofs.Loops.{a-field, nearer, no-field, part-in}
 use Rattle.ends.specs.declared.Kind.the-variants.{RuleSet, Sequence, Guarded, Loop, Leaf}
-use Rattle.commands.proofs.Parts.{listed, row-of, guarded-of, loop-of, nth-known, nth-shorter}
-use Rattle.commands.proofs.Turns.{Going, Looping, is-kind, which-less, mark-below, fuel-less, out-of-fuel, begun-spent, paid-call, paid-row, paid-guarded, paid-loop, paid-leaf, row-start, row-over, row-cut, here-known, here-shorter, row-next, row-stop, guarded-stop, begun-settled, guarded-go, loop-start, loop-over, loop-next, loop-stop}
+use Rattle.commands.proofs.Parts.{row-of, guarded-of, loop-of, nth-known, nth-shorter}
+use Rattle.commands.proofs.Turns.{Going, Looping, is-kind, which-less, mark-below, fuel-less, out-of-fuel, begun-spent, paid-row, paid-guarded, paid-loop, paid-leaf, row-start, row-over, row-cut, here-known, here-shorter, row-next, row-stop, guarded-stop, begun-settled, guarded-go, loop-start, loop-over, loop-next, loop-stop}
 use borrow.Fn.Kinds.{In}
 use borrow.Fn.PlainCycle.{Measures, is, falls, and}
 use Rattle.commands.proofs.run_command.Reads as run-command

@@ -6,10 +6,9 @@ use mathlib.Core.List.{List, [], _∷_}
 use mathlib.Core.Bool.{Bool, true, false}
 use mathlib.Core.Option.{Option, some, none}
 use lib.ListN.{getD}
-use Rattle.meaning.specs.Basics.{choose, every}
+use Rattle.meaning.specs.Basics.{choose}
 use Rattle.meaning.specs.Layout.{Host}
-use Rattle.meaning.specs.Image.{Rule, isType, Command, ruleSet, sequence, guarded, loop, skip, fail, break, Commands, stop, then}
-use Rattle.meaning.specs.References.{ruleHolds}
+use Rattle.meaning.specs.Image.{Rule, Command, ruleSet, sequence, guarded, loop, skip, fail, break, Commands, stop, then}
 use Rattle.meaning.specs.Matching.{Match}
 use Rattle.meaning.specs.Applying.{Applied, applied, hindered, apply}
 use Rattle.meaning.specs.Commands.{State, Out, ends, back, enterAt, Chosen, ruleAt, firstRule, afterApplying, next, decide, again, rounds, call, work, works, exec, stateAt}

@@ -1,7 +1,6 @@
 -- What hinders an application, check by check: the order of document 01 is 6, 3, 4, 5. Rests on the meaning's Applying.
-use mathlib.Core.Path.{_≡_, refl}
-use mathlib.Core.Bool.{Bool, true, false}
-use mathlib.Core.Option.{Option, some, none}
+use mathlib.Core.Path.{_≡_}
+use mathlib.Core.Option.{some, none}
 use mathlib.Core.List.{List}
 use Prim.Native.Nat.{ℕ, _+_, _≤_, _<_}
 use lib.ListN.{length}
@@ -10,7 +9,6 @@ use Rattle.meaning.specs.Basics.{choose, isSome, firstFailing}
 use Rattle.meaning.specs.Image.{Rule}
 use Rattle.meaning.specs.Matching.{leftEdges}
 use Rattle.meaning.specs.Applying.{Ledger, Right, rightSide, hindrance, freeSlots, newNodes, goneNodes, recordsOf}
-use Rattle.meaning.specs.declared.Stop.{Stop}
 use Rattle.meaning.specs.declared.Stop.the-variants.{NoNodeRoom, NoEdgeRoom, NoRecordRoom, LabelTooLarge}
 
 module _ (most room : ℕ) (r : Rule) (p : List ℕ) (g : Ledger) where

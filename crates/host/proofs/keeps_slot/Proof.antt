@@ -1,5 +1,5 @@
 -- `keeps_slot` meets its contract, clause by clause and then table by table.
-use mathlib.Core.Path.{sym, _∙_}
+use mathlib.Core.Path.{_∙_}
 use native.Mathlib.Omega.{arith}
 use borrow.Author.Needs.{needs}
 use Rattle.host.proofs.Keeps.{head-fits, slot-free, slot-state, slot-size}

@@ -1,11 +1,11 @@
 -- The cycle of `item_ok` and `rows_ok` meets its contracts. The measure is the rank of the row: what is in an item is below its row.
 -- The outer loop's invariant: what is left is a row and the bytes that it begins; its measure is the row's rank. The inner loop's:
 -- n items of the row are read, and the definition goes on from the place; its measure is what is left of the bytes.
-use mathlib.Core.Path.{sym, _∙_}
+use mathlib.Core.Path.{_∙_}
 use native.Mathlib.Omega.{arith}
 use lib.ListN.{length}
 use Rattle.fields.proofs.Finding.{a-field, part-in, nearer, tail-part}
-use Rattle.image.specs.Form.{rank, fits}
+use Rattle.image.specs.Form.{rank}
 use Rattle.image.proofs.Walks.{Along, along-start, Onto, onto-start, onto-bad, onto-done, onto-less, onto-next, space, turn-cut, turn-bad, turn-next, too-few, enough}
 use borrow.Author.Needs.{needs}
 use Prim.Native.Nat.{ℕ, _+_, _-_, _*_, _<_}

@@ -3,7 +3,7 @@
 use Prim.Native.Nat.{ℕ, zero, suc, _+_, _-_, _<_, _≤_}
 use mathlib.Core.Path.{_≡_, refl, sym, _∙_, ap}
 use mathlib.Core.List.{List, [], _∷_, _++_, map}
-use mathlib.Core.Bool.{Bool, true, false, not}
+use mathlib.Core.Bool.{Bool, true, false}
 use mathlib.Core.Option.{Option, some, none}
 use mathlib.Core.Logic.{_⊎_, inl, inr}
 use native.Mathlib.Omega.{arith}
@@ -11,7 +11,7 @@ use native.Mathlib.Decide.{ℕ-discrete}
 use borrow.Author.Tests.{eq-eqb, ne-eqb, eqb-true, eqb-false, lt-ltb, le-ltb, not-true}
 use lib.Dec.{ltb, eqb}
 use lib.ListN.{length, getD, drop, replicate}
-use Rattle.meaning.specs.Basics.{choose, both, either, clauses, all, any, every, absent, same, zeros, isEmpty, isSome, ensure, each, _>>_, _>>=_}
+use Rattle.meaning.specs.Basics.{choose, both, either, all, any, every, absent, same, zeros, isEmpty, isSome, ensure, each, _>>_, _>>=_}
 
 pub not-so : (b : Bool) → (b ≡ true → ⊥) → b ≡ false
 not-so true f = absurd (f refl)

@@ -1,11 +1,8 @@
 -- `refusal::image_check` meets its contract: form, references and placement in their order.
-use mathlib.Core.Path.{_≡_, refl, sym, ap, _∙_}
-use native.Mathlib.Omega.{arith}
+use mathlib.Core.Path.{sym, _∙_}
 use borrow.Author.Needs.{needs}
-use borrow.Author.Tests.{le-leb, lt-leb}
 use Rattle.answers.specs.Answers.{refusalOf}
-use Rattle.meaning.specs.Calls.{runRefusal}
-use Rattle.meaning.specs.Laws.Checks.{first-no, first-yes, first-none, behind-fine, behind-refused}
+use Rattle.meaning.specs.Laws.Checks.{first-no, first-yes, first-none}
 use Rattle.refusal.proofs.Order.{references-of, placement-of}
 use Rattle.refusal.proofs.image_check.Statement.{statement}
 use Rattle.refusal.proofs.image_check.Tie as tie

@@ -1,12 +1,9 @@
 -- `refusal::run_check` meets its contract: lengths and fuel decide first, then what is behind them.
-use mathlib.Core.Path.{_≡_, refl, sym, ap, _∙_}
-use native.Mathlib.Omega.{arith}
+use mathlib.Core.Path.{sym, ap, _∙_}
 use borrow.Author.Needs.{needs}
-use borrow.Author.Tests.{le-leb, lt-leb}
-use lib.ListN.{length}
 use Rattle.answers.specs.Answers.{refusalOf}
 use Rattle.meaning.specs.Calls.{runRefusal}
-use Rattle.meaning.specs.Laws.Checks.{first-no, first-yes, first-none, behind-fine, behind-refused}
+use Rattle.meaning.specs.Laws.Checks.{behind-fine, behind-refused}
 use Rattle.refusal.proofs.run_check.Statement.{statement}
 use Rattle.refusal.proofs.run_check.Tie as tie
 

@@ -1,5 +1,4 @@
 -- `items::marked` meets its contract.
-use mathlib.Core.Path.{sym}
 use borrow.Author.Tests.{eq-eqb, ne-eqb}
 use Rattle.meaning.specs.Basics.{both}
 use Rattle.image.proofs.items.marked.Statement.{statement}

@@ -1,3 +1,4 @@
+-- `asking::condition_fits` meets its contract.
 use borrow.Author.Needs.{needs}
 use Rattle.references.proofs.Asks.{fits-lacks, fits-left, fits-right}
 use Rattle.references.proofs.asking.condition_fits.Statement.{statement}

@@ -1,3 +1,4 @@
+-- `asking::condition_holds` meets its contract.
 use borrow.Author.Needs.{needs}
 use Rattle.references.specs.Asked.{conditionAsked}
 use Rattle.references.proofs.Asks.{both-not, both-then}

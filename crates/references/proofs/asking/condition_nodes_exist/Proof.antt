@@ -1,3 +1,4 @@
+-- `asking::condition_nodes_exist` meets its contract.
 use borrow.Author.Needs.{needs}
 use Rattle.references.proofs.Asks.{nodes-edge, nodes-equal, nodes-in, nodes-less, nodes-out}
 use Rattle.references.proofs.asking.condition_nodes_exist.Statement.{statement}

@@ -1,3 +1,4 @@
+-- `asking::condition_operands_hold` meets its contract.
 use borrow.Author.Needs.{needs}
 use Rattle.references.proofs.Asks.{operands-edge, operands-equal, operands-in, operands-less, operands-out}
 use Rattle.references.proofs.asking.condition_operands_hold.Statement.{statement}

@@ -1,3 +1,4 @@
+-- `asking::constant_holds` meets its contract.
 use borrow.Author.Needs.{needs}
 use Rattle.references.proofs.Asks.{constant-lacks, constant-left, constant-right}
 use Rattle.references.proofs.asking.constant_holds.Statement.{statement}

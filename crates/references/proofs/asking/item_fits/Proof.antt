@@ -1,3 +1,4 @@
+-- `asking::item_fits` meets its contract.
 use borrow.Author.Needs.{needs}
 use Rattle.references.proofs.Asks.{both-not, both-then, few-lists, item-lacks, item-left, item-right, more-lists}
 use Rattle.references.proofs.asking.item_fits.Statement.{statement}

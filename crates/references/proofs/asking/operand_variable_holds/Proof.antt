@@ -1,3 +1,4 @@
+-- `asking::operand_variable_holds` meets its contract.
 use borrow.Author.Needs.{needs}
 use Rattle.references.proofs.Asks.{operand-lacks, operand-left, operand-right}
 use Rattle.references.proofs.asking.operand_variable_holds.Statement.{statement}

@@ -1,3 +1,4 @@
+-- `asking::variable_holds` meets its contract.
 use borrow.Author.Needs.{needs}
 use Rattle.references.proofs.Asks.{variable-lacks, variable-left, variable-right}
 use Rattle.references.proofs.asking.variable_holds.Statement.{statement}

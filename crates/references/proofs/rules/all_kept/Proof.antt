@@ -1,3 +1,4 @@
+-- `rules::all_kept` meets its contract. The loop's invariant: each right node passed is as asked. The measure is how many are left.
 use borrow.Author.Needs.{needs}
 use mathlib.Core.Bool.{true}
 use mathlib.Core.Path.{_∙_, _≡_, refl, sym}

@@ -1,3 +1,4 @@
+-- `rules::rule_holds` meets its contract.
 use borrow.Author.Needs.{needs}
 use mathlib.Core.Path.{sym, _∙_}
 use Rattle.references.proofs.Asks.{both-not, both-then}

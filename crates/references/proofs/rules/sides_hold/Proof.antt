@@ -1,3 +1,4 @@
+-- `rules::sides_hold` meets its contract.
 use borrow.Author.Needs.{needs}
 use Rattle.references.specs.declared.Ask.the-variants.{Left, Right}
 use Rattle.references.specs.Asked.{sidesAsked}

@@ -1,3 +1,4 @@
+-- `rules::variable_kept` meets its contract.
 use borrow.Author.Needs.{needs}
 use mathlib.Core.Path.{refl}
 use Rattle.references.specs.declared.Ask.the-variants.{Lacks}
