@@ -56,7 +56,7 @@ pub fn apply(
 /// The right side of a rule under the values of a match.
 struct Evaluation<'a> {
     rule: &'a Rule,
-    values: &'a Assignment,
+    values: &'a Assignment<'a>,
     layout: &'a Layout,
     observer: &'a mut dyn Observer,
 }
@@ -85,8 +85,7 @@ impl Evaluation<'_> {
             match element {
                 Element::Constant(value) => atoms.push(*value),
                 Element::Variable(number) => {
-                    let value = self.values[usize::from(*number)].as_ref()?;
-                    atoms.extend(value.atoms());
+                    atoms.extend(self.values[usize::from(*number)]?);
                 }
                 Element::Sum(a, b) => atoms.push(self.number(a).checked_add(self.number(b))?),
                 Element::Difference(a, b) => {

@@ -15,27 +15,27 @@ pub struct Placement {
     pub edges: Vec<usize>,
 }
 
-/// The value of each variable that occurs on the left; an int's has one atom.
-pub type Assignment = Vec<Option<Label>>;
+/// The value of each variable that occurs on the left, which is a part of a label of the host; an int's has one atom.
+pub type Assignment<'h> = Vec<Option<&'h [i32]>>;
 
 #[derive(Clone, Debug, PartialEq, Eq)]
-pub struct Match {
+pub struct Match<'h> {
     pub nodes: Vec<usize>,
     pub edges: Vec<usize>,
-    pub values: Assignment,
+    pub values: Assignment<'h>,
 }
 
 /// The first match in document 01's order.
-pub fn first_match(rule: &Rule, host: &Host) -> Option<Match> {
+pub fn first_match<'h>(rule: &Rule, host: &'h Host) -> Option<Match<'h>> {
     first_match_observed(rule, host, &mut Unobserved)
 }
 
 /// The same, observed.
-pub fn first_match_observed(
+pub fn first_match_observed<'h>(
     rule: &Rule,
-    host: &Host,
+    host: &'h Host,
     observer: &mut dyn Observer,
-) -> Option<Match> {
+) -> Option<Match<'h>> {
     let mut search = Search {
         rule,
         host,
@@ -49,9 +49,9 @@ pub fn first_match_observed(
     Some(found)
 }
 
-struct Search<'a> {
+struct Search<'a, 'h> {
     rule: &'a Rule,
-    host: &'a Host,
+    host: &'h Host,
     /// For each left node the slots that agree with it by themselves.
     node_candidates: Vec<Vec<usize>>,
     /// For each left edge and each node slot, the edges that leave it and agree by themselves.
@@ -60,8 +60,8 @@ struct Search<'a> {
     observer: &'a mut dyn Observer,
 }
 
-impl Search<'_> {
-    fn place_nodes(&mut self) -> Option<Match> {
+impl<'h> Search<'_, 'h> {
+    fn place_nodes(&mut self) -> Option<Match<'h>> {
         let next = self.placement.nodes.len();
         if next == self.rule.left.nodes.len() {
             return self.place_edges();
@@ -81,7 +81,7 @@ impl Search<'_> {
         None
     }
 
-    fn place_edges(&mut self) -> Option<Match> {
+    fn place_edges(&mut self) -> Option<Match<'h>> {
         let next = self.placement.edges.len();
         if next == self.rule.left.edges.len() {
             return self.test_full_placement();
@@ -105,7 +105,7 @@ impl Search<'_> {
         None
     }
 
-    fn test_full_placement(&mut self) -> Option<Match> {
+    fn test_full_placement(&mut self) -> Option<Match<'h>> {
         let (rule, host, placement) = (self.rule, self.host, &self.placement);
         let placed = slots_are_live(host, placement)
             && slots_are_different(placement)
@@ -134,11 +134,14 @@ impl Search<'_> {
 }
 
 fn node_candidates(rule: &Rule, host: &Host) -> Vec<Vec<usize>> {
+    // One for all slots, emptied for each: to allocate one for each takes long.
+    let mut values = no_values(rule);
     let candidates = |left: &RuleNode| {
         let agreeing = host.live_nodes().filter(|(_, node)| {
+            values.fill(None);
             mark_agrees(left.mark, node.mark)
                 && left.root == node.root
-                && label_agrees(rule, &left.label, &node.label, &mut no_values(rule))
+                && label_agrees(rule, &left.label, &node.label, &mut values)
         });
         agreeing.map(|(slot, _)| slot).collect()
     };
@@ -146,11 +149,13 @@ fn node_candidates(rule: &Rule, host: &Host) -> Vec<Vec<usize>> {
 }
 
 fn edge_candidates(rule: &Rule, host: &Host) -> Vec<Vec<Vec<usize>>> {
+    let mut values = no_values(rule);
     let candidates = |left: &RuleEdge| {
         let mut by_source = vec![Vec::new(); host.nodes.len()];
         for (slot, edge) in host.live_edges() {
+            values.fill(None);
             if mark_agrees(left.mark, edge.mark)
-                && label_agrees(rule, &left.label, &edge.label, &mut no_values(rule))
+                && label_agrees(rule, &left.label, &edge.label, &mut values)
             {
                 by_source[usize::from(edge.source)].push(slot);
             }
@@ -214,7 +219,11 @@ pub fn sources_and_targets_correspond(rule: &Rule, host: &Host, placement: &Plac
 }
 
 /// Rule 4: labels agree under one assignment, which is returned.
-pub fn labels_agree(rule: &Rule, host: &Host, placement: &Placement) -> Option<Assignment> {
+pub fn labels_agree<'h>(
+    rule: &Rule,
+    host: &'h Host,
+    placement: &Placement,
+) -> Option<Assignment<'h>> {
     let mut values = no_values(rule);
     for (left, slot) in rule.left.nodes.iter().zip(&placement.nodes) {
         let node = host.node(*slot)?;
@@ -231,13 +240,18 @@ pub fn labels_agree(rule: &Rule, host: &Host, placement: &Placement) -> Option<A
     Some(values)
 }
 
-fn no_values(rule: &Rule) -> Assignment {
+fn no_values<'h>(rule: &Rule) -> Assignment<'h> {
     vec![None; rule.variables.len()]
 }
 
 /// Whether the left label agrees with the host's under these values, to which it adds those of the
 /// variables that it meets first. Its one list variable takes what the other elements leave over.
-fn label_agrees(rule: &Rule, left: &[Element], host: &Label, values: &mut Assignment) -> bool {
+fn label_agrees<'h>(
+    rule: &Rule,
+    left: &[Element],
+    host: &'h Label,
+    values: &mut Assignment<'h>,
+) -> bool {
     let mut rest = host.atoms();
     for (place, element) in left.iter().enumerate() {
         let behind = left.len() - place - 1;
@@ -263,15 +277,15 @@ fn is_list(rule: &Rule, element: &Element) -> bool {
     }
 }
 
-fn element_agrees(element: &Element, atoms: &[i32], values: &mut Assignment) -> bool {
+fn element_agrees<'h>(element: &Element, atoms: &'h [i32], values: &mut Assignment<'h>) -> bool {
     match element {
         Element::Constant(value) => atoms == [*value],
         Element::Variable(number) => {
             let value = &mut values[usize::from(*number)];
             match value {
-                Some(earlier) => earlier.atoms() == atoms,
+                Some(earlier) => *earlier == atoms,
                 None => {
-                    *value = Some(Label::of(atoms));
+                    *value = Some(atoms);
                     true
                 }
             }
@@ -359,9 +373,8 @@ pub fn operand(operand: &Operand, values: &Assignment) -> i32 {
     match operand {
         Operand::Constant(value) => *value,
         Operand::Variable(number) => {
-            let value = &values[usize::from(*number)];
-            let value = value.as_ref().expect("a variable that occurs on the left");
-            value.atoms()[0]
+            let value = values[usize::from(*number)];
+            value.expect("a variable that occurs on the left")[0]
         }
     }
 }

@@ -195,7 +195,7 @@ fn a_result_keeps_the_layout_and_its_journal_ends_in_zeros() {
 }
 
 /// The first placement of all slots in order that keeps the six rules, without looking ahead.
-fn first_of_all_placements(rule: &Rule, host: &Host) -> Option<Match> {
+fn first_of_all_placements<'h>(rule: &Rule, host: &'h Host) -> Option<Match<'h>> {
     let (nodes, edges) = (rule.left.nodes.len(), rule.left.edges.len());
     let mut slots = vec![0; nodes + edges];
     let bound = |place: usize| match place < nodes {
@@ -221,7 +221,7 @@ fn first_of_all_placements(rule: &Rule, host: &Host) -> Option<Match> {
     }
 }
 
-fn full_match(rule: &Rule, host: &Host, placement: Placement) -> Option<Match> {
+fn full_match<'h>(rule: &Rule, host: &'h Host, placement: Placement) -> Option<Match<'h>> {
     let placed = matching::slots_are_live(host, &placement)
         && matching::slots_are_different(&placement)
         && matching::marks_agree(rule, host, &placement)

@@ -130,7 +130,7 @@ fn line(found: &Match) -> String {
     }
     for value in &found.values {
         text.push_str(" =");
-        for atom in value.iter().flat_map(|label| label.atoms()) {
+        for atom in value.iter().flat_map(|atoms| atoms.iter()) {
             write!(text, " {}", *atom as u32).expect("a string takes all");
         }
     }

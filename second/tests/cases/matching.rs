@@ -22,7 +22,7 @@ fn rules_that_hold(host: &Host) -> [bool; 6] {
         nodes: vec![0, 1],
         edges: vec![0],
     };
-    let values = vec![Some(Label::of(&[4]))];
+    let values = vec![Some(&[4][..])];
     [
         matching::marks_agree(&rule, host, &placement),
         matching::root_flags_are_equal(&rule, host, &placement),
