@@ -19,21 +19,12 @@ type Read<T> = Result<T, Damage>;
 /// The tree of an image: 0 to 32 rules, one command, nothing behind it.
 pub fn program(image: &[u8]) -> Read<Program> {
     let mut reader = Reader::whole(image);
-    let rules = rules(&mut reader)?;
+    let is_rule = |reader: &Reader| reader.tag() == Some(0x10);
+    let most = "at most 32 rules, then a command";
+    let rules = reader.items(is_rule, limit::RULES, most, rule)?;
     let main = command(&mut reader, 1)?;
     reader.ended("nothing behind the command")?;
     Ok(Program { rules, main })
-}
-
-fn rules(reader: &mut Reader) -> Read<Vec<Rule>> {
-    let mut rules = Vec::new();
-    while reader.tag() == Some(0x10) {
-        if rules.len() == limit::RULES {
-            return Err(reader.damage("at most 32 rules, then a command"));
-        }
-        rules.push(rule(reader)?);
-    }
-    Ok(rules)
 }
 
 fn rule(reader: &mut Reader) -> Read<Rule> {
@@ -55,14 +46,7 @@ fn rule(reader: &mut Reader) -> Read<Rule> {
 
 fn variables(reader: &mut Reader) -> Read<Vec<VariableType>> {
     let mut types = reader.field(0x11, "variable types")?;
-    let mut variables = Vec::new();
-    while !types.at_end() {
-        if variables.len() == limit::VARIABLES {
-            return Err(types.damage("at most 6 variable types"));
-        }
-        variables.push(variable_type(&mut types)?);
-    }
-    Ok(variables)
+    types.rest(limit::VARIABLES, "at most 6 variable types", variable_type)
 }
 
 fn variable_type(reader: &mut Reader) -> Read<VariableType> {
@@ -75,21 +59,12 @@ fn variable_type(reader: &mut Reader) -> Read<VariableType> {
 
 fn graph(reader: &mut Reader, tag: u8, words: &'static str) -> Read<RuleGraph> {
     let mut items = reader.field(tag, words)?;
-    let mut graph = RuleGraph::default();
-    while items.tag() == Some(0x20) {
-        if graph.nodes.len() == limit::NODES {
-            return Err(items.damage("at most 6 nodes, then edges"));
-        }
-        graph.nodes.push(node(&mut items)?);
-    }
-    while items.tag() == Some(0x21) {
-        if graph.edges.len() == limit::EDGES {
-            return Err(items.damage("at most 6 edges"));
-        }
-        graph.edges.push(edge(&mut items)?);
-    }
+    let is_node = |items: &Reader| items.tag() == Some(0x20);
+    let is_edge = |items: &Reader| items.tag() == Some(0x21);
+    let nodes = items.items(is_node, limit::NODES, "at most 6 nodes, then edges", node)?;
+    let edges = items.items(is_edge, limit::EDGES, "at most 6 edges", edge)?;
     items.ended("nodes (0x20), then edges (0x21), then the end of the graph")?;
-    Ok(graph)
+    Ok(RuleGraph { nodes, edges })
 }
 
 fn node(reader: &mut Reader) -> Read<RuleNode> {
@@ -116,14 +91,7 @@ fn edge(reader: &mut Reader) -> Read<RuleEdge> {
 
 /// The rest of a node or an edge: 0 to 4 elements.
 fn label(reader: &mut Reader) -> Read<Vec<Element>> {
-    let mut label = Vec::new();
-    while !reader.at_end() {
-        if label.len() == limit::ELEMENTS {
-            return Err(reader.damage("at most 4 label elements"));
-        }
-        label.push(element(reader)?);
-    }
-    Ok(label)
+    reader.rest(limit::ELEMENTS, "at most 4 label elements", element)
 }
 
 fn element(reader: &mut Reader) -> Read<Element> {
@@ -181,14 +149,7 @@ fn interface(reader: &mut Reader) -> Read<u8> {
 
 fn tests(reader: &mut Reader) -> Read<Vec<Test>> {
     let mut fields = reader.field(0x15, "tests")?;
-    let mut tests = Vec::new();
-    while !fields.at_end() {
-        if tests.len() == limit::TESTS {
-            return Err(fields.damage("at most 4 tests"));
-        }
-        tests.push(test(&mut fields)?);
-    }
-    Ok(tests)
+    fields.rest(limit::TESTS, "at most 4 tests", test)
 }
 
 fn test(reader: &mut Reader) -> Read<Test> {
@@ -270,24 +231,16 @@ fn command(reader: &mut Reader, depth: usize) -> Read<Command> {
 fn rule_set(reader: &mut Reader) -> Read<Command> {
     let mut numbers = reader.field(0x50, "rule set")?;
     let mut set = vec![numbers.byte("1 to 8 rule numbers")?];
-    while !numbers.at_end() {
-        if set.len() == limit::RULE_NUMBERS {
-            return Err(numbers.damage("at most 8 rule numbers"));
-        }
-        set.push(numbers.byte("a rule number")?);
-    }
+    let number = |numbers: &mut Reader| numbers.byte("a rule number");
+    set.extend(numbers.rest(limit::RULE_NUMBERS - 1, "at most 8 rule numbers", number)?);
     Ok(Command::RuleSet(set))
 }
 
 fn sequence(reader: &mut Reader, depth: usize) -> Read<Command> {
     let mut parts = reader.field(0x51, "sequence")?;
-    let mut commands = vec![command(&mut parts, depth + 1)?];
-    while !parts.at_end() {
-        if commands.len() == limit::COMMANDS {
-            return Err(parts.damage("at most 16 commands"));
-        }
-        commands.push(command(&mut parts, depth + 1)?);
-    }
+    let part = |parts: &mut Reader| command(parts, depth + 1);
+    let mut commands = vec![part(&mut parts)?];
+    commands.extend(parts.rest(limit::COMMANDS - 1, "at most 16 commands", part)?);
     Ok(Command::Sequence(commands))
 }
 
@@ -390,6 +343,34 @@ impl<'a> Reader<'a> {
             Some(byte) if legal.contains(&byte) => self.byte(expected),
             _ => Err(self.damage(expected)),
         }
+    }
+
+    /// Items up to the end, at most so many.
+    fn rest<T>(
+        &mut self,
+        most: usize,
+        expected: &str,
+        item: impl Fn(&mut Reader<'a>) -> Read<T>,
+    ) -> Read<Vec<T>> {
+        self.items(|reader| !reader.at_end(), most, expected, item)
+    }
+
+    /// Items while there are more, at most so many.
+    fn items<T>(
+        &mut self,
+        more: impl Fn(&Reader<'a>) -> bool,
+        most: usize,
+        expected: &str,
+        item: impl Fn(&mut Reader<'a>) -> Read<T>,
+    ) -> Read<Vec<T>> {
+        let mut items = Vec::new();
+        while more(self) {
+            if items.len() == most {
+                return Err(self.damage(expected));
+            }
+            items.push(item(self)?);
+        }
+        Ok(items)
     }
 
     /// A reader of the payload of the field with this tag, which must stand next and end inside this

@@ -144,12 +144,16 @@ pub struct RunnerInput {
 }
 
 pub fn runner_input(input: &RunnerInput) -> Vec<u8> {
-    [
+    runner_fields(input).concat()
+}
+
+/// The five fields of a runner input.
+pub fn runner_fields(input: &RunnerInput) -> Vec<Vec<u8>> {
+    vec![
         field(0x01, &input.nodes),
         field(0x02, &input.edges),
         field(0x03, &input.records.to_be_bytes()),
         field(0x04, &input.fuel.to_be_bytes()),
         field(0x05, &input.program),
     ]
-    .concat()
 }

@@ -8,6 +8,7 @@
 //! `journal`, `matching`, `applying`, `commands`, `calls`, `listing`. What runs exercise is counted from outside, by an
 //! `observer`.
 
+pub mod build;
 pub mod encode;
 pub mod tree;
 

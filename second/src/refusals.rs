@@ -82,26 +82,29 @@ pub fn runner_inputs() -> Vec<(String, RunnerInput, u32)> {
 pub fn run_refused_for(numbers: &[u32]) -> RunCall {
     let mut call = accepted_run();
     let given = |number: u32| numbers.contains(&number);
-    if given(9) {
-        call.report.pop();
-    }
     if given(15) {
         call.nodes[place::STATE] = 2;
     }
-    if given(10) {
-        call.nodes.push(0);
-    }
-    if given(11) {
-        call.edges.push(0);
-    }
-    if given(12) {
-        call.journal.push(0);
-    }
+    let tables = [&mut call.nodes, &mut call.edges, &mut call.journal];
+    break_lengths(numbers, &mut call.report, tables);
     if given(13) {
         call.fuel = calls::MOST_FUEL + 1;
     }
     call.program = program_refused_for(given(14), given(16), given(17), given(18));
     call
+}
+
+/// Makes those lengths wrong that are refused by one of these numbers: 9 the report's, 10 to 12 those of the node
+/// table, the edge table and the journal.
+fn break_lengths(numbers: &[u32], report: &mut Vec<u8>, tables: [&mut Vec<u8>; 3]) {
+    if numbers.contains(&9) {
+        report.pop();
+    }
+    for (number, table) in (10..).zip(tables) {
+        if numbers.contains(&number) {
+            table.push(0);
+        }
+    }
 }
 
 fn program_refused_for(length: bool, form: bool, references: bool, placement: bool) -> Vec<u8> {

@@ -40,7 +40,8 @@ pub struct Program {
     pub main: Command,
 }
 
-#[derive(Clone, Debug, PartialEq, Eq)]
+/// The default rule has nothing on either side.
+#[derive(Clone, Debug, PartialEq, Eq, Default)]
 pub struct Rule {
     pub variables: Vec<VariableType>,
     pub left: RuleGraph,

@@ -1,6 +1,10 @@
 //! The calls at another layout than the base one, in the same process: a smaller one, whose slots have 8, 10 and 12
 //! bytes. Bytes are written out by hand.
 
+#[path = "layouts/slots.rs"]
+mod slots;
+
+use second::build::{call, node, node_rule};
 use second::calls::{Outcome, RunCall, UndoCall};
 use second::corpus;
 use second::encode::{self, RunnerInput};
@@ -8,6 +12,7 @@ use second::host::{Edge, Host, Label, Node};
 use second::layout::Layout;
 use second::listing::{call_of, listing, listing_at, read_input};
 use second::observer::Unobserved;
+use second::stored;
 use second::tree::*;
 
 const SMALL: Layout = Layout {
@@ -78,45 +83,10 @@ fn a_label_longer_than_the_layouts_breaks_it() {
     assert_eq!(reason, "node 0: its label is longer than four atoms");
 }
 
-fn node(mark: u8, label: &[Element]) -> RuleNode {
-    RuleNode {
-        mark,
-        root: false,
-        label: label.to_vec(),
-    }
-}
-
-fn edge(source: u8, target: u8) -> RuleEdge {
-    RuleEdge {
-        mark: mark::NONE,
-        source,
-        target,
-        label: vec![],
-    }
-}
-
 /// Case P's program: as long as possible grey x to grey y becomes red x, blue x + y, with the edge turned round.
 fn case_p() -> Vec<u8> {
-    let (x, y) = (Element::Variable(0), Element::Variable(1));
-    let sum = Element::Sum(Operand::Variable(0), Operand::Variable(1));
-    let rule = Rule {
-        variables: vec![VariableType::Int; 2],
-        left: RuleGraph {
-            nodes: vec![node(mark::GREY, &[x]), node(mark::GREY, &[y])],
-            edges: vec![edge(0, 1)],
-        },
-        right: RuleGraph {
-            nodes: vec![node(mark::RED, &[x]), node(mark::BLUE, &[sum])],
-            edges: vec![edge(1, 0)],
-        },
-        interface: 2,
-        tests: vec![],
-    };
-    let main = Command::Loop(Box::new(Command::RuleSet(vec![0])));
-    encode::program(&Program {
-        rules: vec![rule],
-        main,
-    })
+    let input = read_input(&stored::case_p().stdin);
+    input.expect("a runner input").program
 }
 
 const FIVE: [u8; 8] = [1, 4, 0, 1, 0, 0, 0, 5];
@@ -185,27 +155,15 @@ fn the_runner_lists_case_p_at_the_small_layout() {
 
 /// A call on one unlabelled node, which a rule gives a label of so many atoms.
 fn labelling(layout: &Layout, atoms: usize) -> RunCall {
-    let rule = Rule {
-        variables: vec![],
-        left: RuleGraph {
-            nodes: vec![node(mark::NONE, &[])],
-            edges: vec![],
-        },
-        right: RuleGraph {
-            nodes: vec![node(mark::NONE, &vec![Element::Constant(9); atoms])],
-            edges: vec![],
-        },
-        interface: 1,
-        tests: vec![],
-    };
-    let main = Command::RuleSet(vec![0]);
+    let labelled = node(mark::NONE, &vec![Element::Constant(9); atoms]);
+    let rule = node_rule(&[node(mark::NONE, &[])], &[labelled], 1);
     RunCall {
         nodes: layout.node_slot(mark::NONE, false, &[]),
         edges: vec![],
         journal: vec![0; layout.record_length()],
         program: encode::program(&Program {
             rules: vec![rule],
-            main,
+            main: call(0),
         }),
         fuel: 1,
         report: vec![0; 8],

@@ -13,6 +13,7 @@ use second::listing::read_input;
 use second::matching::{self, first_match, Match, Placement};
 use second::random::Random;
 use second::tree::Rule;
+use std::ops::RangeInclusive;
 
 const DRAFTS: u64 = 10_000;
 const CORPUS_SEED: u64 = 20;
@@ -29,6 +30,15 @@ fn samples() -> impl Iterator<Item = Sample> {
     let inputs = inputs.filter(|input| input.fuel < 10_000);
     let drafts = drafts().map(|draft| draft.sample());
     drafts.chain(inputs.map(Sample::of_input))
+}
+
+/// The samples whose runs answer so, with what they leave.
+fn answered(answers: RangeInclusive<u32>) -> impl Iterator<Item = (Sample, Outcome)> {
+    let run = samples().map(|sample| {
+        let outcome = sample.outcome();
+        (sample, outcome)
+    });
+    run.filter(move |(_, outcome)| answers.contains(&outcome.answer))
 }
 
 #[test]
@@ -66,11 +76,7 @@ fn the_samples_exercise_what_they_should() {
 
 #[test]
 fn undoing_the_journal_of_a_result_restores_the_tables() {
-    for sample in samples() {
-        let after = sample.outcome();
-        if after.answer != 0 {
-            continue;
-        }
+    for (sample, after) in answered(0..=0) {
         let (_, records) = reported(&after);
         let undone = undo(
             &after.nodes,
@@ -162,11 +168,7 @@ fn less_fuel_than_the_steps_answers_2_and_enough_fuel_changes_nothing() {
 
 #[test]
 fn answers_1_to_7_give_back_the_graph_and_a_zero_journal() {
-    for sample in samples() {
-        let outcome = sample.outcome();
-        if !(1..=7).contains(&outcome.answer) {
-            continue;
-        }
+    for (sample, outcome) in answered(1..=7) {
         assert_eq!(outcome.nodes, sample.nodes);
         assert_eq!(outcome.edges, sample.edges);
         assert_eq!(outcome.journal, vec![0; sample.records * 28]);
@@ -176,11 +178,7 @@ fn answers_1_to_7_give_back_the_graph_and_a_zero_journal() {
 
 #[test]
 fn a_result_keeps_the_layout_and_its_journal_ends_in_zeros() {
-    for sample in samples() {
-        let outcome = sample.outcome();
-        if outcome.answer != 0 {
-            continue;
-        }
+    for (sample, outcome) in answered(0..=0) {
         let host = Host::read(&Layout::BASE, &outcome.nodes, &outcome.edges).expect("the layout");
         assert_eq!(host.node_table(&Layout::BASE), outcome.nodes);
         assert_eq!(host.edge_table(&Layout::BASE), outcome.edges);

@@ -15,31 +15,28 @@ use second::refusals::{
     of_run, of_runner, of_undo, run_refused_for, runner_inputs, undo_refused_for, RunCall, UndoCall,
 };
 
-/// The report is zeros, on 9 what it was.
-fn expected_report(answer: u32, given: &[u8]) -> Vec<u8> {
-    match answer {
-        9 => given.to_vec(),
-        _ => vec![0; 8],
-    }
-}
-
 fn refused_run(call: &RunCall, answer: u32) -> Outcome {
-    Outcome {
-        answer,
-        nodes: call.nodes.clone(),
-        edges: call.edges.clone(),
-        journal: call.journal.clone(),
-        report: expected_report(answer, &call.report),
-    }
+    let given = [&call.nodes, &call.edges, &call.journal, &call.report];
+    refused(given, answer)
 }
 
 fn refused_undo(call: &UndoCall, answer: u32) -> Outcome {
+    let given = [&call.nodes, &call.edges, &call.journal, &call.report];
+    refused(given, answer)
+}
+
+/// The buffers as they were, but for the report: it is zeros, on 9 what it was.
+fn refused(given: [&Vec<u8>; 4], answer: u32) -> Outcome {
+    let [nodes, edges, journal, report] = given.map(Vec::clone);
     Outcome {
         answer,
-        nodes: call.nodes.clone(),
-        edges: call.edges.clone(),
-        journal: call.journal.clone(),
-        report: expected_report(answer, &call.report),
+        nodes,
+        edges,
+        journal,
+        report: match answer {
+            9 => report,
+            _ => vec![0; 8],
+        },
     }
 }
 

@@ -3,15 +3,15 @@
 
 use super::hosts::Host;
 use super::LAYOUT;
-use crate::encode::{field, runner_input, RunnerInput};
+use crate::encode::{field, runner_fields, RunnerInput};
 use crate::layout::{place, ATOM_BYTES};
 use crate::random::Random;
 use std::ops::Range;
 
 /// An input that isn't five fields in order, or whose journal or fuel field isn't what it should be.
 pub fn refused(random: &mut Random, input: &RunnerInput) -> Vec<u8> {
-    let bytes = runner_input(input);
-    let mut parts = parts(input);
+    let mut parts = runner_fields(input);
+    let bytes = parts.concat();
     match random.below(13) {
         0 => return Vec::new(),
         1 => return bytes[..random.below(bytes.len())].to_vec(),
@@ -34,16 +34,6 @@ fn too_many_records(random: &mut Random) -> u16 {
     let least = LAYOUT.most_records as u16 + 1;
     let any = random.between(usize::from(least) + 1, 0xFFFE) as u16;
     random.pick(&[least, 0x0500, 0xFFFF, any])
-}
-
-fn parts(input: &RunnerInput) -> Vec<Vec<u8>> {
-    vec![
-        field(0x01, &input.nodes),
-        field(0x02, &input.edges),
-        field(0x03, &input.records.to_be_bytes()),
-        field(0x04, &input.fuel.to_be_bytes()),
-        field(0x05, &input.program),
-    ]
 }
 
 fn swap_neighbours(random: &mut Random, parts: &mut [Vec<u8>]) {

@@ -1,6 +1,7 @@
 //! Damage to programs: answers 16, 17 and 18, by changes to the tree and by changes to its bytes.
 
 use super::commands::deepened;
+use crate::build::*;
 use crate::encode;
 use crate::random::Random;
 use crate::tree::*;
@@ -37,31 +38,16 @@ pub fn bad_form(random: &mut Random, program: &mut Program) {
         return bad_command_form(random, &mut program.main);
     }
     if random.chance(4) {
-        let rule = empty_rule();
-        program.rules.resize(limit::RULES + 1, rule);
+        program.rules.resize(limit::RULES + 1, Rule::default());
         return;
     }
     let index = random.below(program.rules.len());
     bad_rule_form(random, &mut program.rules[index]);
 }
 
-fn empty_rule() -> Rule {
-    Rule {
-        variables: Vec::new(),
-        left: RuleGraph::default(),
-        right: RuleGraph::default(),
-        interface: 0,
-        tests: Vec::new(),
-    }
-}
-
 fn bad_rule_form(random: &mut Random, rule: &mut Rule) {
     let kind = random.below(7);
-    let graph = if random.chance(50) {
-        &mut rule.left
-    } else {
-        &mut rule.right
-    };
+    let graph = either_side(random, rule);
     match kind {
         0 => rule
             .variables
@@ -76,28 +62,26 @@ fn bad_rule_form(random: &mut Random, rule: &mut Rule) {
             .edges
             .push(plain_edge(random.pick(&[mark::GREY, 7, 0xFF]))),
         _ => {
-            let mut node = plain_node(mark::NONE);
-            node.label = vec![Element::Constant(1); limit::ELEMENTS + 1];
-            graph.nodes.insert(0, node);
+            let label = [Element::Constant(1); limit::ELEMENTS + 1];
+            graph.nodes.insert(0, node(mark::NONE, &label));
         }
     }
 }
 
-fn plain_node(mark: u8) -> RuleNode {
-    RuleNode {
-        mark,
-        root: false,
-        label: Vec::new(),
+fn either_side<'a>(random: &mut Random, rule: &'a mut Rule) -> &'a mut RuleGraph {
+    if random.chance(50) {
+        &mut rule.left
+    } else {
+        &mut rule.right
     }
 }
 
+fn plain_node(mark: u8) -> RuleNode {
+    node(mark, &[])
+}
+
 fn plain_edge(mark: u8) -> RuleEdge {
-    RuleEdge {
-        mark,
-        source: 0,
-        target: 0,
-        label: Vec::new(),
-    }
+    edge(mark, 0, 0, &[])
 }
 
 fn nodes_test() -> Test {
@@ -125,16 +109,12 @@ fn bad_command_form(random: &mut Random, main: &mut Command) {
 pub fn bad_reference(random: &mut Random, program: &mut Program) {
     let count = program.rules.len() as u8;
     if count == 0 || random.chance(15) {
-        let missing = Command::RuleSet(vec![random.pick(&[count, count + 1, 32, 0xFF])]);
+        let missing = call(random.pick(&[count, count + 1, 32, 0xFF]));
         let whole = program.main.clone();
         program.main = Command::Sequence(if random.chance(50) {
             vec![whole, missing]
         } else {
-            vec![Command::If(
-                Box::new(missing),
-                Box::new(whole),
-                Box::new(Command::Skip),
-            )]
+            vec![if_command(missing, whole, Command::Skip)]
         });
         return;
     }
@@ -223,15 +203,18 @@ fn list_operand(random: &mut Random, rule: &mut Rule) {
     match random.below(3) {
         0 => put_right(random, rule, vec![Element::Sum(operand, one)]),
         1 => put_right(random, rule, vec![Element::Difference(one, operand)]),
-        _ => {
-            rule.tests.truncate(limit::TESTS - 1);
-            let kind = TestKind::Relation(Relation::Equal, one, operand);
-            rule.tests.push(Test {
-                negated: false,
-                kind,
-            });
-        }
+        _ => add_test(
+            rule,
+            false,
+            TestKind::Relation(Relation::Equal, one, operand),
+        ),
     }
+}
+
+/// Adds a test behind those for which there is room beside it.
+fn add_test(rule: &mut Rule, negated: bool, kind: TestKind) {
+    rule.tests.truncate(limit::TESTS - 1);
+    rule.tests.push(Test { negated, kind });
 }
 
 fn variable_of_right_alone(random: &mut Random, rule: &mut Rule) {
@@ -242,12 +225,8 @@ fn variable_of_right_alone(random: &mut Random, rule: &mut Rule) {
 
 fn variable_of_test_alone(rule: &mut Rule) {
     let variable = Operand::Variable(new_variable(rule, VariableType::Int));
-    rule.tests.truncate(limit::TESTS - 1);
     let kind = TestKind::Relation(Relation::Less, variable, Operand::Constant(0));
-    rule.tests.push(Test {
-        negated: true,
-        kind,
-    });
+    add_test(rule, true, kind);
 }
 
 /// Mark any on a right node that is new, or that has a mark of its own on the left.
@@ -262,58 +241,38 @@ fn any_mark_on_right(rule: &mut Rule) {
 }
 
 fn bad_end(random: &mut Random, rule: &mut Rule) {
-    let graph = if random.chance(50) {
-        &mut rule.left
-    } else {
-        &mut rule.right
-    };
+    let graph = either_side(random, rule);
     let missing = random.pick(&[graph.nodes.len() as u8, 6, 0xFF]);
-    let edge = if random.chance(50) {
+    let (source, target) = if random.chance(50) {
         (0, missing)
     } else {
         (missing, 0)
     };
     graph.edges.truncate(limit::EDGES - 1);
-    graph.edges.push(RuleEdge {
-        source: edge.0,
-        target: edge.1,
-        ..plain_edge(mark::NONE)
-    });
+    graph.edges.push(edge(mark::NONE, source, target, &[]));
 }
 
 fn bad_tested_node(random: &mut Random, rule: &mut Rule) {
     let missing = random.pick(&[rule.left.nodes.len() as u8, 6, 0xFF]);
-    rule.tests.truncate(limit::TESTS - 1);
     let kind = match random.below(4) {
         0 => TestKind::Edge(missing, 0),
         1 => TestKind::Edge(0, missing),
         2 => TestKind::InDegree(missing, 0),
         _ => TestKind::OutDegree(missing, 0),
     };
-    rule.tests.push(Test {
-        negated: random.chance(50),
-        kind,
-    });
+    add_test(rule, random.chance(50), kind);
 }
 
 /// Answer 18: a break outside every loop, or in a guard inside a loop.
 pub fn misplaced_break(random: &mut Random, main: &mut Command) {
+    use Command::{Break, Sequence, Skip};
     let whole = main.clone();
-    let (skip, leave) = (|| Box::new(Command::Skip), || Box::new(Command::Break));
     *main = match random.below(6) {
-        0 => Command::Sequence(vec![whole, Command::Break]),
-        1 => Command::Sequence(vec![Command::If(skip(), leave(), skip()), whole]),
-        2 => Command::Loop(Box::new(Command::If(leave(), skip(), Box::new(whole)))),
-        3 => Command::Loop(Box::new(Command::Try(
-            Box::new(Command::Sequence(vec![whole, Command::Break])),
-            skip(),
-            skip(),
-        ))),
-        4 => Command::Loop(Box::new(Command::Try(
-            Box::new(Command::If(skip(), leave(), skip())),
-            Box::new(whole),
-            leave(),
-        ))),
-        _ => Command::Sequence(vec![Command::Loop(leave()), Command::Break, whole]),
+        0 => Sequence(vec![whole, Break]),
+        1 => Sequence(vec![if_command(Skip, Break, Skip), whole]),
+        2 => looped(if_command(Break, Skip, whole)),
+        3 => looped(try_command(Sequence(vec![whole, Break]), Skip, Skip)),
+        4 => looped(try_command(if_command(Skip, Break, Skip), whole, Break)),
+        _ => Sequence(vec![looped(Break), Break, whole]),
     };
 }

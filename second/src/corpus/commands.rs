@@ -2,6 +2,7 @@
 //! breaks stand only where they may.
 
 use super::rules::Drawn;
+use crate::build::*;
 use crate::random::Random;
 use crate::tree::*;
 
@@ -126,10 +127,9 @@ impl Writer<'_> {
             return self.rule_set();
         }
         if !self.ending.is_empty() && self.random.chance(45) {
-            return Command::Loop(Box::new(self.ending_set()));
+            return looped(self.ending_set());
         }
-        let skip = || Box::new(Command::Skip);
-        Command::Try(Box::new(self.rule_set()), skip(), skip())
+        try_command(self.rule_set(), Command::Skip, Command::Skip)
     }
 
     fn rule_set(&mut self) -> Command {
@@ -143,7 +143,7 @@ impl Writer<'_> {
         let count = match self.random.weighted(&[50, 22, 24, 4]) {
             0 => {
                 self.next += 1;
-                return Command::RuleSet(vec![((self.next - 1) % self.rules) as u8]);
+                return call(((self.next - 1) % self.rules) as u8);
             }
             1 => 1,
             2 => self.random.between(2, 4),
@@ -175,17 +175,17 @@ impl Writer<'_> {
     }
 
     fn branch(&mut self, place: Place) -> Command {
-        let guard = Box::new(self.guard(place.guard()));
-        let yes = Box::new(self.item(place.below()));
-        let no = Box::new(if self.random.chance(50) {
+        let guard = self.guard(place.guard());
+        let yes = self.item(place.below());
+        let no = if self.random.chance(50) {
             Command::Skip
         } else {
             self.item(place.below())
-        });
+        };
         if self.random.chance(50) {
-            Command::If(guard, yes, no)
+            if_command(guard, yes, no)
         } else {
-            Command::Try(guard, yes, no)
+            try_command(guard, yes, no)
         }
     }
 
@@ -206,9 +206,9 @@ impl Writer<'_> {
 
     fn repeat(&mut self, place: Place) -> Command {
         if place.levels < 6 {
-            return Command::Loop(Box::new(self.ending_set()));
+            return looped(self.ending_set());
         }
-        Command::Loop(Box::new(self.body(place.body())))
+        looped(self.body(place.body()))
     }
 
     /// The body of a loop.
@@ -238,12 +238,11 @@ impl Writer<'_> {
         match self.random.weighted(&[40, 20, 40]) {
             0 => self.rule_set(),
             1 => {
-                let skip = Box::new(Command::Skip);
-                let (guard, fail) = (Box::new(self.guard(place.guard())), Box::new(Command::Fail));
+                let guard = self.guard(place.guard());
                 if self.random.chance(50) {
-                    Command::If(guard, skip, fail)
+                    if_command(guard, Command::Skip, Command::Fail)
                 } else {
-                    Command::Try(guard, fail, skip)
+                    try_command(guard, Command::Fail, Command::Skip)
                 }
             }
             _ => self.item(place),
@@ -252,15 +251,14 @@ impl Writer<'_> {
 
     /// Goes on while a guard succeeds, or until it does, and breaks else.
     fn guarded_break(&mut self, place: Place) -> Command {
-        let leave = Box::new(Command::Break);
-        let guard = Box::new(match self.random.chance(75) {
+        let guard = match self.random.chance(75) {
             true => self.ending_set(),
             false => Command::Sequence(vec![self.ending_set(), self.rule_set()]),
-        });
+        };
         match self.random.below(4) {
-            0 => Command::If(guard.clone(), guard, leave),
-            1 => Command::Try(guard, leave, Box::new(self.ending_set())),
-            _ => Command::Try(guard, Box::new(self.small(place.below())), leave),
+            0 => if_command(guard.clone(), guard, Command::Break),
+            1 => try_command(guard, Command::Break, self.ending_set()),
+            _ => try_command(guard, self.small(place.below()), Command::Break),
         }
     }
 }
@@ -277,23 +275,17 @@ fn depth(command: &Command) -> usize {
 
 /// The command inside others that keep its effect mostly, so many levels in all.
 pub fn deepened(random: &mut Random, mut command: Command, levels: usize) -> Command {
+    use Command::{Break, Fail, Sequence, Skip};
     while depth(&command) < levels {
         let one_level = depth(&command) + 1 == levels;
-        let kind = random.below(if one_level { 5 } else { 7 });
-        let inner = Box::new(command);
-        let (skip, fail) = (|| Box::new(Command::Skip), || Box::new(Command::Fail));
-        command = match kind {
-            0 => Command::Sequence(vec![*inner]),
-            1 => Command::If(skip(), inner, fail()),
-            2 => Command::Try(fail(), fail(), inner),
-            3 => Command::Try(inner, skip(), skip()),
-            4 => Command::Sequence(vec![Command::Skip, *inner]),
-            5 => Command::Loop(Box::new(Command::Sequence(vec![*inner, Command::Break]))),
-            _ => Command::If(
-                Box::new(Command::Loop(Box::new(Command::Break))),
-                inner,
-                fail(),
-            ),
+        command = match random.below(if one_level { 5 } else { 7 }) {
+            0 => Sequence(vec![command]),
+            1 => if_command(Skip, command, Fail),
+            2 => try_command(Fail, Fail, command),
+            3 => try_command(command, Skip, Skip),
+            4 => Sequence(vec![Skip, command]),
+            5 => looped(Sequence(vec![command, Break])),
+            _ => if_command(looped(Break), command, Fail),
         };
     }
     command

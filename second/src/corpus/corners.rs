@@ -2,6 +2,7 @@
 //! length, and labels that differ in one atom.
 
 use super::LAYOUT;
+use crate::build::*;
 use crate::encode::{self, node_slot, RunnerInput};
 use crate::tree::*;
 
@@ -66,29 +67,17 @@ fn right_label(reason: Option<Label>) -> Vec<Element> {
 
 /// A rule that labels a node, makes a new one and an edge between them, inside a try.
 fn input_of(reasons: Reasons) -> RunnerInput {
-    let list = Element::Variable(0);
+    let left = (vec![node(mark::NONE, &[Element::Variable(0)])], vec![]);
     let label = right_label(reasons.label);
-    let edge = RuleEdge {
-        mark: mark::DASHED,
-        source: 1,
-        target: 0,
-        label: vec![],
-    };
+    let right = (
+        vec![node(mark::RED, &label), node(mark::BLUE, &[])],
+        vec![edge(mark::DASHED, 1, 0, &[])],
+    );
     let rule = Rule {
         variables: vec![VariableType::List],
-        left: RuleGraph {
-            nodes: vec![node(mark::NONE, vec![list])],
-            edges: vec![],
-        },
-        right: RuleGraph {
-            nodes: vec![node(mark::RED, label), node(mark::BLUE, vec![])],
-            edges: vec![edge],
-        },
-        interface: 1,
-        tests: vec![],
+        ..rule(left, right, 1)
     };
-    let skip = || Box::new(Command::Skip);
-    let main = Command::Try(Box::new(Command::RuleSet(vec![0])), skip(), skip());
+    let main = try_command(call(0), Command::Skip, Command::Skip);
     let mut nodes = node_slot(mark::NONE, false, &[1, 2, 3]).to_vec();
     let one_slot = |lacking: bool, length: usize| if lacking { 0 } else { length };
     nodes.extend(vec![0; one_slot(reasons.nodes, LAYOUT.node_length())]);
@@ -104,29 +93,9 @@ fn input_of(reasons: Reasons) -> RunnerInput {
     }
 }
 
-fn node(mark: u8, label: Vec<Element>) -> RuleNode {
-    RuleNode {
-        mark,
-        root: false,
-        label,
-    }
-}
-
 /// A rule that gives a node of this mark the mark grey.
 fn from_mark(mark: u8) -> Rule {
-    Rule {
-        variables: vec![],
-        left: RuleGraph {
-            nodes: vec![node(mark, vec![])],
-            edges: vec![],
-        },
-        right: RuleGraph {
-            nodes: vec![node(mark::GREY, vec![])],
-            edges: vec![],
-        },
-        interface: 1,
-        tests: vec![],
-    }
+    node_rule(&[node(mark, &[])], &[node(mark::GREY, &[])], 1)
 }
 
 fn over_red_node(rules: Vec<Rule>, numbers: Vec<u8>) -> RunnerInput {
@@ -167,19 +136,12 @@ const LISTS: [(&[i32], &[i32]); 6] = [
 
 /// Two nodes with these labels, and a rule for two nodes with the same list.
 fn one_list_twice(first: &[i32], second: &[i32]) -> RunnerInput {
-    let list = || vec![Element::Variable(0)];
+    let listed = |mark: u8| node(mark, &[Element::Variable(0)]);
+    let left = [listed(mark::NONE), listed(mark::NONE)];
+    let right = [listed(mark::RED), node(mark::BLUE, &[])];
     let rule = Rule {
         variables: vec![VariableType::List],
-        left: RuleGraph {
-            nodes: vec![node(mark::NONE, list()), node(mark::NONE, list())],
-            edges: vec![],
-        },
-        right: RuleGraph {
-            nodes: vec![node(mark::RED, list()), node(mark::BLUE, vec![])],
-            edges: vec![],
-        },
-        interface: 2,
-        tests: vec![],
+        ..node_rule(&left, &right, 2)
     };
     let labelled = |atoms: &[i32]| node_slot(mark::NONE, false, atoms);
     RunnerInput {
@@ -189,7 +151,7 @@ fn one_list_twice(first: &[i32], second: &[i32]) -> RunnerInput {
         fuel: 1,
         program: encode::program(&Program {
             rules: vec![rule],
-            main: Command::RuleSet(vec![0]),
+            main: call(0),
         }),
     }
 }

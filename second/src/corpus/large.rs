@@ -7,6 +7,7 @@ use super::hosts::{new_edge, Host, Size};
 use super::palette::Palette;
 use super::LAYOUT;
 use crate::answer;
+use crate::build::*;
 use crate::encode::{self, runner_input, RunnerInput};
 use crate::listing::run_input;
 use crate::random::Random;
@@ -139,13 +140,12 @@ fn over(random: &mut Random, palette: &Palette, host: Host) -> RunnerInput {
 fn program_of(random: &mut Random, bytes: usize) -> RunnerInput {
     loop {
         let mut draft = small_draft(random);
-        let skip = || Box::new(Command::Skip);
-        let main = Box::new(draft.program.main.clone());
-        draft.program.main = Command::If(skip(), main.clone(), skip());
+        let main = draft.program.main.clone();
+        draft.program.main = if_command(Command::Skip, main.clone(), Command::Skip);
         let length = encode::program(&draft.program).len();
         if length <= bytes {
-            let rest = Box::new(filler(3 + bytes - length));
-            draft.program.main = Command::If(skip(), main, rest);
+            let rest = filler(3 + bytes - length);
+            draft.program.main = if_command(Command::Skip, main, rest);
             return draft.input();
         }
     }
@@ -187,61 +187,32 @@ fn root_on_a_path() -> RunnerInput {
         fuel: 1000,
         program: encode::program(&Program {
             rules: vec![one_step()],
-            main: repeated(0),
+            main: looped(call(0)),
         }),
     }
 }
 
-fn repeated(rule: u8) -> Command {
-    Command::Loop(Box::new(Command::RuleSet(vec![rule])))
-}
-
 /// A root over an edge to a plain node: the root moves and the edge goes.
 fn one_step() -> Rule {
-    let node = |root, variable| RuleNode {
-        mark: mark::NONE,
-        root,
-        label: vec![Element::Variable(variable)],
-    };
-    let edge = RuleEdge {
-        mark: mark::DASHED,
-        source: 0,
-        target: 1,
-        label: vec![],
-    };
+    let [list, int] = [0, 1].map(|variable| [Element::Variable(variable)]);
+    let left = (
+        vec![root(mark::NONE, &list), node(mark::NONE, &int)],
+        vec![edge(mark::DASHED, 0, 1, &[])],
+    );
+    let right = (
+        vec![node(mark::NONE, &list), root(mark::NONE, &int)],
+        vec![],
+    );
     Rule {
         variables: vec![VariableType::List, VariableType::Int],
-        left: RuleGraph {
-            nodes: vec![node(true, 0), node(false, 1)],
-            edges: vec![edge],
-        },
-        right: RuleGraph {
-            nodes: vec![node(false, 0), node(true, 1)],
-            edges: vec![],
-        },
-        interface: 2,
-        tests: vec![],
+        ..rule(left, right, 2)
     }
 }
 
 /// The greatest node table, all free, which one rule fills until it is full or the journal is.
 fn filled_up(random: &mut Random) -> RunnerInput {
-    let new_nodes = random.between(1, 3);
-    let node = RuleNode {
-        mark: mark::GREY,
-        root: true,
-        label: vec![Element::Constant(-1)],
-    };
-    let rule = Rule {
-        variables: vec![],
-        left: RuleGraph::default(),
-        right: RuleGraph {
-            nodes: vec![node; new_nodes],
-            edges: vec![],
-        },
-        interface: 0,
-        tests: vec![],
-    };
+    let new_nodes = vec![root(mark::GREY, &[Element::Constant(-1)]); random.between(1, 3)];
+    let rule = node_rule(&[], &new_nodes, 0);
     RunnerInput {
         nodes: vec![0; NODE_SLOTS * LAYOUT.node_length()],
         edges: vec![],
@@ -249,7 +220,7 @@ fn filled_up(random: &mut Random) -> RunnerInput {
         fuel: 1000,
         program: encode::program(&Program {
             rules: vec![rule],
-            main: repeated(0),
+            main: looped(call(0)),
         }),
     }
 }

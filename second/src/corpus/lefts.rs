@@ -53,13 +53,8 @@ impl Left {
         for slot in left.nodes.clone() {
             let node = host.node(slot);
             let label = left.generalised(random, &node.label);
-            let mark = if random.chance(14) {
-                mark::ANY
-            } else {
-                node.mark
-            };
             left.graph.nodes.push(RuleNode {
-                mark,
+                mark: mark_or_any(random, node.mark),
                 root: node.root,
                 label,
             });
@@ -67,14 +62,9 @@ impl Left {
         for slot in left.edges.clone() {
             let edge = host.edge(slot);
             let label = left.generalised(random, &edge.label);
-            let mark = if random.chance(14) {
-                mark::ANY
-            } else {
-                edge.mark
-            };
             let (source, target) = (left.node_at(edge.source), left.node_at(edge.target));
             left.graph.edges.push(RuleEdge {
-                mark,
+                mark: mark_or_any(random, edge.mark),
                 source,
                 target,
                 label,
@@ -222,6 +212,15 @@ fn connected(random: &mut Random, host: &Host, count: usize) -> Vec<usize> {
 fn touches(host: &Host, edge: usize, nodes: &[usize]) -> bool {
     let edge = host.edge(edge);
     nodes.contains(&edge.source) || nodes.contains(&edge.target)
+}
+
+/// The mark of a left item that stands for one with this mark: any now and then.
+fn mark_or_any(random: &mut Random, mark: u8) -> u8 {
+    if random.chance(14) {
+        mark::ANY
+    } else {
+        mark
+    }
 }
 
 /// Moves a node from the kept to the deleted ones, if its neighbours and edges find room in the left side.

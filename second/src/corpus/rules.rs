@@ -196,15 +196,8 @@ fn raises_marks(rule: &Rule) -> bool {
     same_nodes && rising && pairs().any(|(l, r)| l.mark < r.mark)
 }
 
-/// The host after the rule is applied at the placement, if there is room for it and its labels can be held.
-fn applied(host: &Host, left: &Left, rule: &Rule) -> Option<Host> {
-    let mut after = host.clone();
-    for slot in &left.edges {
-        after.edges[*slot] = None;
-    }
-    for slot in &left.nodes[left.interface..] {
-        after.nodes[*slot] = None;
-    }
+/// Puts the right nodes where they stood or in free slots; the slot of each.
+fn put_nodes(after: &mut Host, host: &Host, left: &Left, rule: &Rule) -> Option<Vec<usize>> {
     let mut slots = Vec::new();
     for (index, node) in rule.right.nodes.iter().enumerate() {
         let label = atoms(&node.label, &left.values)?;
@@ -225,6 +218,19 @@ fn applied(host: &Host, left: &Left, rule: &Rule) -> Option<Host> {
         });
         slots.push(slot);
     }
+    Some(slots)
+}
+
+/// The host after the rule is applied at the placement, if there is room for it and its labels can be held.
+fn applied(host: &Host, left: &Left, rule: &Rule) -> Option<Host> {
+    let mut after = host.clone();
+    for slot in &left.edges {
+        after.edges[*slot] = None;
+    }
+    for slot in &left.nodes[left.interface..] {
+        after.nodes[*slot] = None;
+    }
+    let slots = put_nodes(&mut after, host, left, rule)?;
     for edge in &rule.right.edges {
         let label = atoms(&edge.label, &left.values)?;
         let slot = after.edges.iter().position(Option::is_none)?;

@@ -1,6 +1,6 @@
 //! The refusals 16 of an image and a rule as wholes, and the list of all of them.
 
-use super::programs::{empty_rule, images, rule, Images};
+use super::programs::{images, rule, Images};
 use super::{form_of_commands, form_of_graphs, form_of_tests};
 use crate::encode::{self, field};
 use crate::tree::{Command, Rule, VariableType};
@@ -21,7 +21,7 @@ pub(super) fn images_of_form() -> Vec<Images> {
 
 fn form_of_image() -> Vec<Images> {
     let skip = encode::command(&Command::Skip);
-    let rule = encode::rule(&empty_rule());
+    let rule = encode::rule(&Rule::default());
     let legal = [rule.clone(), skip.clone()].concat();
     let rules = |count: usize| [rule.repeat(count), skip.clone()].concat();
     let refused = |name: &str, bytes: &[u8]| images(name, &legal, bytes);

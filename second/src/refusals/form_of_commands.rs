@@ -1,8 +1,9 @@
 //! The refusals 16 of commands.
 
 use super::programs::{images, program, rule, Images};
+use crate::build::{call, if_command, looped, try_command};
 use crate::encode::{self, field};
-use crate::tree::Command;
+use crate::tree::Command::{self, Fail, Sequence, Skip};
 
 const SKIP: [u8; 3] = [0x55, 0, 0];
 const FAIL: [u8; 3] = [0x56, 0, 0];
@@ -91,35 +92,22 @@ fn form_of_empty_commands() -> Vec<Images> {
 
 /// A command of depth 17.
 pub(super) fn images_of_depth() -> Vec<Images> {
-    let skip = || Box::new(Command::Skip);
-    let wraps: [(&str, &dyn Fn(Command) -> Command); 8] = [
-        ("sequences", &|inner| Command::Sequence(vec![inner])),
-        ("loops", &|inner| Command::Loop(Box::new(inner))),
-        ("if guards", &|inner| {
-            Command::If(Box::new(inner), skip(), skip())
-        }),
-        ("if thens", &|inner| {
-            Command::If(skip(), Box::new(inner), skip())
-        }),
-        ("if elses", &|inner| {
-            Command::If(skip(), skip(), Box::new(inner))
-        }),
-        ("try guards", &|inner| {
-            Command::Try(Box::new(inner), skip(), skip())
-        }),
-        ("try thens", &|inner| {
-            Command::Try(skip(), Box::new(inner), skip())
-        }),
-        ("try elses", &|inner| {
-            Command::Try(skip(), skip(), Box::new(inner))
-        }),
+    let wraps: [(&str, fn(Command) -> Command); 8] = [
+        ("sequences", |inner| Sequence(vec![inner])),
+        ("loops", looped),
+        ("if guards", |inner| if_command(inner, Skip, Skip)),
+        ("if thens", |inner| if_command(Skip, inner, Skip)),
+        ("if elses", |inner| if_command(Skip, Skip, inner)),
+        ("try guards", |inner| try_command(inner, Skip, Skip)),
+        ("try thens", |inner| try_command(Skip, inner, Skip)),
+        ("try elses", |inner| try_command(Skip, Skip, inner)),
     ];
     let mut list = Vec::new();
     for (words, wrap) in wraps {
         let nested = |inner: &Command, wraps: usize| {
             program((0..wraps).fold(inner.clone(), |command, _| wrap(command)))
         };
-        for inner in [Command::Skip, Command::Fail, Command::RuleSet(vec![0])] {
+        for inner in [Skip, Fail, call(0)] {
             let name = format!("depth 17 by {words} around {inner:?}");
             list.push(images(name, &nested(&inner, 15), &nested(&inner, 16)));
         }

@@ -1,9 +1,10 @@
 //! The refusals 16 of graphs, nodes, edges and label elements.
 
 use super::form::Parts;
-use super::programs::{empty_rule, images, node, Images};
+use super::programs::{images, Images};
+use crate::build::node;
 use crate::encode::{self, field};
-use crate::tree::{mark, Element};
+use crate::tree::{mark, Element, Rule};
 
 /// The image of one side's graph.
 type Side = fn(&[u8]) -> Vec<u8>;
@@ -12,7 +13,7 @@ const SIDES: [(&str, Side); 2] = [("left", left), ("right", right)];
 
 /// An image whose one rule has this left graph, an empty right one, three int variables and no tests.
 fn left(graph: &[u8]) -> Vec<u8> {
-    let mut parts = Parts::of(&empty_rule());
+    let mut parts = Parts::of(&Rule::default());
     parts.types = vec![1, 1, 1];
     parts.left = graph.to_vec();
     parts.image()
@@ -20,10 +21,10 @@ fn left(graph: &[u8]) -> Vec<u8> {
 
 /// The same on the right side, with all three variables on the left.
 fn right(graph: &[u8]) -> Vec<u8> {
-    let variables = (0..3).map(Element::Variable).collect();
-    let mut parts = Parts::of(&empty_rule());
+    let variables = [0, 1, 2].map(Element::Variable);
+    let mut parts = Parts::of(&Rule::default());
     parts.types = vec![1, 1, 1];
-    parts.left = encode::node(&node(mark::NONE, variables));
+    parts.left = encode::node(&node(mark::NONE, &variables));
     parts.right = graph.to_vec();
     parts.image()
 }

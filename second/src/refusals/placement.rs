@@ -1,7 +1,8 @@
 //! The refusals 18.
 
 use super::programs::{images, program, Images};
-use crate::tree::Command::{self, Break, Fail, If, Loop, Sequence, Skip, Try};
+use crate::build::{if_command, looped, try_command};
+use crate::tree::Command::{self, Break, Fail, Sequence, Skip};
 
 /// The number 18.
 pub(super) fn images_of_placement() -> Vec<Images> {
@@ -14,27 +15,15 @@ fn refused(name: &str, accepted: Command, refused: Command) -> Images {
     images(name, &program(accepted), &program(refused))
 }
 
-fn skip() -> Box<Command> {
-    Box::new(Skip)
-}
-
-fn breaks() -> Box<Command> {
-    Box::new(Break)
-}
-
-fn looped(body: Command) -> Command {
-    Loop(Box::new(body))
-}
-
 /// Each of these commands is legal as a loop's body.
 fn breaks_outside_a_body() -> Vec<Images> {
     let alone = [
         ("break alone", Break),
         ("break in a sequence", Sequence(vec![Skip, Break])),
-        ("break in an if then", If(skip(), breaks(), skip())),
-        ("break in an if else", If(skip(), skip(), breaks())),
-        ("break in a try then", Try(skip(), breaks(), skip())),
-        ("break in a try else", Try(skip(), skip(), breaks())),
+        ("break in an if then", if_command(Skip, Break, Skip)),
+        ("break in an if else", if_command(Skip, Skip, Break)),
+        ("break in a try then", try_command(Skip, Break, Skip)),
+        ("break in a try else", try_command(Skip, Skip, Break)),
         ("break behind a loop", Sequence(vec![looped(Break), Break])),
     ];
     let commands = alone.into_iter();
@@ -54,13 +43,13 @@ fn breaks_in_a_guard() -> Vec<Images> {
         ),
         (
             "break in the then of an if in a guard",
-            If(skip(), skip(), skip()),
-            If(skip(), breaks(), skip()),
+            if_command(Skip, Skip, Skip),
+            if_command(Skip, Break, Skip),
         ),
         (
             "break in the else of a try in a guard",
-            Try(skip(), skip(), skip()),
-            Try(skip(), skip(), breaks()),
+            try_command(Skip, Skip, Skip),
+            try_command(Skip, Skip, Break),
         ),
         (
             "break in a guard behind its loop",
@@ -70,8 +59,8 @@ fn breaks_in_a_guard() -> Vec<Images> {
     ];
     let mut list = Vec::new();
     for (name, accepted, broken) in guards {
-        for (words, kind) in [("if", If as Three), ("try", Try)] {
-            let body = |guard: &Command| looped(kind(Box::new(guard.clone()), breaks(), breaks()));
+        for (words, kind) in [("if", if_command as Three), ("try", try_command)] {
+            let body = |guard: &Command| looped(kind(guard.clone(), Break, Break));
             list.push(refused(
                 &format!("{words}: {name}"),
                 body(&accepted),
@@ -82,4 +71,4 @@ fn breaks_in_a_guard() -> Vec<Images> {
     list
 }
 
-type Three = fn(Box<Command>, Box<Command>, Box<Command>) -> Command;
+type Three = fn(Command, Command, Command) -> Command;

@@ -1,10 +1,10 @@
 //! What the refusals 14 to 18 share: a legal rule, and images made from it. With the refusal 14.
 
 use super::{refusal, run_with, Refusal, RunCall};
+use crate::build::{self, edge, node};
 use crate::encode;
 use crate::tree::{
-    mark, Command, Element, Operand, Program, Relation, Rule, RuleEdge, RuleGraph, RuleNode, Test,
-    TestKind, VariableType,
+    mark, Command, Element, Operand, Program, Relation, Rule, Test, TestKind, VariableType,
 };
 
 /// A clause with an accepted and a refused image.
@@ -66,21 +66,21 @@ pub(super) fn program(main: Command) -> Vec<u8> {
 pub(super) fn rule() -> Rule {
     let x = Element::Variable(0);
     let list = Element::Variable(1);
+    let sum = Element::Sum(Operand::Variable(0), one());
+    let left = (
+        vec![node(mark::ANY, &[x]), node(mark::NONE, &[list])],
+        vec![edge(mark::ANY, 0, 1, &[x])],
+    );
+    let right = (
+        vec![
+            node(mark::ANY, &[x]),
+            node(mark::RED, &[list]),
+            node(mark::GREY, &[sum]),
+        ],
+        vec![edge(mark::DASHED, 1, 2, &[x])],
+    );
     Rule {
         variables: vec![VariableType::Int, VariableType::List, VariableType::Int],
-        left: RuleGraph {
-            nodes: vec![node(mark::ANY, vec![x]), node(mark::NONE, vec![list])],
-            edges: vec![edge(mark::ANY, 0, 1, vec![x])],
-        },
-        right: RuleGraph {
-            nodes: vec![
-                node(mark::ANY, vec![x]),
-                node(mark::RED, vec![list]),
-                node(mark::GREY, vec![Element::Sum(Operand::Variable(0), one())]),
-            ],
-            edges: vec![edge(mark::DASHED, 1, 2, vec![x])],
-        },
-        interface: 2,
         tests: vec![
             test(TestKind::Edge(0, 1)),
             test(TestKind::InDegree(0, 0)),
@@ -91,33 +91,7 @@ pub(super) fn rule() -> Rule {
                 Operand::Variable(0),
             )),
         ],
-    }
-}
-
-pub(super) fn empty_rule() -> Rule {
-    Rule {
-        variables: vec![],
-        left: RuleGraph::default(),
-        right: RuleGraph::default(),
-        interface: 0,
-        tests: vec![],
-    }
-}
-
-pub(super) fn node(mark: u8, label: Vec<Element>) -> RuleNode {
-    RuleNode {
-        mark,
-        root: false,
-        label,
-    }
-}
-
-pub(super) fn edge(mark: u8, source: u8, target: u8, label: Vec<Element>) -> RuleEdge {
-    RuleEdge {
-        mark,
-        source,
-        target,
-        label,
+        ..build::rule(left, right, 2)
     }
 }
 

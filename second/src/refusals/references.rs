@@ -1,10 +1,10 @@
 //! The refusals 17.
 
 use super::programs::{images, one, program, rule, Images};
+use crate::build::{call, if_command, looped, try_command};
 use crate::encode;
-use crate::tree::{
-    mark, Command, Element, Operand, Program, Relation, Rule, TestKind, VariableType,
-};
+use crate::tree::Command::{self, RuleSet, Sequence, Skip};
+use crate::tree::{mark, Element, Operand, Program, Relation, Rule, TestKind, VariableType};
 
 /// The number 17.
 pub(super) fn images_of_references() -> Vec<Images> {
@@ -18,22 +18,16 @@ pub(super) fn images_of_references() -> Vec<Images> {
 }
 
 fn references_of_commands() -> Vec<Images> {
-    let set = |number: u8| Box::new(Command::RuleSet(vec![number]));
-    let skip = || Box::new(Command::Skip);
-    let places: [(&str, &dyn Fn(u8) -> Command); 9] = [
-        ("alone", &|n| Command::RuleSet(vec![n])),
-        ("last of eight", &|n| {
-            Command::RuleSet(vec![0, 0, 0, 0, 0, 0, 0, n])
-        }),
-        ("in a sequence", &|n| {
-            Command::Sequence(vec![Command::Skip, *set(n)])
-        }),
-        ("in an if guard", &|n| Command::If(set(n), skip(), skip())),
-        ("in an if then", &|n| Command::If(skip(), set(n), skip())),
-        ("in an if else", &|n| Command::If(skip(), skip(), set(n))),
-        ("in a try guard", &|n| Command::Try(set(n), skip(), skip())),
-        ("in a try else", &|n| Command::Try(skip(), skip(), set(n))),
-        ("in a loop", &|n| Command::Loop(set(n))),
+    let places: [(&str, fn(u8) -> Command); 9] = [
+        ("alone", call),
+        ("last of eight", |n| RuleSet(vec![0, 0, 0, 0, 0, 0, 0, n])),
+        ("in a sequence", |n| Sequence(vec![Skip, call(n)])),
+        ("in an if guard", |n| if_command(call(n), Skip, Skip)),
+        ("in an if then", |n| if_command(Skip, call(n), Skip)),
+        ("in an if else", |n| if_command(Skip, Skip, call(n))),
+        ("in a try guard", |n| try_command(call(n), Skip, Skip)),
+        ("in a try else", |n| try_command(Skip, Skip, call(n))),
+        ("in a loop", |n| looped(call(n))),
     ];
     let mut list = Vec::new();
     for (words, command) in places {
@@ -46,12 +40,8 @@ fn references_of_commands() -> Vec<Images> {
             ));
         }
     }
-    let without_rules = encode::command(&Command::RuleSet(vec![0]));
-    list.push(images(
-        "rule 0 of none",
-        &program(Command::RuleSet(vec![0])),
-        &without_rules,
-    ));
+    let without_rules = encode::command(&call(0));
+    list.push(images("rule 0 of none", &program(call(0)), &without_rules));
     list
 }
 
@@ -74,12 +64,17 @@ fn image_with(edit: impl Fn(&mut Rule)) -> Vec<u8> {
     edit(&mut rule);
     encode::program(&Program {
         rules: vec![rule],
-        main: Command::Skip,
+        main: Skip,
     })
 }
 
 /// Puts the variable of a number somewhere in a rule.
 type Put = fn(&mut Rule, u8);
+
+/// A variable that may stand there, and one that may not.
+fn put_instead(name: String, put: Put, accepted: u8, refused: u8) -> Images {
+    neighbours(name, |rule| put(rule, accepted), |rule| put(rule, refused))
+}
 
 /// A place for an element on the right side, or for the first or second operand of a sum, a difference or
 /// a relation test.
@@ -128,26 +123,14 @@ fn references_to_variables() -> Vec<Images> {
     for number in [3, 255] {
         for (place, put) in [("node", on_node), ("edge", on_edge)] {
             let name = format!("variable {number} of three on a left {place}");
-            list.push(neighbours(
-                name,
-                |rule| put(rule, 2),
-                |rule| put(rule, number),
-            ));
+            list.push(put_instead(name, put, 2, number));
         }
     }
     for (place, put) in places_of_right_side_and_tests() {
         let undeclared = format!("variable 3 of three {place}");
-        list.push(neighbours(
-            undeclared,
-            |rule| put(rule, 0),
-            |rule| put(rule, 3),
-        ));
+        list.push(put_instead(undeclared, put, 0, 3));
         let not_on_the_left = format!("variable that is not on the left {place}");
-        list.push(neighbours(
-            not_on_the_left,
-            |rule| put(rule, 0),
-            |rule| put(rule, 2),
-        ));
+        list.push(put_instead(not_on_the_left, put, 0, 2));
     }
     list
 }
@@ -228,11 +211,7 @@ fn references_of_left_lists() -> Vec<Images> {
     for (place, put) in [("node", on_node), ("edge", on_edge)] {
         for (words, number) in [("one list variable twice", 1), ("two list variables", 2)] {
             let name = format!("{words} on a left {place}");
-            list.push(neighbours(
-                name,
-                |rule| put(rule, 0),
-                |rule| put(rule, number),
-            ));
+            list.push(put_instead(name, put, 0, number));
         }
     }
     list
@@ -243,10 +222,7 @@ fn references_of_operands() -> Vec<Images> {
     let operands =
         places.filter(|(place, _)| place.starts_with("first") || place.starts_with("second"));
     operands
-        .map(|(place, put)| {
-            let name = format!("list variable {place}");
-            neighbours(name, |rule| put(rule, 0), |rule| put(rule, 1))
-        })
+        .map(|(place, put)| put_instead(format!("list variable {place}"), put, 0, 1))
         .collect()
 }
 

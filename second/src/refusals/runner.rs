@@ -1,7 +1,7 @@
 //! Inputs that the runner refuses.
 
 use super::{accepted_run, Refusal, LAYOUT};
-use crate::encode::{self, field};
+use crate::encode::{self, field, RunnerInput};
 use crate::listing::INPUT_BYTES;
 use crate::tree::Command;
 
@@ -33,14 +33,12 @@ fn with(edit: impl Fn(&mut Vec<Vec<u8>>)) -> Vec<u8> {
 }
 
 fn runner_fields() -> Vec<Vec<u8>> {
-    let call = accepted_run();
-    vec![
-        field(0x01, &call.nodes),
-        field(0x02, &call.edges),
-        field(0x03, &MOST_RECORDS.to_be_bytes()),
-        field(0x04, &call.fuel.to_be_bytes()),
-        field(0x05, &encode::command(&Command::Skip)),
-    ]
+    let input = accepted_run().runner_input();
+    encode::runner_fields(&RunnerInput {
+        records: MOST_RECORDS,
+        program: encode::command(&Command::Skip),
+        ..input.expect("a runner input leads to an accepted run")
+    })
 }
 
 fn wrong_fields() -> Vec<Refusal<Vec<u8>>> {

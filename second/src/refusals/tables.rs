@@ -114,13 +114,33 @@ fn edge_byte(name: &str, at: usize, byte: u8) -> Refusal<RunCall> {
     broken(name, |call| call.edges[at] = byte)
 }
 
+/// Each byte that must be zero in slot 1, which is free, and in the label of slot 0, which is empty. The slots have
+/// this length, and their atoms start at this place.
+fn zeros(
+    item: &str,
+    changed: fn(&str, usize, u8) -> Refusal<RunCall>,
+    length: usize,
+    atoms: usize,
+) -> Vec<Refusal<RunCall>> {
+    let of_free = |at: usize| {
+        let name = format!("free {item} slot with byte {at} not zero");
+        changed(&name, length + at, 1)
+    };
+    let of_empty = |at: usize| {
+        let name = format!("empty {item} label with byte {at} not zero");
+        changed(&name, at, 1)
+    };
+    let of_labels = (atoms..length).map(of_empty);
+    (1..length).map(of_free).chain(of_labels).collect()
+}
+
 /// The least length that no label has.
 const TOO_LONG: u8 = LAYOUT.atoms as u8 + 1;
 
-/// Slot 0 has an empty label, slot 1 is free, slot 2 has a label of two atoms.
+/// Slot 2 has a label of two atoms.
 fn layout_of_nodes() -> Vec<Refusal<RunCall>> {
     let length = LAYOUT.node_length();
-    let (free, labelled) = (length, 2 * length);
+    let labelled = 2 * length;
     let third_atom = labelled + LAYOUT.node_atoms() + 2 * ATOM_BYTES;
     let mut refusals = vec![
         node_byte("node state 2", place::STATE, 2),
@@ -144,21 +164,14 @@ fn layout_of_nodes() -> Vec<Refusal<RunCall>> {
             1,
         ),
     ];
-    for at in 1..length {
-        let name = format!("free node slot with byte {at} not zero");
-        refusals.push(node_byte(&name, free + at, 1));
-    }
-    for at in LAYOUT.node_atoms()..length {
-        let name = format!("empty node label with byte {at} not zero");
-        refusals.push(node_byte(&name, at, 1));
-    }
+    refusals.extend(zeros("node", node_byte, length, LAYOUT.node_atoms()));
     refusals
 }
 
-/// Slot 0 has an empty label, slot 1 is free, slot 2 has a label of three atoms.
+/// Slot 2 has a label of three atoms.
 fn layout_of_edges() -> Vec<Refusal<RunCall>> {
     let length = LAYOUT.edge_length();
-    let (free, labelled) = (length, 2 * length);
+    let labelled = 2 * length;
     let fourth_atom = labelled + LAYOUT.edge_atoms() + 3 * ATOM_BYTES;
     let mut refusals = vec![
         edge_byte("edge state 2", place::STATE, 2),
@@ -181,14 +194,7 @@ fn layout_of_edges() -> Vec<Refusal<RunCall>> {
             2,
         ),
     ];
-    for at in 1..length {
-        let name = format!("free edge slot with byte {at} not zero");
-        refusals.push(edge_byte(&name, free + at, 1));
-    }
-    for at in LAYOUT.edge_atoms()..length {
-        let name = format!("empty edge label with byte {at} not zero");
-        refusals.push(edge_byte(&name, at, 1));
-    }
+    refusals.extend(zeros("edge", edge_byte, length, LAYOUT.edge_atoms()));
     refusals
 }
 

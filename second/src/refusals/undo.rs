@@ -1,28 +1,17 @@
 //! The refusals of the call undo.
 
-use super::{accepted_run, refusal, Refusal, UndoCall, LAYOUT, UNTOUCHED};
+use super::{accepted_run, break_lengths, refusal, Refusal, UndoCall, LAYOUT, UNTOUCHED};
 use crate::journal::kind;
 use crate::layout::place;
 
 /// A call of undo that is refused for each of the numbers 9 to 12 and 20 given, and for no other.
 pub fn undo_refused_for(numbers: &[u32]) -> UndoCall {
     let mut call = accepted_undo();
-    let given = |number: u32| numbers.contains(&number);
-    if given(20) {
+    if numbers.contains(&20) {
         call.journal[place::KIND] = 3;
     }
-    if given(9) {
-        call.report.pop();
-    }
-    if given(10) {
-        call.nodes.push(0);
-    }
-    if given(11) {
-        call.edges.push(0);
-    }
-    if given(12) {
-        call.journal.push(0);
-    }
+    let tables = [&mut call.nodes, &mut call.edges, &mut call.journal];
+    break_lengths(numbers, &mut call.report, tables);
     call
 }
 

@@ -200,13 +200,7 @@ fn full_host(random: &mut Random, gaps: bool) -> Host {
 /// A rule whose left side is a part of the host, mostly; now and then an item is changed so that it fits elsewhere or nowhere.
 fn rule_of(random: &mut Random, host: &Host) -> Rule {
     let slots = walk(random, host);
-    let mut rule = Rule {
-        variables: Vec::new(),
-        left: RuleGraph::default(),
-        right: RuleGraph::default(),
-        interface: 0,
-        tests: Vec::new(),
-    };
+    let mut rule = Rule::default();
     for slot in &slots {
         let node = host.node(*slot).expect("a walk goes over live nodes");
         let mark = if random.chance(15) { mark::ANY } else { node.mark };

@@ -62,8 +62,12 @@ pub fn rules(text: &RuleText) -> Result<Vec<Rule>, Problem> {
     let mut variables = Variables::of_rule(text)?;
     let left_order = NodeOrder::new(&text.left, &text.interface);
     let right_order = NodeOrder::new(&text.right, &text.interface);
-    let left = left_graph(&text.left, &left_order, &mut variables)?;
-    let right = right_graph(text, &right_order, &variables)?;
+    let left = graph(&text.left, "left", &left_order, |label| {
+        variables.left_label(label)
+    })?;
+    let right = graph(&text.right, "right", &right_order, |label| {
+        variables.right_label(label)
+    })?;
     check_any_on_right(text)?;
     let tests = match &text.condition {
         Some(condition) => tests(condition, &left_order, &variables)?,
@@ -129,62 +133,31 @@ fn check_interface(text: &RuleText) -> Result<(), Problem> {
     check_distinct(text.interface.iter(), "interface node")
 }
 
-fn left_graph(
+/// The graph of a side, whose labels come to these elements.
+fn graph(
     graph: &GraphText,
+    side: &str,
     order: &NodeOrder,
-    variables: &mut Variables,
+    mut elements: impl FnMut(&LabelText) -> Result<Vec<Element>, Problem>,
 ) -> Result<RuleGraph, Problem> {
     let mut lowered = RuleGraph::default();
     for node in order.arrange(graph) {
-        let label = variables.left_label(&node.label)?;
         lowered.nodes.push(RuleNode {
             mark: node.label.mark,
             root: node.root,
-            label,
+            label: elements(&node.label)?,
         });
     }
     for edge in &graph.edges {
-        let label = variables.left_label(&edge.label)?;
-        lowered.edges.push(lower_edge(edge, label, order, "left")?);
-    }
-    Ok(lowered)
-}
-
-fn right_graph(
-    text: &RuleText,
-    order: &NodeOrder,
-    variables: &Variables,
-) -> Result<RuleGraph, Problem> {
-    let mut lowered = RuleGraph::default();
-    for node in order.arrange(&text.right) {
-        let label = variables.right_label(&node.label)?;
-        lowered.nodes.push(RuleNode {
-            mark: node.label.mark,
-            root: node.root,
+        let label = elements(&edge.label)?;
+        lowered.edges.push(RuleEdge {
+            mark: edge.label.mark,
+            source: order.number(&edge.source, side)?,
+            target: order.number(&edge.target, side)?,
             label,
         });
     }
-    for edge in &text.right.edges {
-        let label = variables.right_label(&edge.label)?;
-        lowered.edges.push(lower_edge(edge, label, order, "right")?);
-    }
     Ok(lowered)
-}
-
-fn lower_edge(
-    edge: &EdgeText,
-    label: Vec<Element>,
-    order: &NodeOrder,
-    graph: &str,
-) -> Result<RuleEdge, Problem> {
-    let source = order.number(&edge.source, graph)?;
-    let target = order.number(&edge.target, graph)?;
-    Ok(RuleEdge {
-        mark: edge.label.mark,
-        source,
-        target,
-        label,
-    })
 }
 
 fn check_any_on_right(text: &RuleText) -> Result<(), Problem> {

@@ -80,7 +80,7 @@ fn the_checks_before_a_change_come_in_the_order_6_3_4_5() {
         )
     };
     let answer = |number: i32, nodes: usize, edges: usize, records: usize| {
-        let program = image(&[add(number)], apply(0));
+        let program = image(&[add(number)], call(0));
         let journal = vec![0; records * 28];
         run(
             &vec![0; nodes * 20],

@@ -29,43 +29,42 @@ fn a_failing_body_gives_back_marks_roots_labels_and_deletions() {
     .concat();
     let edges = edge_slot(mark::NONE, 0, 1, &[]);
     let rules = [change];
-    let outcome = run_on(&nodes, &edges, &[&image(&rules, apply(0))], AMPLE_FUEL);
+    let outcome = run_on(&nodes, &edges, &[&image(&rules, call(0))], AMPLE_FUEL);
     assert_eq!(numbers(&outcome), (0, 1, 4));
     assert_eq!(
         outcome.nodes,
         [node_slot(mark::BLUE, true, &[2]), FREE].concat()
     );
     assert_eq!(outcome.edges, edge_slot(mark::RED, 0, 0, &[]));
-    let body = Command::Sequence(vec![apply(0), Command::Fail]);
+    let body = Command::Sequence(vec![call(0), Command::Fail]);
     let outcome = run_on(&nodes, &edges, &[&image(&rules, looped(body))], AMPLE_FUEL);
     expect(&outcome, (0, 4, 0), &nodes, &edges, &[]);
 }
 
 #[test]
 fn no_guard_or_loop_catches_answers_2_to_6() {
-    let add_node = rule((vec![], vec![]), (vec![node(0, &[])], vec![]), 0);
+    let add_node = node_rule(&[], &[node(0, &[])], 0);
     let add_edge = {
         let sides = || vec![node(mark::NONE, &[])];
         rule((sides(), vec![]), (sides(), vec![edge(0, 0, 0, &[])]), 1)
     };
     let overflow = {
         let sum = Element::Difference(Operand::Constant(i32::MIN), Operand::Constant(1));
-        rule((vec![], vec![]), (vec![node(0, &[sum])], vec![]), 0)
+        node_rule(&[], &[node(0, &[sum])], 0)
     };
     let stops = [
         (2, vec![], looped(Command::Skip)),
-        (3, vec![add_node], apply(0)),
-        (4, vec![add_edge], apply(0)),
-        (5, vec![mark_red()], apply(0)),
-        (6, vec![overflow], apply(0)),
+        (3, vec![add_node], call(0)),
+        (4, vec![add_edge], call(0)),
+        (5, vec![mark_red()], call(0)),
+        (6, vec![overflow], call(0)),
     ];
     for (answer, rules, stop) in stops {
-        let skip = || boxed(Command::Skip);
         let wrapped = [
-            Command::If(boxed(stop.clone()), skip(), skip()),
-            Command::Try(boxed(stop.clone()), skip(), skip()),
+            if_command(stop.clone(), Command::Skip, Command::Skip),
+            try_command(stop.clone(), Command::Skip, Command::Skip),
             looped(stop.clone()),
-            Command::Try(boxed(looped(stop.clone())), skip(), skip()),
+            try_command(looped(stop), Command::Skip, Command::Skip),
         ];
         for main in wrapped {
             let fuel = 20;
@@ -78,7 +77,7 @@ fn no_guard_or_loop_catches_answers_2_to_6() {
 
 #[test]
 fn records_of_a_successful_body_serve_an_outer_rollback() {
-    let inner = Command::Sequence(vec![looped(apply(0)), Command::Fail]);
+    let inner = Command::Sequence(vec![looped(call(0)), Command::Fail]);
     let program = image(&[mark_red()], looped(inner));
     let nodes = [PLAIN, PLAIN].concat();
     let outcome = run_on(&nodes, &[], &[&program], AMPLE_FUEL);
@@ -87,19 +86,19 @@ fn records_of_a_successful_body_serve_an_outer_rollback() {
 
 #[test]
 fn undoing_frees_journal_records() {
-    let main = Command::If(boxed(apply(0)), boxed(apply(0)), boxed(Command::Fail));
+    let main = if_command(call(0), call(0), Command::Fail);
     let program = image(&[mark_red()], main);
     let outcome = run(&PLAIN, &[], &[0; 28], &program, 3, &[0; 8]);
     assert_eq!(numbers(&outcome), (0, 3, 1));
     assert_eq!(outcome.nodes, RED);
-    let twice = image(&[mark_red()], Command::Sequence(vec![apply(0), apply(0)]));
+    let twice = image(&[mark_red()], Command::Sequence(vec![call(0), call(0)]));
     let outcome = run(&[PLAIN, PLAIN].concat(), &[], &[0; 28], &twice, 3, &[0; 8]);
     assert_eq!(numbers(&outcome), (5, 3, 0));
 }
 
 #[test]
 fn a_break_keeps_the_graph_through_branches_and_sequences() {
-    let branch = Command::Try(boxed(apply(0)), boxed(Command::Break), boxed(Command::Fail));
+    let branch = try_command(call(0), Command::Break, Command::Fail);
     let body = Command::Sequence(vec![branch, Command::Fail]);
     let program = image(&[mark_red()], looped(body));
     let outcome = run_on(&[PLAIN, PLAIN].concat(), &[], &[&program], AMPLE_FUEL);
@@ -109,9 +108,9 @@ fn a_break_keeps_the_graph_through_branches_and_sequences() {
 
 #[test]
 fn a_failing_guard_is_undone_before_the_else() {
-    for main in [Command::If, Command::Try] {
-        let guard = Command::Sequence(vec![apply(0), Command::Fail]);
-        let command = main(boxed(guard), boxed(Command::Fail), boxed(apply(0)));
+    for main in [if_command, try_command] {
+        let guard = Command::Sequence(vec![call(0), Command::Fail]);
+        let command = main(guard, Command::Fail, call(0));
         let outcome = run_on(&PLAIN, &[], &[&image(&[mark_red()], command)], AMPLE_FUEL);
         expect(&outcome, (0, 5, 1), &RED, &[], &[node_record(0, &PLAIN)]);
     }
@@ -120,37 +119,37 @@ fn a_failing_guard_is_undone_before_the_else() {
 /// Commands over M on two plain nodes with fuel 50, and their answer, steps and records. Each record stands for
 /// a node that became red.
 fn control_flow() -> Vec<(Command, (u32, u32, u32))> {
-    use Command::{Break, Fail, If, Sequence, Skip, Try};
-    let m = || apply(0);
-    let of = |kind: fn(Box<Command>, Box<Command>, Box<Command>) -> Command, guard, then, other| {
-        kind(boxed(guard), boxed(then), boxed(other))
-    };
+    use Command::{Break, Fail, Sequence, Skip};
+    let m = || call(0);
     vec![
         (Sequence(vec![m(), m()]), (0, 3, 2)),
         (Sequence(vec![m(), m(), m()]), (1, 4, 0)),
         (Sequence(vec![Fail, m()]), (1, 2, 0)),
         (Sequence(vec![m(), Sequence(vec![m()])]), (0, 4, 2)),
         (looped(m()), (0, 4, 2)),
-        (of(If, m(), m(), Fail), (0, 3, 1)),
-        (of(Try, m(), m(), Fail), (0, 3, 2)),
-        (of(If, m(), Fail, Skip), (1, 3, 0)),
-        (of(Try, m(), Fail, Skip), (1, 3, 0)),
-        (of(If, Fail, Fail, m()), (0, 3, 1)),
-        (of(Try, Fail, Fail, m()), (0, 3, 1)),
-        (of(If, Sequence(vec![m(), Fail]), Skip, m()), (0, 5, 1)),
-        (of(Try, Sequence(vec![m(), Fail]), Skip, m()), (0, 5, 1)),
-        (of(Try, of(If, m(), Skip, Fail), m(), Fail), (0, 5, 1)),
-        (of(If, looped(m()), m(), Fail), (0, 6, 1)),
-        (of(Try, looped(m()), Skip, Fail), (0, 6, 2)),
+        (if_command(m(), m(), Fail), (0, 3, 1)),
+        (try_command(m(), m(), Fail), (0, 3, 2)),
+        (if_command(m(), Fail, Skip), (1, 3, 0)),
+        (try_command(m(), Fail, Skip), (1, 3, 0)),
+        (if_command(Fail, Fail, m()), (0, 3, 1)),
+        (try_command(Fail, Fail, m()), (0, 3, 1)),
+        (if_command(Sequence(vec![m(), Fail]), Skip, m()), (0, 5, 1)),
+        (try_command(Sequence(vec![m(), Fail]), Skip, m()), (0, 5, 1)),
         (
-            of(If, looped(Sequence(vec![m(), Break])), Skip, Fail),
+            try_command(if_command(m(), Skip, Fail), m(), Fail),
+            (0, 5, 1),
+        ),
+        (if_command(looped(m()), m(), Fail), (0, 6, 1)),
+        (try_command(looped(m()), Skip, Fail), (0, 6, 2)),
+        (
+            if_command(looped(Sequence(vec![m(), Break])), Skip, Fail),
             (0, 6, 0),
         ),
-        (looped(of(Try, m(), Fail, Skip)), (0, 4, 0)),
-        (looped(of(If, m(), Break, Skip)), (0, 4, 0)),
-        (looped(of(Try, m(), Break, Skip)), (0, 4, 1)),
-        (looped(of(Try, Fail, Skip, Break)), (0, 4, 0)),
-        (looped(of(If, Skip, m(), Skip)), (0, 10, 2)),
+        (looped(try_command(m(), Fail, Skip)), (0, 4, 0)),
+        (looped(if_command(m(), Break, Skip)), (0, 4, 0)),
+        (looped(try_command(m(), Break, Skip)), (0, 4, 1)),
+        (looped(try_command(Fail, Skip, Break)), (0, 4, 0)),
+        (looped(if_command(Skip, m(), Skip)), (0, 10, 2)),
         (looped(Sequence(vec![m(), Break, m()])), (0, 4, 1)),
         (Sequence(vec![looped(Fail), m()]), (0, 4, 1)),
         (Sequence(vec![looped(Break), m()]), (0, 4, 1)),
@@ -174,11 +173,7 @@ fn commands_run_in_document_01s_order() {
 
 #[test]
 fn the_first_listed_rule_with_a_match_is_applied() {
-    let grey_to_blue = rule(
-        (vec![node(mark::GREY, &[])], vec![]),
-        (vec![node(mark::BLUE, &[])], vec![]),
-        1,
-    );
+    let grey_to_blue = node_rule(&[node(mark::GREY, &[])], &[node(mark::BLUE, &[])], 1);
     let rules = [grey_to_blue, mark_red()];
     let grey = node_slot(mark::GREY, false, &[]);
     let both = [PLAIN, grey].concat();

@@ -7,8 +7,8 @@ use second::tree::*;
 
 /// Whether the test holds between nodes 0 and 1 of a host.
 fn holds(negated: bool, kind: TestKind, edges: &[[u8; 24]]) -> bool {
-    let pair = |second| vec![node(mark::NONE, &[]), node(second, &[])];
-    let rule = rule((pair(mark::GREY), vec![]), (pair(mark::GREY), vec![]), 2);
+    let pair = [node(mark::NONE, &[]), node(mark::GREY, &[])];
+    let rule = node_rule(&pair, &pair, 2);
     let nodes = [PLAIN, node_slot(mark::GREY, false, &[]), RED];
     match applied(tests(&[(negated, kind)], rule), &nodes, edges).answer {
         0 => true,
@@ -61,11 +61,8 @@ fn each_test_holds_as_document_01_says() {
 #[test]
 fn tests_look_at_the_values_of_the_match_and_pick_a_later_one() {
     let x = Element::Variable(0);
-    let sides = |mark| (vec![node(mark, &[x])], vec![]);
-    let rule = variables(
-        &[VariableType::Int],
-        rule(sides(mark::NONE), sides(mark::RED), 1),
-    );
+    let rule = node_rule(&[node(mark::NONE, &[x])], &[node(mark::RED, &[x])], 1);
+    let rule = variables(&[VariableType::Int], rule);
     let above = TestKind::Relation(Relation::Less, Operand::Constant(5), Operand::Variable(0));
     let slots = [4, 5, 6, 7].map(|atom| node_slot(mark::NONE, false, &[atom]));
     let outcome = applied(tests(&[(false, above)], rule), &slots, &[]);

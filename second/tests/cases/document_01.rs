@@ -188,8 +188,8 @@ fn case_p() {
 
 #[test]
 fn the_written_images_are_the_encoders() {
-    let delete = rule((vec![node(mark::NONE, &[])], vec![]), (vec![], vec![]), 0);
+    let delete = node_rule(&[node(mark::NONE, &[])], &[], 0);
     assert_eq!(encode::rule(&delete), D);
     assert_eq!(encode::rule(&mark_red()), M);
-    assert_eq!(encode::command(&apply(0)), RULE_0);
+    assert_eq!(encode::command(&call(0)), RULE_0);
 }

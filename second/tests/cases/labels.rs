@@ -12,8 +12,8 @@ fn relabelled(
     right: &[Element],
     atoms: &[i32],
 ) -> Result<Vec<u8>, u32> {
-    let sides = |label: &[Element]| (vec![node(mark::NONE, label)], vec![]);
-    let rule = variables(types, rule(sides(left), sides(right), 1));
+    let rule = node_rule(&[node(mark::NONE, left)], &[node(mark::NONE, right)], 1);
+    let rule = variables(types, rule);
     let outcome = applied(rule, &[node_slot(mark::NONE, false, atoms)], &[]);
     match outcome.answer {
         0 => Ok(outcome.nodes),
@@ -60,13 +60,8 @@ fn an_int_variable_takes_one_atom_and_has_one_value() {
 #[test]
 fn a_list_variable_of_two_labels_has_one_value() {
     let list = Element::Variable(0);
-    let sides = || {
-        (
-            vec![node(mark::NONE, &[list]), node(mark::NONE, &[list])],
-            vec![],
-        )
-    };
-    let same = variables(&[VariableType::List], rule(sides(), sides(), 2));
+    let both = [node(mark::NONE, &[list]), node(mark::NONE, &[list])];
+    let same = variables(&[VariableType::List], node_rule(&both, &both, 2));
     let slots = |atoms: [&[i32]; 3]| atoms.map(|atoms| node_slot(mark::NONE, false, atoms));
     let outcome = applied(same.clone(), &slots([&[1], &[1, 1], &[1]]), &[]);
     let first = node_slot(mark::NONE, false, &[1]);

@@ -137,11 +137,7 @@ fn any_agrees_with_every_mark_and_keeps_it() {
 
 #[test]
 fn root_flags_are_equal_both_ways() {
-    let unroot = rule(
-        (vec![root(mark::NONE, &[])], vec![]),
-        (vec![node(mark::NONE, &[])], vec![]),
-        1,
-    );
+    let unroot = node_rule(&[root(mark::NONE, &[])], &[node(mark::NONE, &[])], 1);
     let host_root = node_slot(mark::NONE, true, &[]);
     assert_eq!(applied(unroot.clone(), &[PLAIN], &[]).answer, 1);
     let outcome = applied(unroot, &[PLAIN, host_root], &[]);
@@ -190,7 +186,6 @@ fn a_loop_edge_counts_once() {
 
 #[test]
 fn an_empty_left_side_has_one_match() {
-    let nothing = rule((vec![], vec![]), (vec![], vec![]), 0);
-    let outcome = applied(nothing, &[], &[]);
+    let outcome = applied(Rule::default(), &[], &[]);
     expect(&outcome, (0, 1, 0), &[], &[], &[]);
 }

@@ -1,5 +1,6 @@
 //! The program `gp2` as it is called: files, standard streams, options and exit status.
 
+use super::helpers::CASE_P;
 use second::encode;
 use second::listing::listing;
 use std::fs;
@@ -7,14 +8,6 @@ use std::io::Write;
 use std::path::PathBuf;
 use std::process::{Command, Output, Stdio};
 
-const CASE_P: &str = "
-Main = turn!
-turn(x, y: int)
-[ (n1, x # grey) (n2, y # grey) | (e1, n1, n2, empty) ]
-=>
-[ (n1, x # red) (n2, x+y # blue) | (e1, n2, n1, empty) ]
-interface = {n1, n2}
-";
 const CASE_P_HOST: &str = "[ (0, 5 # grey) (1, 7 # grey) | (0, 0, 1, empty) ]";
 const CASE_P_LISTING: &str = "\
 answer 0 steps 3 records 4
@@ -71,6 +64,12 @@ impl Place {
         self.gp2_with_input(arguments, b"")
     }
 
+    /// Assembles case P with its host to `p.run`.
+    fn assemble_case_p(&self) {
+        let files = ["asm", "p.gp2", "--host", "p.host", "-o", "p.run"];
+        assert_done(&self.gp2(&[&files[..], &CASE_P_SIZES].concat()));
+    }
+
     fn gp2_with_input(&self, arguments: &[&str], input: &[u8]) -> Output {
         let mut child = Command::new(env!("CARGO_BIN_EXE_gp2"))
             .args(arguments)
@@ -98,6 +97,12 @@ fn assert_done(output: &Output) {
     assert_eq!((output.status.code(), err(output).as_str()), (Some(0), ""));
 }
 
+/// Refused by what the system says behind this start.
+fn assert_refused_by_system(output: &Output, start: &str) {
+    assert_eq!(output.status.code(), Some(1));
+    assert!(err(output).starts_with(start), "{}", err(output));
+}
+
 fn assert_refused(output: &Output, status: i32, message: &str) {
     assert_eq!(output.status.code(), Some(status), "{}", err(output));
     assert_eq!(err(output), format!("{message}\n"));
@@ -107,12 +112,7 @@ fn assert_refused(output: &Output, status: i32, message: &str) {
 #[test]
 fn asm_writes_a_runner_image_that_runs_as_case_p() {
     let place = Place::new("runner");
-    let arguments = [
-        &["asm", "p.gp2", "--host", "p.host", "-o", "p.run"][..],
-        &CASE_P_SIZES,
-    ]
-    .concat();
-    assert_done(&place.gp2(&arguments));
+    place.assemble_case_p();
     assert_eq!(listing(&place.read("p.run")), CASE_P_LISTING);
     assert_eq!(place.files(), ["p.gp2", "p.host", "p.run"]);
 }
@@ -150,12 +150,7 @@ fn standard_streams_stand_for_files() {
 #[test]
 fn a_runner_image_comes_back_through_its_text() {
     let place = Place::new("back");
-    let arguments = [
-        &["asm", "p.gp2", "--host", "p.host", "-o", "p.run"][..],
-        &CASE_P_SIZES,
-    ]
-    .concat();
-    assert_done(&place.gp2(&arguments));
+    place.assemble_case_p();
     let text = place.gp2(&["dis", "p.run"]);
     assert_done(&text);
     place.write("again.gp2", &text.stdout);
@@ -232,28 +227,12 @@ fn files_that_are_no_text_or_not_there() {
         &["dis", "none"],
         &["dot", "none"],
     ] {
-        let output = place.gp2(arguments);
-        assert_eq!(output.status.code(), Some(1));
-        assert!(
-            err(&output).starts_with("none: can't be read: "),
-            "{}",
-            err(&output)
-        );
+        assert_refused_by_system(&place.gp2(arguments), "none: can't be read: ");
     }
-    let output = place.gp2(&["asm", "p.gp2", "-o", "none/x"]);
-    assert_eq!(output.status.code(), Some(1));
-    assert!(
-        err(&output).starts_with("none/x: can't be written: "),
-        "{}",
-        err(&output)
-    );
-    let output = place.gp2(&["asm", "p.gp2", "-o", "."]);
-    assert_eq!(output.status.code(), Some(1));
-    assert!(
-        err(&output).starts_with(".: can't be written: "),
-        "{}",
-        err(&output)
-    );
+    for file in ["none/x", "."] {
+        let output = place.gp2(&["asm", "p.gp2", "-o", file]);
+        assert_refused_by_system(&output, &format!("{file}: can't be written: "));
+    }
 }
 
 #[test]
@@ -397,12 +376,7 @@ fn dis_and_dot_refuse_damaged_images_with_status_1() {
 #[test]
 fn dot_draws_before_and_after_the_run() {
     let place = Place::new("dot");
-    let arguments = [
-        &["asm", "p.gp2", "--host", "p.host", "-o", "p.run"][..],
-        &CASE_P_SIZES,
-    ]
-    .concat();
-    assert_done(&place.gp2(&arguments));
+    place.assemble_case_p();
     let before = place.gp2(&["dot", "p.run"]);
     assert_done(&before);
     assert!(out(&before).contains("  n0 [xlabel=\"0\", label=\"5\", fillcolor=lightgrey];\n"));

@@ -1,5 +1,6 @@
 //! Short ways to assemble a text and to build what it should give.
 
+pub use second::build::{call, edge, if_command, looped, node, try_command};
 use second::text::assemble_program;
 use second::tree::*;
 
@@ -8,6 +9,17 @@ pub const THREE_RULES: &str = "
 a() [ | ] => [ | ] interface = {}
 b() [ | ] => [ | ] interface = {}
 c() [ | ] => [ | ] interface = {}
+";
+
+/// Case P of document 01.
+pub const CASE_P: &str = "
+Main = turn!
+
+turn(x, y: int)
+[ (n1, x # grey) (n2, y # grey) | (e1, n1, n2, empty) ]
+=>
+[ (n1, x # red) (n2, x+y # blue) | (e1, n2, n1, empty) ]
+interface = {n1, n2}
 ";
 
 pub fn program(source: &str) -> Program {
@@ -30,41 +42,8 @@ pub fn main_command(text: &str) -> Command {
     program(&format!("{text}\n{THREE_RULES}")).main
 }
 
-pub fn call(number: u8) -> Command {
-    Command::RuleSet(vec![number])
-}
-
 pub fn sequence(parts: &[Command]) -> Command {
     Command::Sequence(parts.to_vec())
-}
-
-pub fn looped(body: Command) -> Command {
-    Command::Loop(Box::new(body))
-}
-
-pub fn if_command(guard: Command, then: Command, otherwise: Command) -> Command {
-    Command::If(Box::new(guard), Box::new(then), Box::new(otherwise))
-}
-
-pub fn try_command(guard: Command, then: Command, otherwise: Command) -> Command {
-    Command::Try(Box::new(guard), Box::new(then), Box::new(otherwise))
-}
-
-pub fn node(mark: u8, root: bool, label: &[Element]) -> RuleNode {
-    RuleNode {
-        mark,
-        root,
-        label: label.to_vec(),
-    }
-}
-
-pub fn edge(mark: u8, source: u8, target: u8, label: &[Element]) -> RuleEdge {
-    RuleEdge {
-        mark,
-        source,
-        target,
-        label: label.to_vec(),
-    }
 }
 
 /// The place and message of the refusal of a program, as `LINE:COLUMN: message`.

@@ -2,6 +2,7 @@
 
 use super::legal_programs;
 use super::round_trips::{random_runner_input, runner_again};
+use second::build::{call, if_command, looped, node, node_rule};
 use second::calls;
 use second::corpus;
 use second::encode::{self, RunnerInput};
@@ -16,21 +17,7 @@ fn refusal(image: &[u8]) -> String {
 
 /// A rule that deletes one unmarked, unlabelled, plain node, in 24 bytes.
 fn delete() -> Rule {
-    let node = RuleNode {
-        mark: 0,
-        root: false,
-        label: vec![],
-    };
-    Rule {
-        variables: vec![],
-        left: RuleGraph {
-            nodes: vec![node],
-            edges: vec![],
-        },
-        right: RuleGraph::default(),
-        interface: 0,
-        tests: vec![],
-    }
+    node_rule(&[node(mark::NONE, &[])], &[], 0)
 }
 
 fn image(rules: Vec<Rule>, main: Command) -> Vec<u8> {
@@ -47,25 +34,27 @@ fn runner(program: Vec<u8>) -> RunnerInput {
     }
 }
 
+/// The image with another byte at this place.
+fn with_byte(image: &[u8], at: usize, byte: u8) -> Vec<u8> {
+    let mut changed = image.to_vec();
+    changed[at] = byte;
+    changed
+}
+
 #[test]
 fn damaged_forms_say_where_reading_stopped() {
-    let legal = image(vec![delete()], Command::RuleSet(vec![0]));
-    let with = |at: usize, byte: u8| {
-        let mut damaged = legal.clone();
-        damaged[at] = byte;
-        damaged
-    };
+    let legal = image(vec![delete()], call(0));
     let cases = [
         (
             Vec::new(),
             "offset 0, program: expected a command: tag 0x50 to 0x57; a run answers 16",
         ),
         (
-            with(12, 5),
+            with_byte(&legal, 12, 5),
             "offset 12, node: expected a node mark: 0 to 4, or 6 for any; a run answers 16",
         ),
         (
-            with(13, 2),
+            with_byte(&legal, 13, 2),
             "offset 13, node: expected a root flag: 0 or 1; a run answers 16",
         ),
         (
@@ -93,10 +82,10 @@ fn broken_references_are_found_in_rules_and_commands() {
         "{found}"
     );
     assert!(found.ends_with("; a run answers 17"), "{found}");
-    let set = Command::Loop(Box::new(Command::Sequence(vec![
+    let set = looped(Command::Sequence(vec![
         Command::Skip,
         Command::RuleSet(vec![0, 1]),
-    ])));
+    ]));
     let found = refusal(&image(vec![delete()], set));
     assert!(found.starts_with("offset 33, references: "), "{found}");
     assert!(found.ends_with("; a run answers 17"), "{found}");
@@ -105,12 +94,8 @@ fn broken_references_are_found_in_rules_and_commands() {
 #[test]
 fn a_misplaced_break_is_found() {
     let guard = Command::Sequence(vec![Command::Skip, Command::Break]);
-    let branching = Command::If(
-        Box::new(guard),
-        Box::new(Command::Break),
-        Box::new(Command::Break),
-    );
-    let found = refusal(&image(vec![], Command::Loop(Box::new(branching))));
+    let branching = if_command(guard, Command::Break, Command::Break);
+    let found = refusal(&image(vec![], looped(branching)));
     let expected = "expected a loop around the break with no guard of if or try between";
     assert_eq!(
         found,
@@ -130,40 +115,41 @@ fn an_image_that_is_too_long_says_so() {
 #[test]
 fn runner_images_are_refused_with_the_runs_answer() {
     let legal = runner(image(vec![], Command::Skip));
-    let refused = |change: &dyn Fn(&mut RunnerInput)| {
+    let changes: [(fn(&mut RunnerInput), &str); 7] = [
+        (
+            |input| input.nodes.push(0),
+            "offset 3, node table: expected 0 to 512 slots of 20 bytes, found 21 bytes; a run answers 10",
+        ),
+        (
+            |input| input.edges = vec![0; 24 * 1025],
+            "offset 26, edge table: expected 0 to 1,024 slots of 24 bytes, found 24600 bytes; a run answers 11",
+        ),
+        (
+            |input| input.fuel = 1_000_001,
+            "offset 58, fuel: expected at most 1000000, found 1000001; a run answers 13",
+        ),
+        (
+            |input| input.program = vec![0x55; 8193],
+            "offset 8257, program: expected at most 8192 bytes, found 8193; a run answers 14",
+        ),
+        (
+            |input| input.nodes[2] = 2,
+            "offset 3, node slot 0: its root flag is neither 0 nor 1; a run answers 15",
+        ),
+        (
+            |input| input.edges[7] = 1,
+            "offset 26, edge slot 0: its target 1 is no live node slot; a run answers 15",
+        ),
+        (
+            |input| input.program[2] = 1,
+            "offset 68, skip: expected a payload of 1 bytes; a run answers 16",
+        ),
+    ];
+    for (change, expected) in changes {
         let mut input = legal.clone();
         change(&mut input);
-        refusal(&encode::runner_input(&input))
-    };
-    let found = refused(&|input| input.nodes.push(0));
-    assert_eq!(found, "offset 3, node table: expected 0 to 512 slots of 20 bytes, found 21 bytes; a run answers 10");
-    let found = refused(&|input| input.edges = vec![0; 24 * 1025]);
-    assert_eq!(found, "offset 26, edge table: expected 0 to 1,024 slots of 24 bytes, found 24600 bytes; a run answers 11");
-    let found = refused(&|input| input.fuel = 1_000_001);
-    assert_eq!(
-        found,
-        "offset 58, fuel: expected at most 1000000, found 1000001; a run answers 13"
-    );
-    let found = refused(&|input| input.program = vec![0x55; 8193]);
-    assert_eq!(
-        found,
-        "offset 8257, program: expected at most 8192 bytes, found 8193; a run answers 14"
-    );
-    let found = refused(&|input| input.nodes[2] = 2);
-    assert_eq!(
-        found,
-        "offset 3, node slot 0: its root flag is neither 0 nor 1; a run answers 15"
-    );
-    let found = refused(&|input| input.edges[7] = 1);
-    assert_eq!(
-        found,
-        "offset 26, edge slot 0: its target 1 is no live node slot; a run answers 15"
-    );
-    let found = refused(&|input| input.program[2] = 1);
-    assert_eq!(
-        found,
-        "offset 68, skip: expected a payload of 1 bytes; a run answers 16"
-    );
+        assert_eq!(refusal(&encode::runner_input(&input)), expected);
+    }
 }
 
 /// A runner image of empty tables and `skip`, with these payloads of its numbers.
@@ -183,22 +169,17 @@ fn fields(records: &[u8], fuel: &[u8]) -> Vec<u8> {
 /// Damaged runner images, and what is said of each.
 fn damaged_inputs() -> [(Vec<u8>, &'static str); 6] {
     let legal = encode::runner_input(&runner(image(vec![], Command::Skip)));
-    let with = |at: usize, byte: u8| {
-        let mut damaged = legal.clone();
-        damaged[at] = byte;
-        damaged
-    };
     [
         (
-            with(23, 3),
+            with_byte(&legal, 23, 3),
             "offset 23, edge table: expected a field with tag 0x02",
         ),
         (
-            with(1, 9),
+            with_byte(&legal, 1, 9),
             "offset 3, node table: expected a payload of 2324 bytes, found 65",
         ),
         (
-            with(53, 4),
+            with_byte(&legal, 53, 4),
             "offset 53, journal records: expected at most 1,024 records",
         ),
         (
@@ -330,10 +311,7 @@ fn images_of_the_corpus_come_back_or_are_refused_with_the_runs_answer() {
 
 #[test]
 fn every_shortened_image_is_refused() {
-    let legal = image(
-        vec![delete()],
-        Command::Loop(Box::new(Command::RuleSet(vec![0]))),
-    );
+    let legal = image(vec![delete()], looped(call(0)));
     for length in 0..legal.len() {
         assert!(refusal(&legal[..length]).ends_with("a run answers 16"));
     }
@@ -418,7 +396,7 @@ fn the_graph_alone_is_text_with_slot_numbers() {
 
 #[test]
 fn a_drawing_after_the_run_shows_the_result() {
-    let mut input = runner(image(vec![delete()], Command::RuleSet(vec![0])));
+    let mut input = runner(image(vec![delete()], call(0)));
     input.edges = vec![];
     let after = draw_after(&encode::runner_input(&input)).expect("a result");
     assert_eq!(

@@ -135,11 +135,7 @@ fn left_graph(random: &mut Random, variables: &mut Variables, items: usize) -> R
     for _ in 0..random.below(items + 1) {
         let mark = random.pick(&[0, 1, 2, 3, 4, 6]);
         let label = left_label(random, variables);
-        graph.nodes.push(RuleNode {
-            mark,
-            root: random.chance(30),
-            label,
-        });
+        graph.nodes.push(node(random, mark, label));
     }
     for _ in 0..edge_count(random, &graph, items) {
         let mark = random.pick(&[0, 1, 2, 3, 5, 6]);
@@ -165,11 +161,7 @@ fn right_graph(
             random.below(5) as u8
         };
         let label = right_label(random, variables);
-        graph.nodes.push(RuleNode {
-            mark,
-            root: random.chance(30),
-            label,
-        });
+        graph.nodes.push(node(random, mark, label));
     }
     for _ in 0..edge_count(random, &graph, items) {
         let mark = random.pick(&[0, 1, 2, 3, 5]);
@@ -184,6 +176,11 @@ fn edge_count(random: &mut Random, graph: &RuleGraph, items: usize) -> usize {
         0 => 0,
         _ => random.below(items + 1),
     }
+}
+
+fn node(random: &mut Random, mark: u8, label: Vec<Element>) -> RuleNode {
+    let root = random.chance(30);
+    RuleNode { mark, root, label }
 }
 
 fn edge(random: &mut Random, graph: &RuleGraph, mark: u8, label: Vec<Element>) -> RuleEdge {

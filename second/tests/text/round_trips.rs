@@ -1,6 +1,7 @@
 //! From images to text and back to the same bytes.
 
 use super::legal_programs;
+use second::build::*;
 use second::encode::{self, RunnerInput};
 use second::random::Random;
 use second::text::{assemble, assemble_program, disassemble, runner_input};
@@ -70,64 +71,38 @@ fn sequences_of_one_and_nested_ones_come_back() {
     ]);
     check(&of_command(pair.clone()));
     check(&of_command(one(pair.clone())));
-    check(&of_command(Command::Loop(Box::new(one(Command::Break)))));
-    check(&of_command(Command::If(
-        Box::new(one(pair.clone())),
-        Box::new(pair.clone()),
-        Box::new(pair),
+    check(&of_command(looped(one(Command::Break))));
+    check(&of_command(if_command(
+        one(pair.clone()),
+        pair.clone(),
+        pair,
     )));
 }
 
 #[test]
 fn branching_in_branches_and_guards_comes_back() {
-    let skip = || Box::new(Command::Skip);
-    let branching = || Box::new(Command::Try(skip(), Box::new(Command::Fail), skip()));
-    check(&of_command(Command::If(
+    let branching = || try_command(Command::Skip, Command::Fail, Command::Skip);
+    check(&of_command(if_command(
         branching(),
         branching(),
         branching(),
     )));
-    check(&of_command(Command::Loop(branching())));
-    check(&of_command(Command::Loop(Box::new(Command::Loop(
-        branching(),
-    )))));
-    check(&of_command(Command::Sequence(vec![
-        *branching(),
-        *branching(),
-    ])));
+    check(&of_command(looped(branching())));
+    check(&of_command(looped(looped(branching()))));
+    check(&of_command(Command::Sequence(vec![branching(); 2])));
 }
 
 /// Sixteen commands, each a sequence of sixteen, which the text breaks into lines.
 #[test]
 fn long_programs_come_back_from_broken_lines() {
-    let rule = Rule {
-        variables: vec![],
-        left: RuleGraph::default(),
-        right: RuleGraph::default(),
-        interface: 0,
-        tests: vec![],
-    };
     let set = Command::RuleSet(vec![0; limit::RULE_NUMBERS]);
     let inner = Command::Sequence(vec![set; limit::COMMANDS]);
     let one = Command::Sequence(vec![inner.clone()]);
-    let branching = Command::If(
-        Box::new(inner.clone()),
-        Box::new(one.clone()),
-        Box::new(inner.clone()),
-    );
-    let guarded = Command::Try(
-        Box::new(branching.clone()),
-        Box::new(Command::Skip),
-        Box::new(branching.clone()),
-    );
-    let main = Command::Sequence(vec![
-        one,
-        branching,
-        Command::Loop(Box::new(inner)),
-        guarded,
-    ]);
+    let branching = if_command(inner.clone(), one.clone(), inner.clone());
+    let guarded = try_command(branching.clone(), Command::Skip, branching.clone());
+    let main = Command::Sequence(vec![one, branching, looped(inner), guarded]);
     let program = Program {
-        rules: vec![rule],
+        rules: vec![Rule::default()],
         main,
     };
     check(&program);
@@ -139,21 +114,9 @@ fn long_programs_come_back_from_broken_lines() {
 fn depth_sixteen_comes_back_whatever_it_is_made_of() {
     let wraps: [fn(Command) -> Command; 4] = [
         |inner| Command::Sequence(vec![inner]),
-        |inner| Command::Loop(Box::new(inner)),
-        |inner| {
-            Command::If(
-                Box::new(inner),
-                Box::new(Command::Skip),
-                Box::new(Command::Skip),
-            )
-        },
-        |inner| {
-            Command::Try(
-                Box::new(Command::Skip),
-                Box::new(Command::Skip),
-                Box::new(inner),
-            )
-        },
+        looped,
+        |inner| if_command(inner, Command::Skip, Command::Skip),
+        |inner| try_command(Command::Skip, Command::Skip, inner),
     ];
     for wrap in wraps {
         let mut command = Command::Fail;
@@ -249,98 +212,52 @@ fn full_tables_come_back() {
     assert_eq!(runner_again(&image), image);
 }
 
-fn small_left() -> RuleGraph {
-    RuleGraph {
-        nodes: vec![
-            RuleNode {
-                mark: mark::ANY,
-                root: true,
-                label: vec![Element::Variable(0)],
-            },
-            RuleNode {
-                mark: 0,
-                root: false,
-                label: vec![Element::Variable(1), Element::Variable(2)],
-            },
-        ],
-        edges: vec![RuleEdge {
-            mark: mark::DASHED,
-            source: 1,
-            target: 0,
-            label: vec![],
-        }],
-    }
+fn small_left() -> Side {
+    let [list, i, j] = [0, 1, 2].map(Element::Variable);
+    (
+        vec![root(mark::ANY, &[list]), node(mark::NONE, &[i, j])],
+        vec![edge(mark::DASHED, 1, 0, &[])],
+    )
 }
 
-fn small_right() -> RuleGraph {
-    RuleGraph {
-        nodes: vec![
-            RuleNode {
-                mark: mark::ANY,
-                root: false,
-                label: vec![],
-            },
-            RuleNode {
-                mark: 0,
-                root: false,
-                label: vec![
-                    Element::Constant(-7),
-                    Element::Difference(Operand::Variable(1), Operand::Constant(-2)),
-                    Element::Sum(Operand::Constant(3), Operand::Variable(2)),
-                ],
-            },
-        ],
-        edges: vec![RuleEdge {
-            mark: mark::RED,
-            source: 0,
-            target: 1,
-            label: vec![],
-        }],
-    }
+fn small_right() -> Side {
+    let label = [
+        Element::Constant(-7),
+        Element::Difference(Operand::Variable(1), Operand::Constant(-2)),
+        Element::Sum(Operand::Constant(3), Operand::Variable(2)),
+    ];
+    (
+        vec![node(mark::ANY, &[]), node(mark::NONE, &label)],
+        vec![edge(mark::RED, 0, 1, &[])],
+    )
 }
 
 fn small_tests() -> Vec<Test> {
-    vec![
-        Test {
-            negated: true,
-            kind: TestKind::Edge(0, 1),
-        },
-        Test {
-            negated: true,
-            kind: TestKind::InDegree(1, 2),
-        },
-        Test {
-            negated: false,
-            kind: TestKind::OutDegree(0, 0),
-        },
-        Test {
-            negated: true,
-            kind: TestKind::Relation(Relation::Less, Operand::Variable(1), Operand::Constant(5)),
-        },
-    ]
+    let less = TestKind::Relation(Relation::Less, Operand::Variable(1), Operand::Constant(5));
+    let tests = [
+        (true, TestKind::Edge(0, 1)),
+        (true, TestKind::InDegree(1, 2)),
+        (false, TestKind::OutDegree(0, 0)),
+        (true, less),
+    ];
+    tests.map(|(negated, kind)| Test { negated, kind }).to_vec()
 }
 
 /// A rule in which most parts of the notation occur.
 fn small_rule() -> Rule {
     Rule {
         variables: vec![VariableType::List, VariableType::Int, VariableType::Int],
-        left: small_left(),
-        right: small_right(),
-        interface: 1,
         tests: small_tests(),
+        ..rule(small_left(), small_right(), 1)
     }
 }
 
 #[test]
 fn the_text_of_a_small_image_reads_so() {
     let main = Command::Sequence(vec![
-        Command::Loop(Box::new(Command::RuleSet(vec![0]))),
+        looped(call(0)),
         Command::Sequence(vec![Command::RuleSet(vec![0, 0])]),
-        Command::If(
-            Box::new(Command::Skip),
-            Box::new(Command::Fail),
-            Box::new(Command::Skip),
-        ),
+        if_command(Command::Skip, Command::Fail, Command::Skip),
     ]);
     let image = encode::program(&Program {
         rules: vec![small_rule()],

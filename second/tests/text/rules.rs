@@ -1,6 +1,7 @@
 //! Each form of a rule: variables, graphs, labels, marks, interface, conditions, bidirectional edges.
 
 use super::helpers::*;
+use second::build;
 use second::encode;
 use second::tree::*;
 
@@ -12,39 +13,23 @@ const J: Operand = Operand::Variable(1);
 /// Case P of document 01, built by hand.
 fn case_p() -> Program {
     let sum = Element::Sum(Operand::Variable(0), Operand::Variable(1));
-    let left = RuleGraph {
-        nodes: vec![node(mark::GREY, false, &[X]), node(mark::GREY, false, &[Y])],
-        edges: vec![edge(mark::NONE, 0, 1, &[])],
-    };
-    let right = RuleGraph {
-        nodes: vec![
-            node(mark::RED, false, &[X]),
-            node(mark::BLUE, false, &[sum]),
-        ],
-        edges: vec![edge(mark::NONE, 1, 0, &[])],
-    };
+    let left = (
+        vec![node(mark::GREY, &[X]), node(mark::GREY, &[Y])],
+        vec![edge(mark::NONE, 0, 1, &[])],
+    );
+    let right = (
+        vec![node(mark::RED, &[X]), node(mark::BLUE, &[sum])],
+        vec![edge(mark::NONE, 1, 0, &[])],
+    );
     let rule = Rule {
         variables: vec![VariableType::Int, VariableType::Int],
-        left,
-        right,
-        interface: 2,
-        tests: vec![],
+        ..build::rule(left, right, 2)
     };
     Program {
         rules: vec![rule],
         main: looped(call(0)),
     }
 }
-
-const CASE_P: &str = "
-Main = turn!
-
-turn(x, y: int)
-[ (n1, x # grey) (n2, y # grey) | (e1, n1, n2, empty) ]
-=>
-[ (n1, x # red) (n2, x+y # blue) | (e1, n2, n1, empty) ]
-interface = {n1, n2}
-";
 
 #[test]
 fn case_p_is_the_program_that_document_01_describes() {
@@ -81,16 +66,7 @@ fn variables_keep_their_order_whatever_their_types() {
 #[test]
 fn a_rule_may_be_empty() {
     let rule = rule("r() [ | ] => [ | ] interface = {}");
-    assert_eq!(
-        rule,
-        Rule {
-            variables: vec![],
-            left: RuleGraph::default(),
-            right: RuleGraph::default(),
-            interface: 0,
-            tests: vec![],
-        }
-    );
+    assert_eq!(rule, Rule::default());
 }
 
 #[test]

@@ -1,0 +1,64 @@
+//! Short ways to build rules and commands.
+
+use crate::tree::*;
+
+/// A node that is no root.
+pub fn node(mark: u8, label: &[Element]) -> RuleNode {
+    RuleNode {
+        mark,
+        root: false,
+        label: label.to_vec(),
+    }
+}
+
+pub fn root(mark: u8, label: &[Element]) -> RuleNode {
+    RuleNode {
+        root: true,
+        ..node(mark, label)
+    }
+}
+
+pub fn edge(mark: u8, source: u8, target: u8, label: &[Element]) -> RuleEdge {
+    RuleEdge {
+        mark,
+        source,
+        target,
+        label: label.to_vec(),
+    }
+}
+
+/// The nodes and the edges of one side of a rule.
+pub type Side = (Vec<RuleNode>, Vec<RuleEdge>);
+
+/// A rule without variables and tests.
+pub fn rule(left: Side, right: Side, interface: u8) -> Rule {
+    let graph = |(nodes, edges)| RuleGraph { nodes, edges };
+    Rule {
+        left: graph(left),
+        right: graph(right),
+        interface,
+        ..Rule::default()
+    }
+}
+
+/// The same, of nodes alone.
+pub fn node_rule(left: &[RuleNode], right: &[RuleNode], interface: u8) -> Rule {
+    rule((left.to_vec(), vec![]), (right.to_vec(), vec![]), interface)
+}
+
+/// The rule set of one rule.
+pub fn call(number: u8) -> Command {
+    Command::RuleSet(vec![number])
+}
+
+pub fn looped(body: Command) -> Command {
+    Command::Loop(Box::new(body))
+}
+
+pub fn if_command(guard: Command, then: Command, other: Command) -> Command {
+    Command::If(Box::new(guard), Box::new(then), Box::new(other))
+}
+
+pub fn try_command(guard: Command, then: Command, other: Command) -> Command {
+    Command::Try(Box::new(guard), Box::new(then), Box::new(other))
+}
