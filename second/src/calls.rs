@@ -47,6 +47,17 @@ pub struct Outcome {
     pub report: Vec<u8>,
 }
 
+impl Outcome {
+    /// The steps and the records of the report, which has 8 bytes.
+    pub fn reported(&self) -> (u32, u32) {
+        let number = |at: usize| {
+            let four = self.report[at..at + 4].try_into();
+            u32::from_be_bytes(four.expect("four bytes"))
+        };
+        (number(0), number(4))
+    }
+}
+
 /// The call run at the base layout.
 pub fn run(
     nodes: &[u8],

@@ -86,11 +86,8 @@ pub fn run_input(input: &RunnerInput) -> Outcome {
 
 /// The listing of an outcome whose report has 8 bytes.
 pub fn listing_of(layout: &Layout, outcome: &Outcome) -> String {
-    let number = |at: usize| {
-        let four = outcome.report[at..at + 4].try_into();
-        u32::from_be_bytes(four.expect("four bytes"))
-    };
-    let (answer, steps, records) = (outcome.answer, number(0), number(4));
+    let answer = outcome.answer;
+    let (steps, records) = outcome.reported();
     let mut text = format!("answer {answer} steps {steps} records {records}\n");
     if answer == answer::RESULT {
         let host = Host::read(layout, &outcome.nodes, &outcome.edges);

@@ -6,7 +6,7 @@ mod matches;
 use std::fmt::Write;
 
 use crate::answer;
-use crate::calls::{self, Outcome};
+use crate::calls;
 use crate::corpus;
 use crate::encode::{self, field};
 use crate::layout::Layout;
@@ -85,7 +85,7 @@ pub fn undo_cases() -> Stored {
 /// Undo of a run's journal: all of its records, and all but the last.
 fn undone_after(run: &RunCall) -> Vec<UndoCall> {
     let left = run.outcome();
-    let records = records_of(&left);
+    let (_, records) = left.reported();
     if left.answer != answer::RESULT || records == 0 {
         return Vec::new();
     }
@@ -97,10 +97,6 @@ fn undone_after(run: &RunCall) -> Vec<UndoCall> {
         report: vec![7; calls::REPORT_BYTES],
     };
     vec![undo(records), undo(records - 1)]
-}
-
-fn records_of(left: &Outcome) -> u32 {
-    left.report[4..8].iter().fold(0, |number, byte| number << 8 | u32::from(*byte))
 }
 
 fn undo_case(call: &UndoCall) -> Vec<u8> {

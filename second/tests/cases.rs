@@ -21,3 +21,5 @@ mod matching;
 mod rules;
 #[path = "cases/undo.rs"]
 mod undo;
+
+mod report;

@@ -4,8 +4,11 @@
 #[path = "layouts/slots.rs"]
 mod slots;
 
+mod report;
+
+use report::numbers;
 use second::build::{call, node, node_rule};
-use second::calls::{Outcome, RunCall, UndoCall};
+use second::calls::{RunCall, UndoCall};
 use second::corpus;
 use second::encode::{self, RunnerInput};
 use second::host::{Edge, Host, Label, Node};
@@ -22,11 +25,6 @@ const SMALL: Layout = Layout {
     most_edges: 255,
     most_records: 255,
 };
-
-fn reported(outcome: &Outcome) -> (u32, u32, u32) {
-    let number = |at: usize| u32::from_be_bytes(outcome.report[at..at + 4].try_into().unwrap());
-    (outcome.answer, number(0), number(4))
-}
 
 /// A live root in slot 1 of three, a dashed edge from it to node 2 in slot 0 of two.
 fn graph() -> Host {
@@ -105,7 +103,7 @@ fn case_p_runs_at_the_small_layout_and_is_undone_there() {
         report: vec![0xEE; 8],
     };
     let after = call.outcome_at(&SMALL, &mut Unobserved);
-    assert_eq!(reported(&after), (0, 3, 4));
+    assert_eq!(numbers(&after), (0, 3, 4));
     assert_eq!(
         after.nodes,
         [[1, 1, 0, 1, 0, 0, 0, 5], [1, 3, 0, 1, 0, 0, 0, 12]].concat()
@@ -128,7 +126,7 @@ fn case_p_runs_at_the_small_layout_and_is_undone_there() {
         report: vec![0xEE; 8],
     }
     .outcome_at(&SMALL);
-    assert_eq!(reported(&undone), (0, 0, 4));
+    assert_eq!(numbers(&undone), (0, 0, 4));
     assert_eq!((undone.nodes, undone.edges), (call.nodes, call.edges));
     assert_eq!(undone.journal, [0; 5 * 12]);
 }
@@ -277,7 +275,7 @@ fn a_result_or_fail_of_the_small_layout_is_the_base_layouts() {
             continue;
         }
         let base = call_of(&Layout::BASE, &input).outcome();
-        assert_eq!(reported(&left), reported(&base));
+        assert_eq!(numbers(&left), numbers(&base));
         let after = Host::read(&SMALL, &left.nodes, &left.edges);
         assert_eq!(after, Host::read(&Layout::BASE, &base.nodes, &base.edges));
         match left.answer {

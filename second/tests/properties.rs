@@ -1,8 +1,10 @@
 //! What document 01 says of all runs, held against some ten thousand random small ones.
 
 mod common;
+mod report;
 
-use common::{reported, Draft, Sample};
+use common::{Draft, Sample};
+use report::numbers;
 use second::calls::{run, undo, Outcome};
 use second::corpus;
 use second::decode;
@@ -77,7 +79,7 @@ fn the_samples_exercise_what_they_should() {
 #[test]
 fn undoing_the_journal_of_a_result_restores_the_tables() {
     for (sample, after) in answered(0..=0) {
-        let (_, records) = reported(&after);
+        let (_, _, records) = numbers(&after);
         let undone = undo(
             &after.nodes,
             &after.edges,
@@ -138,7 +140,7 @@ fn more_room_and_fuel_change_nothing_after_0_1_and_6() {
 fn less_fuel_than_the_steps_answers_2_and_enough_fuel_changes_nothing() {
     for sample in samples() {
         let outcome = sample.outcome();
-        let (steps, _) = reported(&outcome);
+        let (_, steps, _) = numbers(&outcome);
         if outcome.answer == 2 {
             assert_eq!(steps, sample.fuel);
         }
@@ -152,11 +154,7 @@ fn less_fuel_than_the_steps_answers_2_and_enough_fuel_changes_nothing() {
                 ..sample.clone()
             };
             let outcome = less.outcome();
-            assert_eq!(
-                (outcome.answer, reported(&outcome)),
-                (2, (fuel, 0)),
-                "{less:#?}"
-            );
+            assert_eq!(numbers(&outcome), (2, fuel, 0), "{less:#?}");
         }
         let exact = Sample {
             fuel: steps,
@@ -172,7 +170,7 @@ fn answers_1_to_7_give_back_the_graph_and_a_zero_journal() {
         assert_eq!(outcome.nodes, sample.nodes);
         assert_eq!(outcome.edges, sample.edges);
         assert_eq!(outcome.journal, vec![0; sample.records * 28]);
-        assert_eq!(reported(&outcome).1, 0);
+        assert_eq!(numbers(&outcome).2, 0);
     }
 }
 
@@ -182,7 +180,7 @@ fn a_result_keeps_the_layout_and_its_journal_ends_in_zeros() {
         let host = Host::read(&Layout::BASE, &outcome.nodes, &outcome.edges).expect("the layout");
         assert_eq!(host.node_table(&Layout::BASE), outcome.nodes);
         assert_eq!(host.edge_table(&Layout::BASE), outcome.edges);
-        let (_, records) = reported(&outcome);
+        let (_, _, records) = numbers(&outcome);
         assert!(records as usize <= sample.records);
         let (counted, behind) = outcome.journal.split_at(records as usize * 28);
         assert!(counted

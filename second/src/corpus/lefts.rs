@@ -214,7 +214,7 @@ fn touches(host: &Host, edge: usize, nodes: &[usize]) -> bool {
     nodes.contains(&edge.source) || nodes.contains(&edge.target)
 }
 
-/// The mark of a left item that stands for one with this mark: any now and then.
+/// The mark of a left item that stands for one with this mark: seldom any.
 fn mark_or_any(random: &mut Random, mark: u8) -> u8 {
     if random.chance(14) {
         mark::ANY

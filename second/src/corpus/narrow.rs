@@ -9,17 +9,14 @@ use crate::random::Random;
 pub fn narrow(random: &mut Random, input: &mut RunnerInput) {
     input.records = LAYOUT.most_records as u16;
     let outcome = run_input(input);
+    let (steps, records) = outcome.reported();
     let less = random.pick(&[0, 0, 0, 1, 2]);
     match random.weighted(&[28, 18, 27, 27]) {
-        0 => input.fuel = reported(&outcome.report[..4]).saturating_sub(less),
-        1 => input.records = reported(&outcome.report[4..]).saturating_sub(less) as u16,
+        0 => input.fuel = steps.saturating_sub(less),
+        1 => input.records = records.saturating_sub(less) as u16,
         2 => cut(&mut input.nodes, &outcome.nodes, LAYOUT.node_length(), less),
         _ => cut(&mut input.edges, &outcome.edges, LAYOUT.edge_length(), less),
     }
-}
-
-fn reported(bytes: &[u8]) -> u32 {
-    u32::from_be_bytes(bytes.try_into().expect("four bytes"))
 }
 
 /// Leaves the table as many slots as the run used, less some, but none of its live slots is cut off.

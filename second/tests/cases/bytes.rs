@@ -1,5 +1,6 @@
 //! Images, slots and records written out byte by byte, runs on them, and what a run must leave.
 
+pub use crate::report::numbers;
 use second::calls::{run, Outcome};
 use second::encode;
 
@@ -45,12 +46,6 @@ pub fn field(tag: u8, payload: &[&[u8]]) -> Vec<u8> {
 pub fn run_on(nodes: &[u8], edges: &[u8], program: &[&[u8]], fuel: u32) -> Outcome {
     let journal = vec![0xEE; AMPLE_RECORDS * 28];
     run(nodes, edges, &journal, &program.concat(), fuel, &[0xEE; 8])
-}
-
-pub fn numbers(outcome: &Outcome) -> (u32, u32, u32) {
-    let number = |at: usize| u32::from_be_bytes(outcome.report[at..at + 4].try_into().unwrap());
-    assert_eq!(outcome.report.len(), 8);
-    (outcome.answer, number(0), number(4))
 }
 
 /// The journal that holds these records and zeros behind them.

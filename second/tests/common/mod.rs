@@ -87,12 +87,6 @@ impl Draft {
     }
 }
 
-/// Steps and records of a report.
-pub fn reported(outcome: &Outcome) -> (u32, u32) {
-    let number = |at: usize| u32::from_be_bytes(outcome.report[at..at + 4].try_into().unwrap());
-    (number(0), number(4))
-}
-
 fn host(random: &mut Random) -> Host {
     let mut host = Host::default();
     for _ in 0..random.between(0, 6) {
