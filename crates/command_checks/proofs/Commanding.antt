@@ -16,7 +16,7 @@ use Rattle.meaning.specs.Image.{Command, ruleSet, sequence, guarded, loop, skip
 use Rattle.meaning.specs.References.{rulesExist, allRulesExist}
 use Rattle.meaning.specs.Placement.{breaksLie, allBreaksLie, placement}
 use Rattle.meaning.specs.Laws.Tests.{both-yes, both-no, both-last, choose-eq, choose-ne}
-use Rattle.fields.specs.Parsed.{command-tag, command-50, command-51, command-52, command-53, command-54, command-55, command-56, command-57}
+use Rattle.fields.specs.Parsed.{command-tag, rule-set-read, sequence-read, if-read, try-read, loop-read, skip-read, fail-read, break-read}
 use Rattle.fields.specs.Laws.{Lies, past}
 use Rattle.command_checks.specs.declared.Demand.{Demand}
 use Rattle.command_checks.specs.declared.Demand.the-variants.{Rules, Breaks}
@@ -77,11 +77,11 @@ module _ (d : Demand) (n tag : ℕ) (bs : List ℕ) where
 
   rule-set-is : (r : Bool) → r ≡ numbersAsked d bs → tag ≡ 0x50 → For (command (suc n) tag bs) (λ c. r ≡ commandAsked d c)
   unfolding commandAsked
-  rule-set-is r q h c e = rw (command-50 n tag bs c e h .0) q
+  rule-set-is r q h c e = rw (rule-set-read n tag bs c e h .0) q
 
   break-is : (r : Bool) → r ≡ breakAsked d → tag ≡ 0x57 → For (command (suc n) tag bs) (λ c. r ≡ commandAsked d c)
   unfolding commandAsked
-  break-is r q h c e = rw (command-57 n tag bs c e h .1) q
+  break-is r q h c e = rw (break-read n tag bs c e h .1) q
 
   module _ (r : Bool) (q : For (only anyTag (command n) 16 bs) (λ l. r ≡ partsAsked (ofFirst d tag) d l)) where
     -- what is asked of the parts, where it is known what is asked of the first
@@ -96,7 +96,7 @@ module _ (d : Demand) (n tag : ℕ) (bs : List ℕ) where
       of-sequence : tag ≡ 0x51 → r ≡ commandAsked d c
       unfolding commandAsked ofFirst
       of-sequence h =
-          let s = command-51 n tag bs c e h in
+          let s = sequence-read n tag bs c e h in
           let f = choose-ne tag 0x54 _ _ (λ x. omega arith) ∙ choose-eq tag 0x51 _ _ h in
           of-parts d f (s .0) (s .1) ∙ sequence-parts d (s .0) ∙ ap (commandAsked d) (sym (s .4))
 
@@ -109,7 +109,7 @@ module _ (d : Demand) (n tag : ℕ) (bs : List ℕ) where
       of-loop : tag ≡ 0x54 → r ≡ commandAsked d c
       unfolding commandAsked partsAsked ofFirst
       of-loop h =
-          let s = command-54 n tag bs c e h in
+          let s = loop-read n tag bs c e h in
           rw (s .2) (of-parts (inBody d) (choose-eq tag 0x54 _ _ h) _ (s .1) ∙ sym (both-last _))
 
     parts-is : (tag ≡ 0x50 → ⊥) → (tag ≡ 0x57 → ⊥) → For (command (suc n) tag bs) (λ c. r ≡ commandAsked d c)
@@ -118,11 +118,11 @@ module _ (d : Demand) (n tag : ℕ) (bs : List ℕ) where
       where
         at : Dec (tag ≡ 0x51) → Dec (tag ≡ 0x52) → Dec (tag ≡ 0x53) → Dec (tag ≡ 0x54) → Dec (tag ≡ 0x55) → Dec (tag ≡ 0x56) → r ≡ commandAsked d c
         at (yes h1) k2 k3 k4 k5 k6 = of-sequence c e h1
-        at (no h1) (yes h2) k3 k4 k5 k6 = of-guarded c e false h1 (λ x. omega arith) (command-52 n tag bs c e h2)
-        at (no h1) (no h2) (yes h3) k4 k5 k6 = of-guarded c e true h1 (λ x. omega arith) (command-53 n tag bs c e h3)
+        at (no h1) (yes h2) k3 k4 k5 k6 = of-guarded c e false h1 (λ x. omega arith) (if-read n tag bs c e h2)
+        at (no h1) (no h2) (yes h3) k4 k5 k6 = of-guarded c e true h1 (λ x. omega arith) (try-read n tag bs c e h3)
         at (no h1) (no h2) (no h3) (yes h4) k5 k6 = of-loop c e h4
-        at (no h1) (no h2) (no h3) (no h4) (yes h5) k6 = let t = command-55 n tag bs c e h5 in bare (t .0) ∙ ap (commandAsked d) (sym (t .1))
-        at (no h1) (no h2) (no h3) (no h4) (no h5) (yes h6) = let t = command-56 n tag bs c e h6 in bare (t .0) ∙ ap (commandAsked d) (sym (t .1))
+        at (no h1) (no h2) (no h3) (no h4) (yes h5) k6 = let t = skip-read n tag bs c e h5 in bare (t .0) ∙ ap (commandAsked d) (sym (t .1))
+        at (no h1) (no h2) (no h3) (no h4) (no h5) (yes h6) = let t = fail-read n tag bs c e h6 in bare (t .0) ∙ ap (commandAsked d) (sym (t .1))
         at (no h1) (no h2) (no h3) (no h4) (no h5) (no h6) =
             let t = command-tag (suc n) tag bs c e in
             absurd (behind-all (t .2) (past 0x54 tag h4 h5 h6 h7 (past 0x50 tag h0 h1 h2 h3 (t .1))))

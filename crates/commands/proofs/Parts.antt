@@ -13,7 +13,7 @@ use Rattle.meaning.specs.Image.{limits, Command, ruleSet, sequence, guarded, lo
 use Rattle.meaning.specs.References.{rulesExist, allRulesExist, references}
 use Rattle.meaning.specs.Laws.Tests.{both-true, every-true}
 use Rattle.fields.specs.Image.{field-is}
-use Rattle.fields.specs.Parsed.{command-tag, command-50, command-51, command-52, command-53, command-54, command-55, command-56, command-57}
+use Rattle.fields.specs.Parsed.{command-tag, rule-set-read, sequence-read, if-read, try-read, loop-read, skip-read, fail-read, break-read}
 use Rattle.meaning.specs.declared.End.{End}
 use Rattle.meaning.specs.declared.End.the-variants.{Done, Failed, Broke, Stopped}
 use Rattle.fields.specs.Fields.{fieldAt, onward, nthField}
@@ -60,7 +60,7 @@ module _ {image : List ℕ} {tag : ℕ} {bs : List ℕ} (w : Known image tag bs)
   -- Rule sets.
 
   pub rule-set-is : tag ≡ ruleSetTag → w .cmd ≡ ruleSet bs
-  rule-set-is h = command-50 (w .deep - 1) tag bs (w .cmd) deeper h .0
+  rule-set-is h = rule-set-read (w .deep - 1) tag bs (w .cmd) deeper h .0
 
   pub listed : tag ≡ ruleSetTag → Listed image bs
   unfolding rulesExist
@@ -71,7 +71,7 @@ module _ {image : List ℕ} {tag : ℕ} {bs : List ℕ} (w : Known image tag bs)
   unfoldable pub row-of : tag ≡ sequenceTag → Row 1 image bs
   unfolding rulesExist
   row-of h =
-      let s = command-51 (w .deep - 1) tag bs (w .cmd) deeper h in
+      let s = sequence-read (w .deep - 1) tag bs (w .cmd) deeper h in
       record {
         programmed = w .programmed;
         deep = w .deep - 1;
@@ -83,14 +83,14 @@ module _ {image : List ℕ} {tag : ℕ} {bs : List ℕ} (w : Known image tag bs)
 
   pub row-is : (h : tag ≡ sequenceTag) → w .cmd ≡ sequence (inOrder (row-of h .cmds))
   unfolding row-of
-  row-is h = command-51 (w .deep - 1) tag bs (w .cmd) deeper h .4
+  row-is h = sequence-read (w .deep - 1) tag bs (w .cmd) deeper h .4
 
   -- If and try.
 
   pub three : (keep : Bool) → tag ≡ choose keep tryTag ifTag → (a b c : Command) × (only anyTag (command (w .deep - 1)) (limits .commands) bs ≡ some (a ∷ b ∷ c ∷ [])) × (w .cmd ≡ guarded keep a b c)
   unfolding choose
-  three true h = command-53 (w .deep - 1) tag bs (w .cmd) deeper h
-  three false h = command-52 (w .deep - 1) tag bs (w .cmd) deeper h
+  three true h = try-read (w .deep - 1) tag bs (w .cmd) deeper h
+  three false h = if-read (w .deep - 1) tag bs (w .cmd) deeper h
 
   unfoldable pub guarded-of : (keep : Bool) → tag ≡ choose keep tryTag ifTag → Row 3 image bs
   unfolding rulesExist every both
@@ -117,7 +117,7 @@ module _ {image : List ℕ} {tag : ℕ} {bs : List ℕ} (w : Known image tag bs)
   unfoldable pub loop-of : tag ≡ loopTag → Row 1 image bs
   unfolding rulesExist every both
   loop-of h =
-      let s = command-54 (w .deep - 1) tag bs (w .cmd) deeper h in
+      let s = loop-read (w .deep - 1) tag bs (w .cmd) deeper h in
       record {
         programmed = w .programmed;
         deep = w .deep - 1;
@@ -129,14 +129,14 @@ module _ {image : List ℕ} {tag : ℕ} {bs : List ℕ} (w : Known image tag bs)
 
   pub loop-is : (h : tag ≡ loopTag) → w .cmd ≡ loop (at (loop-of h) 0)
   unfolding loop-of
-  loop-is h = command-54 (w .deep - 1) tag bs (w .cmd) deeper h .2
+  loop-is h = loop-read (w .deep - 1) tag bs (w .cmd) deeper h .2
 
   -- Skip, fail and break.
 
   pub leaf-is : (e : End) → LeafTag tag e → w .cmd ≡ leafOf e
-  leaf-is Done h = command-55 (w .deep - 1) tag bs (w .cmd) deeper h .1
-  leaf-is Failed h = command-56 (w .deep - 1) tag bs (w .cmd) deeper h .1
-  leaf-is Broke h = command-57 (w .deep - 1) tag bs (w .cmd) deeper h .1
+  leaf-is Done h = skip-read (w .deep - 1) tag bs (w .cmd) deeper h .1
+  leaf-is Failed h = fail-read (w .deep - 1) tag bs (w .cmd) deeper h .1
+  leaf-is Broke h = break-read (w .deep - 1) tag bs (w .cmd) deeper h .1
   leaf-is (Stopped r) h = absurd h
 
 -- Shorter parts.

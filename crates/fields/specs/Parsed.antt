@@ -13,7 +13,7 @@ use lib.ListN.{length, getD, drop}
 use Rattle.meaning.specs.Basics.{either, every, isEmpty, _>>=_}
 use Rattle.meaning.specs.Numbers.{number}
 use Rattle.meaning.specs.Layout.{isNodeMark, isEdgeMark}
-use Rattle.meaning.specs.Image.{RuleEdge, RuleGraph, Program, Commands, stop, then, inOrder, RuleNode, Rule, Command, Field, Read, Pair, field, expect, leading, only, anyTag, constant, oneByte, operand, asPair, twoOperands, element, label, ruleNode, ruleEdge, ruleGraph, relation, condition, test, isType, types, rule, leaf, asRuleSet, asSequence, asGuarded, asLoop, command}
+use Rattle.meaning.specs.Image.{limits, RuleEdge, RuleGraph, Program, Commands, stop, then, inOrder, RuleNode, Rule, Command, Field, Read, Pair, field, expect, leading, only, anyTag, constant, oneByte, operand, asPair, twoOperands, element, label, ruleNode, ruleEdge, ruleGraph, relation, condition, test, isType, types, rule, leaf, asRuleSet, asSequence, asGuarded, asLoop, command}
 use Rattle.meaning.specs.Tags.{anyMark, breakTag, constantTag, differenceTag, edgeTag, edgeTestTag, failTag, ifTag, inDegreeTag, interfaceTag, leftTag, loopTag, nodeTag, outDegreeTag, rightTag, ruleSetTag, ruleTag, sequenceTag, skipTag, sumTag, testsTag, tryTag, variableTag, variablesTag}
 use Rattle.meaning.specs.Image.Command.{ruleSet, sequence, guarded, loop, skip, fail, break}
 use Rattle.meaning.specs.declared.Operand.{Operand}
@@ -110,9 +110,9 @@ module _ (bs : List ℕ) where
   unfolding oneByte
   oneByte-is v e = let t = ensure-some _ _ v e in (eqb-true _ _ (t .0), sym (some-inj _ v (t .1)))
 
-  pub label-few : (l : List Element) → label bs ≡ some l → length l ≤ 4
+  pub label-few : (l : List Element) → label bs ≡ some l → length l ≤ limits .elements
   unfolding label
-  label-few l e = only-few anyTag element 4 bs l e
+  label-few l e = only-few anyTag element (limits .elements) bs l e
 
   pub twoOperands-is : (p : Pair) → twoOperands bs ≡ some p → only anyTag operand 2 bs ≡ some (p .first ∷ p .second ∷ [])
   unfolding twoOperands
@@ -121,43 +121,43 @@ module _ (bs : List ℕ) where
       t .1 ∙ ap some (pair-is (t .0) p (t .2))
 
 module _ (tag : ℕ) (bs : List ℕ) where
-  pub operand-30 : (x : Operand) → tag ≡ constantTag → operand tag bs ≡ some x → (length bs ≡ 4) × (x ≡ constantOperand (number bs))
+  pub constant-operand-read : (x : Operand) → tag ≡ constantTag → operand tag bs ≡ some x → (length bs ≡ 4) × (x ≡ constantOperand (number bs))
   unfolding operand
-  operand-30 x h e =
+  constant-operand-read x h e =
       let t = bind-some (constant bs) _ x (sym (choose-eq tag constantTag _ _ h) ∙ e) in
       let c = constant-is bs (t .0) (t .1) in
       (c .0, sym (some-inj _ x (t .2)) ∙ ap constantOperand (c .1))
 
-  pub operand-31 : (x : Operand) → tag ≡ variableTag → operand tag bs ≡ some x → (length bs ≡ 1) × (x ≡ variableOperand (getD bs 0 0))
+  pub variable-operand-read : (x : Operand) → tag ≡ variableTag → operand tag bs ≡ some x → (length bs ≡ 1) × (x ≡ variableOperand (getD bs 0 0))
   unfolding operand
-  operand-31 x h e =
+  variable-operand-read x h e =
       let t = bind-some (oneByte bs) _ x (sym (choose-ne tag constantTag _ _ (λ q. omega arith) ∙ choose-eq tag variableTag _ _ h) ∙ e) in
       let c = oneByte-is bs (t .0) (t .1) in
       (c .0, sym (some-inj _ x (t .2)) ∙ ap variableOperand (c .1))
 
-  pub element-30 : (x : Element) → tag ≡ constantTag → element tag bs ≡ some x → (length bs ≡ 4) × (x ≡ Constant (number bs))
+  pub constant-read : (x : Element) → tag ≡ constantTag → element tag bs ≡ some x → (length bs ≡ 4) × (x ≡ Constant (number bs))
   unfolding element
-  element-30 x h e =
+  constant-read x h e =
       let t = bind-some (constant bs) _ x (sym (choose-eq tag constantTag _ _ h) ∙ e) in
       let c = constant-is bs (t .0) (t .1) in
       (c .0, sym (some-inj _ x (t .2)) ∙ ap Constant (c .1))
 
-  pub element-31 : (x : Element) → tag ≡ variableTag → element tag bs ≡ some x → (length bs ≡ 1) × (x ≡ Variable (getD bs 0 0))
+  pub variable-read : (x : Element) → tag ≡ variableTag → element tag bs ≡ some x → (length bs ≡ 1) × (x ≡ Variable (getD bs 0 0))
   unfolding element
-  element-31 x h e =
+  variable-read x h e =
       let t = bind-some (oneByte bs) _ x (sym (choose-ne tag constantTag _ _ (λ q. omega arith) ∙ choose-eq tag variableTag _ _ h) ∙ e) in
       let c = oneByte-is bs (t .0) (t .1) in
       (c .0, sym (some-inj _ x (t .2)) ∙ ap Variable (c .1))
 
-  pub element-32 : (x : Element) → tag ≡ sumTag → element tag bs ≡ some x → (p : Pair) × (twoOperands bs ≡ some p) × (x ≡ Sum (p .first) (p .second))
+  pub sum-read : (x : Element) → tag ≡ sumTag → element tag bs ≡ some x → (p : Pair) × (twoOperands bs ≡ some p) × (x ≡ Sum (p .first) (p .second))
   unfolding element
-  element-32 x h e =
+  sum-read x h e =
       let t = bind-some (twoOperands bs) _ x (sym (choose-ne tag constantTag _ _ (λ q. omega arith) ∙ choose-ne tag variableTag _ _ (λ q. omega arith) ∙ choose-eq tag sumTag _ _ h) ∙ e) in
       (t .0, t .1, sym (some-inj _ x (t .2)))
 
-  pub element-33 : (x : Element) → tag ≡ differenceTag → element tag bs ≡ some x → (p : Pair) × (twoOperands bs ≡ some p) × (x ≡ Difference (p .first) (p .second))
+  pub difference-read : (x : Element) → tag ≡ differenceTag → element tag bs ≡ some x → (p : Pair) × (twoOperands bs ≡ some p) × (x ≡ Difference (p .first) (p .second))
   unfolding element
-  element-33 x h e =
+  difference-read x h e =
       let t = bind-some (twoOperands bs) _ x (sym (choose-ne tag constantTag _ _ (λ q. omega arith) ∙ choose-ne tag variableTag _ _ (λ q. omega arith) ∙ choose-ne tag sumTag _ _ (λ q. omega arith) ∙ choose-eq tag differenceTag _ _ h) ∙ e) in
       (t .0, t .1, sym (some-inj _ x (t .2)))
 
@@ -198,17 +198,17 @@ ruleEdge-is bs x e =
 
 pub record IsGraph (bs : List ℕ) (x : RuleGraph) : Type 0 where
   pub behind : List ℕ
-  pub nodes : leading (eqb nodeTag) (λ tag. ruleNode) 6 bs ≡ some (record { items = x .nodes; rest = behind })
-  pub edges : only (eqb edgeTag) (λ tag. ruleEdge) 6 behind ≡ some (x .edges)
-  pub fewNodes : length (x .nodes) ≤ 6
-  pub fewEdges : length (x .edges) ≤ 6
+  pub nodes : leading (eqb nodeTag) (λ tag. ruleNode) (limits .nodes) bs ≡ some (record { items = x .nodes; rest = behind })
+  pub edges : only (eqb edgeTag) (λ tag. ruleEdge) (limits .edges) behind ≡ some (x .edges)
+  pub fewNodes : length (x .nodes) ≤ limits .nodes
+  pub fewEdges : length (x .edges) ≤ limits .edges
 
 pub ruleGraph-is : (bs : List ℕ) (x : RuleGraph) → ruleGraph bs ≡ some x → IsGraph bs x
 unfolding ruleGraph
 ruleGraph-is bs x e =
-    let t = bind-some (leading (eqb nodeTag) (λ tag. ruleNode) 6 bs) _ x e in
-    let u = bind-some (only (eqb edgeTag) (λ tag. ruleEdge) 6 (t .0 .rest)) _ x (t .2) in
-    rw (← (some-inj _ x (u .2))) (record { behind = t .0 .rest; nodes = t .1; edges = u .1; fewNodes = leading-led _ _ 6 bs (t .0) (t .1) .few; fewEdges = only-few _ _ 6 (t .0 .rest) (u .0) (u .1) })
+    let t = bind-some (leading (eqb nodeTag) (λ tag. ruleNode) (limits .nodes) bs) _ x e in
+    let u = bind-some (only (eqb edgeTag) (λ tag. ruleEdge) (limits .edges) (t .0 .rest)) _ x (t .2) in
+    rw (← (some-inj _ x (u .2))) (record { behind = t .0 .rest; nodes = t .1; edges = u .1; fewNodes = leading-led _ _ (limits .nodes) bs (t .0) (t .1) .few; fewEdges = only-few _ _ 6 (t .0 .rest) (u .0) (u .1) })
 
 -- Tests.
 
@@ -227,21 +227,21 @@ test-is tag bs x e =
     rw (← (some-inj _ x (w .2))) (record { long = leb-true _ _ (t .0); flag = leb-true _ _ (u .0); negated = refl; condition = w .1 })
 
 module _ (tag : ℕ) (bs : List ℕ) (x : Condition) (e : condition tag bs ≡ some x) where
-  pub condition-40 : tag ≡ edgeTestTag → (length bs ≡ 2) × (x ≡ Edge (getD bs 0 0) (getD bs 1 0))
+  pub edge-test-read : tag ≡ edgeTestTag → (length bs ≡ 2) × (x ≡ Edge (getD bs 0 0) (getD bs 1 0))
   unfolding condition
-  condition-40 h =
+  edge-test-read h =
       let t = ensure-some _ _ x (sym (choose-eq tag edgeTestTag _ _ h) ∙ e) in
       (eqb-true _ _ (t .0), sym (some-inj _ x (t .1)))
 
-  pub condition-41 : tag ≡ inDegreeTag → (length bs ≡ 3) × (x ≡ InDegree (getD bs 0 0) (number (drop 1 bs)))
+  pub in-degree-read : tag ≡ inDegreeTag → (length bs ≡ 3) × (x ≡ InDegree (getD bs 0 0) (number (drop 1 bs)))
   unfolding condition
-  condition-41 h =
+  in-degree-read h =
       let t = ensure-some _ _ x (sym (choose-ne tag edgeTestTag _ _ (λ q. omega arith) ∙ choose-eq tag inDegreeTag _ _ h) ∙ e) in
       (eqb-true _ _ (t .0), sym (some-inj _ x (t .1)))
 
-  pub condition-42 : tag ≡ outDegreeTag → (length bs ≡ 3) × (x ≡ OutDegree (getD bs 0 0) (number (drop 1 bs)))
+  pub out-degree-read : tag ≡ outDegreeTag → (length bs ≡ 3) × (x ≡ OutDegree (getD bs 0 0) (number (drop 1 bs)))
   unfolding condition
-  condition-42 h =
+  out-degree-read h =
       let t = ensure-some _ _ x (sym (choose-ne tag edgeTestTag _ _ (λ q. omega arith) ∙ choose-ne tag inDegreeTag _ _ (λ q. omega arith) ∙ choose-eq tag outDegreeTag _ _ h) ∙ e) in
       (eqb-true _ _ (t .0), sym (some-inj _ x (t .1)))
 
@@ -267,7 +267,7 @@ relation-kind kind p x e = at (ℕ-discrete kind 1) (ℕ-discrete kind 2)
 
 -- Rules.
 
-pub types-is : (bs l : List ℕ) → types bs ≡ some l → (l ≡ bs) × (length bs ≤ 6) × (every isType bs ≡ true)
+pub types-is : (bs l : List ℕ) → types bs ≡ some l → (l ≡ bs) × (length bs ≤ limits .variables) × (every isType bs ≡ true)
 unfolding types
 types-is bs l e =
     let t = ensure-some _ _ l e in
@@ -290,7 +290,7 @@ pub record IsRule (bs : List ℕ) (x : Rule) : Type 0 where
   pub left : ruleGraph (l .payload) ≡ some (x .left)
   pub right : ruleGraph (r .payload) ≡ some (x .right)
   pub interface : oneByte (k .payload) ≡ some (x .interface)
-  pub tests : only anyTag test 4 (t .payload) ≡ some (x .tests)
+  pub tests : only anyTag test (limits .tests) (t .payload) ≡ some (x .tests)
 
 pub rule-is : (bs : List ℕ) (x : Rule) → rule bs ≡ some x → IsRule bs x
 unfolding rule
@@ -305,16 +305,16 @@ rule-is bs x e =
     let b = bind-some (ruleGraph (l .0 .payload)) _ x (a .2) in
     let c = bind-some (ruleGraph (r .0 .payload)) _ x (b .2) in
     let d = bind-some (oneByte (k .0 .payload)) _ x (c .2) in
-    let f = bind-some (only anyTag test 4 (t .0 .payload)) _ x (d .2) in
+    let f = bind-some (only anyTag test (limits .tests) (t .0 .payload)) _ x (d .2) in
     rw (← (some-inj _ x (f .2))) (record { v = v .0; l = l .0; r = r .0; k = k .0; t = t .0; at-v = v .1; at-l = l .1; at-r = r .1; at-k = k .1; at-t = t .1; last = empty-true _ (z .0); variables = a .1; left = b .1; right = c .1; interface = d .1; tests = f .1 })
 
 pub record Few (x : Rule) : Type 0 where
-  pub variables : length (x .variables) ≤ 6
-  pub leftNodes : length (x .left .nodes) ≤ 6
-  pub leftEdges : length (x .left .edges) ≤ 6
-  pub rightNodes : length (x .right .nodes) ≤ 6
-  pub rightEdges : length (x .right .edges) ≤ 6
-  pub tests : length (x .tests) ≤ 4
+  pub variables : length (x .variables) ≤ limits .variables
+  pub leftNodes : length (x .left .nodes) ≤ limits .nodes
+  pub leftEdges : length (x .left .edges) ≤ limits .edges
+  pub rightNodes : length (x .right .nodes) ≤ limits .nodes
+  pub rightEdges : length (x .right .edges) ≤ limits .edges
+  pub tests : length (x .tests) ≤ limits .tests
 
 pub rule-few : (bs : List ℕ) (x : Rule) → rule bs ≡ some x → Few x
 rule-few bs x e =
@@ -350,45 +350,45 @@ unfolding leaf
 leaf-is c bs x e = let t = ensure-some _ _ x e in (empty-true bs (t .0), sym (some-inj c x (t .1)))
 
 module _ (n tag : ℕ) (bs : List ℕ) (x : Command) (e : command (suc n) tag bs ≡ some x) where
-  pub command-50 : tag ≡ ruleSetTag → (x ≡ ruleSet bs) × (1 ≤ length bs) × (length bs ≤ 8)
+  pub rule-set-read : tag ≡ ruleSetTag → (x ≡ ruleSet bs) × (1 ≤ length bs) × (length bs ≤ limits .numbers)
   unfolding asRuleSet
-  command-50 h =
+  rule-set-read h =
       let t = ensure-some _ _ x (sym (command-ruleSet n tag bs h) ∙ e) in
       let b = both-true (leb 1 (length bs)) _ (t .0) in
       (sym (some-inj _ x (t .1)), leb-true _ _ (b .0), leb-true _ _ (b .1))
 
-  pub command-51 : tag ≡ sequenceTag → (l : List Command) × (only anyTag (command n) 16 bs ≡ some l) × (1 ≤ length l) × (length l ≤ 16) × (x ≡ sequence (inOrder l))
-  command-51 h =
-      let t = bind-some (only anyTag (command n) 16 bs) _ x (sym (command-sequence n tag bs h) ∙ e) in
+  pub sequence-read : tag ≡ sequenceTag → (l : List Command) × (only anyTag (command n) (limits .commands) bs ≡ some l) × (1 ≤ length l) × (length l ≤ limits .commands) × (x ≡ sequence (inOrder l))
+  sequence-read h =
+      let t = bind-some (only anyTag (command n) (limits .commands) bs) _ x (sym (command-sequence n tag bs h) ∙ e) in
       let s = asSequence-is (t .0) x (t .2) in
-      (t .0, t .1, s .0, only-few anyTag (command n) 16 bs (t .0) (t .1), s .1)
+      (t .0, t .1, s .0, only-few anyTag (command n) (limits .commands) bs (t .0) (t .1), s .1)
 
-  three : (keep : Bool) → command (suc n) tag bs ≡ (only anyTag (command n) 16 bs >>= asGuarded keep) → (a b c : Command) × (only anyTag (command n) 16 bs ≡ some (a ∷ b ∷ c ∷ [])) × (x ≡ guarded keep a b c)
+  three : (keep : Bool) → command (suc n) tag bs ≡ (only anyTag (command n) (limits .commands) bs >>= asGuarded keep) → (a b c : Command) × (only anyTag (command n) (limits .commands) bs ≡ some (a ∷ b ∷ c ∷ [])) × (x ≡ guarded keep a b c)
   three keep h =
-      let t = bind-some (only anyTag (command n) 16 bs) _ x (sym h ∙ e) in
+      let t = bind-some (only anyTag (command n) (limits .commands) bs) _ x (sym h ∙ e) in
       let s = asGuarded-is keep (t .0) x (t .2) in
       (s .0, s .1, s .2, t .1 ∙ ap some (s .3), s .4)
 
-  pub command-52 : tag ≡ ifTag → (a b c : Command) × (only anyTag (command n) 16 bs ≡ some (a ∷ b ∷ c ∷ [])) × (x ≡ guarded false a b c)
-  command-52 h = three false (command-if n tag bs h)
+  pub if-read : tag ≡ ifTag → (a b c : Command) × (only anyTag (command n) (limits .commands) bs ≡ some (a ∷ b ∷ c ∷ [])) × (x ≡ guarded false a b c)
+  if-read h = three false (command-if n tag bs h)
 
-  pub command-53 : tag ≡ tryTag → (a b c : Command) × (only anyTag (command n) 16 bs ≡ some (a ∷ b ∷ c ∷ [])) × (x ≡ guarded true a b c)
-  command-53 h = three true (command-try n tag bs h)
+  pub try-read : tag ≡ tryTag → (a b c : Command) × (only anyTag (command n) (limits .commands) bs ≡ some (a ∷ b ∷ c ∷ [])) × (x ≡ guarded true a b c)
+  try-read h = three true (command-try n tag bs h)
 
-  pub command-54 : tag ≡ loopTag → (c : Command) × (only anyTag (command n) 16 bs ≡ some (c ∷ [])) × (x ≡ loop c)
-  command-54 h =
-      let t = bind-some (only anyTag (command n) 16 bs) _ x (sym (command-loop n tag bs h) ∙ e) in
+  pub loop-read : tag ≡ loopTag → (c : Command) × (only anyTag (command n) (limits .commands) bs ≡ some (c ∷ [])) × (x ≡ loop c)
+  loop-read h =
+      let t = bind-some (only anyTag (command n) (limits .commands) bs) _ x (sym (command-loop n tag bs h) ∙ e) in
       let s = asLoop-is (t .0) x (t .2) in
       (s .0, t .1 ∙ ap some (s .1), s .2)
 
-  pub command-55 : tag ≡ skipTag → (bs ≡ []) × (x ≡ skip)
-  command-55 h = leaf-is skip bs x (sym (command-skip n tag bs h) ∙ e)
+  pub skip-read : tag ≡ skipTag → (bs ≡ []) × (x ≡ skip)
+  skip-read h = leaf-is skip bs x (sym (command-skip n tag bs h) ∙ e)
 
-  pub command-56 : tag ≡ failTag → (bs ≡ []) × (x ≡ fail)
-  command-56 h = leaf-is fail bs x (sym (command-fail n tag bs h) ∙ e)
+  pub fail-read : tag ≡ failTag → (bs ≡ []) × (x ≡ fail)
+  fail-read h = leaf-is fail bs x (sym (command-fail n tag bs h) ∙ e)
 
-  pub command-57 : tag ≡ breakTag → (bs ≡ []) × (x ≡ break)
-  command-57 h = leaf-is break bs x (sym (command-break n tag bs h) ∙ e)
+  pub break-read : tag ≡ breakTag → (bs ≡ []) × (x ≡ break)
+  break-read h = leaf-is break bs x (sym (command-break n tag bs h) ∙ e)
 
 -- a command has a tag, and there is depth for it
 pub command-tag : (n tag : ℕ) (bs : List ℕ) (x : Command) → command n tag bs ≡ some x → (0 < n) × (ruleSetTag ≤ tag) × (tag ≤ breakTag)
@@ -429,9 +429,9 @@ unfoldable mutual
 
 pub record IsProgram (bs : List ℕ) (x : Program) : Type 0 where
   pub behind : List ℕ
-  pub rules : leading (eqb ruleTag) (λ tag. rule) 32 bs ≡ some (record { items = x .rules; rest = behind })
-  pub few : length (x .rules) ≤ 32
+  pub rules : leading (eqb ruleTag) (λ tag. rule) (limits .rules) bs ≡ some (record { items = x .rules; rest = behind })
+  pub few : length (x .rules) ≤ limits .rules
   pub whole : Field
   pub at-command : field behind ≡ some whole
   pub last : whole .rest ≡ []
-  pub main : command 16 (whole .tag) (whole .payload) ≡ some (x .main)
+  pub main : command (limits .depth) (whole .tag) (whole .payload) ≡ some (x .main)

@@ -16,7 +16,7 @@ use Rattle.meaning.specs.Numbers.{number}
 use Rattle.meaning.specs.Image.{only, anyTag, constant, operand, twoOperands, element, relation, condition, test}
 use Rattle.meaning.specs.Laws.Tests.{some-inj, bind-some, ensure-some, ensure-yes}
 use Rattle.fields.specs.Image.{operand-other, element-other, condition-relation, condition-other}
-use Rattle.fields.specs.Parsed.{constant-is, twoOperands-is, operand-30, operand-31, element-30, element-31, element-32, element-33, test-is, condition-40, condition-41, condition-42, relation-1, relation-2, relation-kind}
+use Rattle.fields.specs.Parsed.{constant-is, twoOperands-is, constant-operand-read, variable-operand-read, constant-read, variable-read, sum-read, difference-read, test-is, edge-test-read, in-degree-read, out-degree-read, relation-1, relation-2, relation-kind}
 use Rattle.meaning.specs.declared.Operand.{Operand}
 use Rattle.meaning.specs.declared.Operand.the-variants.{Constant as constantOperand, Variable as variableOperand}
 use Rattle.meaning.specs.declared.Element.the-variants.{Constant, Variable, Sum, Difference}
@@ -59,14 +59,14 @@ never h e = let z : _≡_ {A = ℕ} 0 1 = cc in absurd (omega arith)
 module _ (tag : ℕ) (bs : List ℕ) where
   pub operand-first : (w : ℕ) → tag ≡ constantTag → For (constant bs) (λ c. w ≡ c) → For (operand tag bs) (λ o. constantOperand w ≡ o)
   operand-first w h q o e =
-      let t = operand-30 tag bs o h e in
+      let t = constant-operand-read tag bs o h e in
       ap constantOperand (q (number bs) (constant-there bs (t .0))) ∙ sym (t .1)
 
   pub operand-second : (v : ℕ) → (tag ≡ constantTag → ⊥) → v ≡ getD bs 0 0 → For (operand tag bs) (λ o. variableOperand v ≡ o)
   operand-second v h q o e = at (ℕ-discrete tag variableTag)
     where
       at : Dec (tag ≡ variableTag) → variableOperand v ≡ o
-      at (yes k) = ap variableOperand q ∙ sym (operand-31 tag bs o k e .1)
+      at (yes k) = ap variableOperand q ∙ sym (variable-operand-read tag bs o k e .1)
       at (no k) = never (operand-other tag bs h k) e
 
 -- the operand of number n, where there are two
@@ -84,7 +84,7 @@ module _ (bs : List ℕ) (a b : Operand) (ha : Nth bs 0 a) (hb : Nth bs 1 b) whe
   module _ (tag : ℕ) where
     pub element-sum-is : tag ≡ sumTag → For (element tag bs) (λ e. Sum a b ≡ e)
     element-sum-is h e q =
-        let t = element-32 tag bs e h q in
+        let t = sum-read tag bs e h q in
         let u = pair-is (t .0) (t .1) in
         rw (u .0, u .1) (sym (t .2))
 
@@ -93,7 +93,7 @@ module _ (bs : List ℕ) (a b : Operand) (ha : Nth bs 0 a) (hb : Nth bs 1 b) whe
       where
         at : Dec (tag ≡ differenceTag) → Difference a b ≡ e
         at (yes h) =
-            let t = element-33 tag bs e h q in
+            let t = difference-read tag bs e h q in
             let u = pair-is (t .0) (t .1) in
             rw (u .0, u .1) (sym (t .2))
         at (no h) = never (element-other tag bs h0 h1 h2 h) q
@@ -109,11 +109,11 @@ module _ (bs : List ℕ) (a b : Operand) (ha : Nth bs 0 a) (hb : Nth bs 1 b) whe
 module _ (tag : ℕ) (bs : List ℕ) where
   pub element-constant-is : (w : ℕ) → tag ≡ constantTag → For (constant bs) (λ c. w ≡ c) → For (element tag bs) (λ e. Constant w ≡ e)
   element-constant-is w h q e x =
-      let t = element-30 tag bs e h x in
+      let t = constant-read tag bs e h x in
       ap Constant (q (number bs) (constant-there bs (t .0))) ∙ sym (t .1)
 
   pub element-variable-is : (v : ℕ) → tag ≡ variableTag → v ≡ getD bs 0 0 → For (element tag bs) (λ e. Variable v ≡ e)
-  element-variable-is v k q e x = ap Variable q ∙ sym (element-31 tag bs e k x .1)
+  element-variable-is v k q e x = ap Variable q ∙ sym (variable-read tag bs e k x .1)
 
 -- Relations.
 
@@ -142,12 +142,12 @@ module _ (tag : ℕ) (bs : List ℕ) where
 
   module _ (a : ℕ) (ha : a ≡ getD bs 0 0) where
     pub condition-edge-is : (b : ℕ) → b ≡ getD bs 1 0 → tag ≡ edgeTestTag → For (condition tag bs) (λ c. Edge a b ≡ c)
-    condition-edge-is b hb h c e = rw (ha, hb) (sym (condition-40 tag bs c e h .1))
+    condition-edge-is b hb h c e = rw (ha, hb) (sym (edge-test-read tag bs c e h .1))
 
     module _ (n : ℕ) (hn : length bs ≡ 3 → n ≡ number (drop 1 bs)) where
       pub condition-in-is : tag ≡ inDegreeTag → For (condition tag bs) (λ c. InDegree a n ≡ c)
       condition-in-is h c e =
-          let t = condition-41 tag bs c e h in
+          let t = in-degree-read tag bs c e h in
           rw (ha, hn (t .0)) (sym (t .1))
 
       pub condition-out-is : (tag ≡ relationTag → ⊥) → (tag ≡ edgeTestTag → ⊥) → (tag ≡ inDegreeTag → ⊥) → For (condition tag bs) (λ c. OutDegree a n ≡ c)
@@ -155,7 +155,7 @@ module _ (tag : ℕ) (bs : List ℕ) where
         where
           at : Dec (tag ≡ outDegreeTag) → OutDegree a n ≡ c
           at (yes h) =
-              let t = condition-42 tag bs c e h in
+              let t = out-degree-read tag bs c e h in
               rw (ha, hn (t .0)) (sym (t .1))
           at (no h) = never (condition-other tag bs h0 h1 h h3) e
 

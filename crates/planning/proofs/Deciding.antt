@@ -22,7 +22,7 @@ use Rattle.meaning.specs.declared.Condition.the-variants.{Edge, InDegree, OutDe
 use Rattle.meaning.specs.declared.Test.{Test}
 use Rattle.fields.specs.Laws.{Lies}
 use Rattle.parts.specs.Runs.{Run, run-none, run-some, run-there}
-use Rattle.plan.specs.Plan.{testOf, Planned, decidesAt, firstAt, testsEndAt, testsStartAt}
+use Rattle.plan.specs.Plan.{testOf, Planned, decidesAt, firstAt, testsEndAt, testsStartAt, testsAt}
 use Rattle.planning.specs.Planning.{Named, AllLabelled, Valued, Decides, operandDecided, decidedBy}
 use Rattle.plan.specs.Tests.{nodes-exist, variables-exist}
 use Rattle.plan.specs.Places.{drop-head, tests-run}
@@ -164,7 +164,7 @@ module _ {bs : List ℕ} {r : Rule} {plan p : List ℕ} {at t : ℕ} (w : Decidi
         first = n .named .first;
         labelled = n .labelled;
         tests = stored plan 3 t (w .labelled .named .laid .items .size) (omega arith) ∙ z;
-        decided = λ u k. other plan 3 t (34 + u) (λ q. omega arith) ∙ w .decided u (omega arith);
+        decided = λ u k. other plan testsAt t (decidesAt + u) (λ q. omega arith) ∙ w .decided u (omega arith);
       }
 
   module _ {tag start end : ℕ} {part : List ℕ} {x : Test} (h : at < length p) (k : Lies p at tag start end) (is : part ≡ take (end - start) (drop start p)) (q : (y : Test) → test tag part ≡ some y → x ≡ y) where
@@ -190,6 +190,6 @@ module _ {bs : List ℕ} {r : Rule} {plan p : List ℕ} {at t : ℕ} (w : Decidi
           left = next .2;
         }
       where
-        go : (u : ℕ) → u < t + 1 → Dec (u ≡ t) → getD (set plan (decidesAt + t) n) (34 + u) 0 ≡ decidedAt r (testOf r u)
+        go : (u : ℕ) → u < t + 1 → Dec (u ≡ t) → getD (set plan (decidesAt + t) n) (decidesAt + u) 0 ≡ decidedAt r (testOf r u)
         go u i (yes z) = rw z (stored plan (decidesAt + t) n (w .labelled .named .laid .items .size) (omega (arith, next-low)) ∙ e ∙ ap (λ (y : Test). decidedBy plan (y .condition)) (next .1) ∙ decided-same (w .labelled .named) t (next .0))
-        go u i (no z) = other plan (decidesAt + t) n (34 + u) (λ y. z (omega arith)) ∙ w .decided u (omega arith)
+        go u i (no z) = other plan (decidesAt + t) n (decidesAt + u) (λ y. z (omega arith)) ∙ w .decided u (omega arith)

@@ -18,7 +18,7 @@ use Rattle.fields.specs.Laws.{Lies}
 use Rattle.parts.specs.Runs.{Run, nthPart, run-none, run-some, run-there}
 use Rattle.parts.specs.Rows.{Item, node as nodeItem, edge as edgeItem, items as itemsOf, graphItem, item-is, graph-run, rule-parted}
 use Rattle.parts.proofs.Loops.{part-in}
-use Rattle.plan.specs.Plan.{Placed, nodeOf, edgeOf, Items, Laid, IsRule, Part, endAt, planLength, startAt}
+use Rattle.plan.specs.Plan.{Placed, nodeOf, edgeOf, Items, Laid, IsRule, Part, endAt, planLength, startAt, interfaceAt, testsEndAt, testsStartAt, typesEndAt, typesStartAt}
 use Rattle.plan.specs.Places.{drop-head, inner, part-length, part-byte}
 use Rattle.planning.proofs.Stores.{other, stored, items-kept}
 
@@ -247,25 +247,25 @@ module _ {bs : List ℕ} {r : Rule} (e : rule bs ≡ some r) where
       (omega (arith, p .inside), ap (λ (x : ℕ). getD bs x 0) (sym z) ∙ sym (part-byte bs start end (p .ordered) (p .inside) 0 (omega arith)) ∙ ap (λ (x : List ℕ). getD x 0 0) (p .is) ∙ sym (b .1))
 
   pub laid : {plan : List ℕ} {byte s3 e3 s4 e4 s0 e0 : ℕ} → ruleHolds r ≡ true → Items bs (r .left) plan → Part bs 3 s3 e3 → byte ≡ getD bs s3 0 → Part bs 4 s4 e4 → Part bs 0 s0 e0
-      → Laid bs r (set (set (set (set (set plan 2 byte) 38 s4) 39 e4) 40 s0) 41 e0)
+      → Laid bs r (set (set (set (set (set plan interfaceAt byte) testsStartAt s4) testsEndAt e4) typesStartAt s0) typesEndAt e0)
   laid {plan} {byte} {s3} {e3} {s4} {e4} {s0} {e0} holds l p3 b p4 p0 =
-      let a : List ℕ = set plan 2 byte in
-      let c : List ℕ = set a 38 s4 in
-      let d : List ℕ = set c 39 e4 in
-      let f : List ℕ = set d 40 s0 in
+      let a : List ℕ = set plan interfaceAt byte in
+      let c : List ℕ = set a testsStartAt s4 in
+      let d : List ℕ = set c testsEndAt e4 in
+      let f : List ℕ = set d typesStartAt s0 in
       let la = items-kept plan 2 byte (λ h. omega arith) l in
-      let lc = items-kept a 38 s4 (λ h. omega arith) la in
-      let ld = items-kept c 39 e4 (λ h. omega arith) lc in
-      let lf = items-kept d 40 s0 (λ h. omega arith) ld in
+      let lc = items-kept a testsStartAt s4 (λ h. omega arith) la in
+      let ld = items-kept c testsEndAt e4 (λ h. omega arith) lc in
+      let lf = items-kept d typesStartAt s0 (λ h. omega arith) ld in
       let q = rule-parted bs r e in
       let few = rule-few bs r e in
       record {
         is = e;
         holds = holds;
-        items = items-kept f 41 e0 (λ h. omega arith) lf;
-        interface = other f 41 e0 2 (λ y. omega arith) ∙ other d 40 s0 2 (λ y. omega arith) ∙ other c 39 e4 2 (λ y. omega arith) ∙ other a 38 s4 2 (λ y. omega arith) ∙ stored plan 2 byte (l .size) (omega arith) ∙ b ∙ interface-byte p3 .1;
+        items = items-kept f typesEndAt e0 (λ h. omega arith) lf;
+        interface = other f typesEndAt e0 interfaceAt (λ y. omega arith) ∙ other d typesStartAt s0 interfaceAt (λ y. omega arith) ∙ other c testsEndAt e4 interfaceAt (λ y. omega arith) ∙ other a testsStartAt s4 interfaceAt (λ y. omega arith) ∙ stored plan interfaceAt byte (l .size) (omega arith) ∙ b ∙ interface-byte p3 .1;
         fewVariables = few .variables;
-        types = rw (other f 41 e0 40 (λ y. omega arith) ∙ stored d 40 s0 (ld .size) (omega arith), stored f 41 e0 (lf .size) (omega arith)) (part-placed p0 (q .variables));
+        types = rw (other f typesEndAt e0 typesStartAt (λ y. omega arith) ∙ stored d typesStartAt s0 (ld .size) (omega arith), stored f typesEndAt e0 (lf .size) (omega arith)) (part-placed p0 (q .variables));
         fewTests = few .tests;
-        tests = rw (other f 41 e0 38 (λ y. omega arith) ∙ other d 40 s0 38 (λ y. omega arith) ∙ other c 39 e4 38 (λ y. omega arith) ∙ stored a 38 s4 (la .size) (omega arith), other f 41 e0 39 (λ y. omega arith) ∙ other d 40 s0 39 (λ y. omega arith) ∙ stored c 39 e4 (lc .size) (omega arith)) (part-placed p4 (q .tests));
+        tests = rw (other f typesEndAt e0 testsStartAt (λ y. omega arith) ∙ other d typesStartAt s0 testsStartAt (λ y. omega arith) ∙ other c testsEndAt e4 testsStartAt (λ y. omega arith) ∙ stored a testsStartAt s4 (la .size) (omega arith), other f typesEndAt e0 testsEndAt (λ y. omega arith) ∙ other d typesStartAt s0 testsEndAt (λ y. omega arith) ∙ stored c testsEndAt e4 (lc .size) (omega arith)) (part-placed p4 (q .tests));
       }

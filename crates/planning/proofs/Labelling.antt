@@ -15,7 +15,7 @@ use Rattle.parts.specs.Elements.{Begins, behind, Counted}
 use Rattle.parts.specs.Walks.{spells-label, shorter}
 use Rattle.parts.specs.declared.Counts.{Counts}
 use Rattle.planning.specs.Planning.{Named, FreshBy, Sorts, OnlyLabel}
-use Rattle.plan.specs.Plan.{labelOf, Alone, Labelled, constantAt, edgesAt, nodesAt, planLength, sortAt, elementsAt, listsAt}
+use Rattle.plan.specs.Plan.{labelOf, Alone, Labelled, constantAt, edgesAt, nodesAt, planLength, sortAt, elementsAt, listsAt, firstAt}
 use Rattle.planning.specs.declared.Sort.{Sort}
 use Rattle.planning.specs.declared.Sort.the-variants.{Length, Constant}
 use Rattle.planning.proofs.Stores.{other, stored, named-same, labelled-same}
@@ -78,7 +78,7 @@ module _ {bs : List ℕ} {r : Rule} {plan : List ℕ} (w : Named bs r plan (leng
         inr (record {
           variable = f .variable;
           is = f .is;
-          first = sym (w .first (f .variable) h .item) ∙ sym (two-other (28 + f .variable) (λ e. omega arith) (λ e. omega arith)) ∙ f .first;
+          first = sym (w .first (f .variable) h .item) ∙ sym (two-other (firstAt + f .variable) (λ e. omega arith) (λ e. omega arith)) ∙ f .first;
         })
 
     pub said-length : (s : Sort) → Sorts (length types) two j (labelOf r j) s → s ≡ Length → Labelled r (set two (sortAt + j) 1) j × OnlyLabel plan (set two (sortAt + j) 1) j

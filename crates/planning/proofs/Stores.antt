@@ -8,7 +8,7 @@ use lib.ListN.{length, getD, set, length-set}
 use lib.Seq.{getD-set-same, getD-set-other}
 use Rattle.meaning.specs.Image.{RuleGraph, Rule, limits}
 use Rattle.fields.specs.Parsed.{types-is}
-use Rattle.plan.specs.Plan.{Items, Laid, FirstAt, Labelled, constantAt, elementsAt, listsAt, planLength, sortAt, typesEndAt, typesStartAt, beforeAt, endAt, firstAt, singlesAt, startAt}
+use Rattle.plan.specs.Plan.{Items, Laid, FirstAt, Labelled, constantAt, elementsAt, listsAt, planLength, sortAt, typesEndAt, typesStartAt, beforeAt, endAt, firstAt, singlesAt, startAt, decidesAt, edgesAt, interfaceAt, nodesAt, testsAt, testsEndAt, testsStartAt}
 use Rattle.planning.specs.Planning.{Named, AllLabelled}
 use Rattle.plan.specs.Places.{part-length}
 
@@ -22,12 +22,12 @@ module _ (plan : List ℕ) (j x : ℕ) where
 -- A plan that says the same as another in the places that matter.
 
 module _ {plan after : List ℕ} (size : length after ≡ length plan) where
-  items-same : ((x : ℕ) → x < 28 → (2 ≤ x → 4 ≤ x) → getD after x 0 ≡ getD plan x 0) → {bs : List ℕ} {g : RuleGraph} → Items bs g plan → Items bs g after
+  items-same : ((x : ℕ) → x < firstAt → (interfaceAt ≤ x → startAt ≤ x) → getD after x 0 ≡ getD plan x 0) → {bs : List ℕ} {g : RuleGraph} → Items bs g plan → Items bs g after
   items-same same {bs} {g} l =
       record {
         size = size ∙ l .size;
-        nodes = same 0 (omega arith) (λ h. omega arith) ∙ l .nodes;
-        edges = same 1 (omega arith) (λ h. omega arith) ∙ l .edges;
+        nodes = same nodesAt (omega arith) (λ h. omega arith) ∙ l .nodes;
+        edges = same edgesAt (omega arith) (λ h. omega arith) ∙ l .edges;
         fewNodes = l .fewNodes;
         fewEdges = l .fewEdges;
         node = λ i h.
@@ -40,20 +40,20 @@ module _ {plan after : List ℕ} (size : length after ≡ length plan) where
             rw (same (startAt + i) (omega arith) (λ q. omega arith), same (endAt + i) (omega arith) (λ q. omega arith)) (l .edge k h);
       }
 
-  laid-same : ((x : ℕ) → (x ≡ 3 → ⊥) → (28 ≤ x → 38 ≤ x) → x < 42 → getD after x 0 ≡ getD plan x 0) → {bs : List ℕ} {r : Rule} → Laid bs r plan → Laid bs r after
+  laid-same : ((x : ℕ) → (x ≡ testsAt → ⊥) → (firstAt ≤ x → testsStartAt ≤ x) → x < elementsAt → getD after x 0 ≡ getD plan x 0) → {bs : List ℕ} {r : Rule} → Laid bs r plan → Laid bs r after
   laid-same same l =
       record {
         is = l .is;
         holds = l .holds;
         items = items-same (λ x h k. same x (λ e. let a = k (omega arith) in omega arith) (λ q. omega arith) (omega arith)) (l .items);
-        interface = same 2 (λ e. omega arith) (λ h. omega arith) (omega arith) ∙ l .interface;
+        interface = same interfaceAt (λ e. omega arith) (λ h. omega arith) (omega arith) ∙ l .interface;
         fewVariables = l .fewVariables;
-        types = rw (same 40 (λ e. omega arith) (λ h. omega arith) (omega arith), same 41 (λ e. omega arith) (λ h. omega arith) (omega arith)) (l .types);
+        types = rw (same typesStartAt (λ e. omega arith) (λ h. omega arith) (omega arith), same typesEndAt (λ e. omega arith) (λ h. omega arith) (omega arith)) (l .types);
         fewTests = l .fewTests;
-        tests = rw (same 38 (λ e. omega arith) (λ h. omega arith) (omega arith), same 39 (λ e. omega arith) (λ h. omega arith) (omega arith)) (l .tests);
+        tests = rw (same testsStartAt (λ e. omega arith) (λ h. omega arith) (omega arith), same testsEndAt (λ e. omega arith) (λ h. omega arith) (omega arith)) (l .tests);
       }
 
-  pub named-same : ((x : ℕ) → (x ≡ 3 → ⊥) → (34 ≤ x → 38 ≤ x) → (42 ≤ x → 90 ≤ x) → getD after x 0 ≡ getD plan x 0) → {bs : List ℕ} {r : Rule} → Named bs r plan (length (r .variables)) → Named bs r after (length (r .variables))
+  pub named-same : ((x : ℕ) → (x ≡ testsAt → ⊥) → (decidesAt ≤ x → testsStartAt ≤ x) → (elementsAt ≤ x → singlesAt ≤ x) → getD after x 0 ≡ getD plan x 0) → {bs : List ℕ} {r : Rule} → Named bs r plan (length (r .variables)) → Named bs r after (length (r .variables))
   named-same same w =
       let f = w .laid .fewVariables in
       record {
@@ -73,9 +73,9 @@ module _ {plan after : List ℕ} (size : length after ≡ length plan) where
         constant = λ q. rw k (w .constant (sym s ∙ q));
       }
 
-  all-same : ((x : ℕ) → (x ≡ 3 → ⊥) → (34 ≤ x → 38 ≤ x) → getD after x 0 ≡ getD plan x 0) → {bs : List ℕ} {r : Rule} → AllLabelled bs r plan → AllLabelled bs r after
+  all-same : ((x : ℕ) → (x ≡ testsAt → ⊥) → (decidesAt ≤ x → testsStartAt ≤ x) → getD after x 0 ≡ getD plan x 0) → {bs : List ℕ} {r : Rule} → AllLabelled bs r plan → AllLabelled bs r after
   all-same same w =
-      let at : (x : ℕ) → 42 ≤ x → getD after x 0 ≡ getD plan x 0 = λ x h. same x (λ e. omega arith) (λ k. omega arith) in
+      let at : (x : ℕ) → elementsAt ≤ x → getD after x 0 ≡ getD plan x 0 = λ x h. same x (λ e. omega arith) (λ k. omega arith) in
       record {
         named = named-same (λ x h k q. same x h k) (w .named);
         labelled = λ j h. labelled-same (at (elementsAt + j) (omega arith)) (at (listsAt + j) (omega arith)) (at (sortAt + j) (omega arith)) (at (constantAt + j) (omega arith)) (w .labelled j h);
@@ -85,13 +85,13 @@ module _ {plan after : List ℕ} (size : length after ≡ length plan) where
 
 module _ (plan : List ℕ) (j x : ℕ) where
   -- at a place that is none of the items' own
-  pub items-kept : (j < 28 → (2 ≤ j) × (j < 4)) → {bs : List ℕ} {g : RuleGraph} → Items bs g plan → Items bs g (set plan j x)
+  pub items-kept : (j < firstAt → (interfaceAt ≤ j) × (j < startAt)) → {bs : List ℕ} {g : RuleGraph} → Items bs g plan → Items bs g (set plan j x)
   items-kept apart =
       items-same (length-set plan j x) (λ i h k.
       other plan j x i (λ e. let a = apart (omega arith) in let b = k (omega arith) in omega arith))
 
   -- at a place of the tests' decisions, or that of the number of tests
-  pub all-kept : ((j ≡ 3 → ⊥) → (34 ≤ j) × (j < 38)) → {bs : List ℕ} {r : Rule} → AllLabelled bs r plan → AllLabelled bs r (set plan j x)
+  pub all-kept : ((j ≡ testsAt → ⊥) → (decidesAt ≤ j) × (j < testsStartAt)) → {bs : List ℕ} {r : Rule} → AllLabelled bs r plan → AllLabelled bs r (set plan j x)
   all-kept apart =
       all-same (length-set plan j x) (λ i h k.
       other plan j x i (λ e. let a = apart (λ q. h (e ∙ q)) in let b = k (omega arith) in omega arith))
@@ -116,7 +116,7 @@ module _ {bs : List ℕ} {r : Rule} {plan : List ℕ} {v j s q : ℕ} (low : v <
   kept : (x : ℕ) → (x ≡ firstAt + v → ⊥) → (x ≡ singlesAt + v → ⊥) → (x ≡ beforeAt + v → ⊥) → getD three x 0 ≡ getD plan x 0
   kept x a b c = other two (beforeAt + v) q x c ∙ other one (singlesAt + v) s x b ∙ other plan (firstAt + v) j x a
 
-  named-at : (u : ℕ) → u < v + 1 → Dec (u ≡ v) → FirstAt r u (getD three (28 + u) 0) (getD three (90 + u) 0) (getD three (96 + u) 0)
+  named-at : (u : ℕ) → u < v + 1 → Dec (u ≡ v) → FirstAt r u (getD three (firstAt + u) 0) (getD three (singlesAt + u) 0) (getD three (beforeAt + u) 0)
   named-at u h (yes e) =
       let n = w .laid .items .size in
       let n1 : length one ≡ planLength = length-set plan (firstAt + v) j ∙ n in
@@ -126,7 +126,7 @@ module _ {bs : List ℕ} {r : Rule} {plan : List ℕ} {v j s q : ℕ} (low : v <
       let c : getD three (beforeAt + v) 0 ≡ q = stored two (beforeAt + v) q n2 (omega arith) in
       rw (e, a, b, c) f
   named-at u h (no e) =
-      rw (kept (28 + u) (λ z. e (omega arith)) (λ z. omega arith) (λ z. omega arith), kept (90 + u) (λ z. omega arith) (λ z. e (omega arith)) (λ z. omega arith), kept (96 + u) (λ z. omega arith) (λ z. omega arith) (λ z. e (omega arith)))
+      rw (kept (firstAt + u) (λ z. e (omega arith)) (λ z. omega arith) (λ z. omega arith), kept (singlesAt + u) (λ z. omega arith) (λ z. e (omega arith)) (λ z. omega arith), kept (beforeAt + u) (λ z. omega arith) (λ z. omega arith) (λ z. e (omega arith)))
       (w .first u (omega arith))
 
   pub named-more : Named bs r three (v + 1)

@@ -17,7 +17,7 @@ use Rattle.meaning.specs.Assigned.{isVariable}
 use Rattle.meaning.specs.FirstMatch.{has, firstWith}
 use Rattle.meaning.specs.Laws.Tests.{choose-true, choose-false}
 use Rattle.fields.specs.Image.{element-other}
-use Rattle.fields.specs.Parsed.{element-30, element-31, element-32, element-33}
+use Rattle.fields.specs.Parsed.{constant-read, variable-read, sum-read, difference-read}
 use Rattle.meaning.specs.declared.Element.{Element}
 use Rattle.meaning.specs.declared.Element.the-variants.{Constant, Sum, Difference}
 use Rattle.meaning.specs.declared.Operand.{Operand}
@@ -36,9 +36,9 @@ module _ (tag : ℕ) (bs : List ℕ) (e : Element) (q : element tag bs ≡ some 
   tagged-other f constant sum difference h = at (ℕ-discrete tag constantTag) (ℕ-discrete tag sumTag) (ℕ-discrete tag differenceTag)
     where
       at : Dec (tag ≡ constantTag) → Dec (tag ≡ sumTag) → Dec (tag ≡ differenceTag) → false ≡ f e
-      at (yes a) b c = rw (element-30 tag bs e a q .1) (constant _)
-      at (no a) (yes b) c = rw (element-32 tag bs e b q .2) (sum _ _)
-      at (no a) (no b) (yes c) = rw (element-33 tag bs e c q .2) (difference _ _)
+      at (yes a) b c = rw (constant-read tag bs e a q .1) (constant _)
+      at (no a) (yes b) c = rw (sum-read tag bs e b q .2) (sum _ _)
+      at (no a) (no b) (yes c) = rw (difference-read tag bs e c q .2) (difference _ _)
       at (no a) (no b) (no c) =
           let n = element-other tag bs a h b c in
           let z : _≡_ {A = ℕ} 0 1 = cc in
@@ -47,7 +47,7 @@ module _ (tag : ℕ) (bs : List ℕ) (e : Element) (q : element tag bs ≡ some 
   module _ (v : ℕ) where
     pub variable-yes : tag ≡ variableTag → (length bs ≡ 1) × (eqb (getD bs 0 0) v ≡ isVariable v e)
     unfolding isVariable
-    variable-yes h = let t = element-31 tag bs e h q in (t .0, rw (t .1))
+    variable-yes h = let t = variable-read tag bs e h q in (t .0, rw (t .1))
 
     pub variable-no : (tag ≡ variableTag → ⊥) → false ≡ isVariable v e
     unfolding isVariable
@@ -56,7 +56,7 @@ module _ (tag : ℕ) (bs : List ℕ) (e : Element) (q : element tag bs ≡ some 
   module _ (r : Rule) where
     pub list-yes : tag ≡ variableTag → (length bs ≡ 1) × (isList r (getD bs 0 0) ≡ takesList r e)
     unfolding takesList
-    list-yes h = let t = element-31 tag bs e h q in (t .0, rw (t .1))
+    list-yes h = let t = variable-read tag bs e h q in (t .0, rw (t .1))
 
     pub list-no : (tag ≡ variableTag → ⊥) → false ≡ takesList r e
     unfolding takesList

@@ -6,7 +6,7 @@ use mathlib.Core.List.{List}
 use Prim.Native.Nat.{ℕ, zero, suc}
 use Rattle.meaning.specs.Image.{Rule}
 use Rattle.published.specs.Semantics
-use Rattle.published.specs.Semantics.{ComSeq, call, _⨟_, _!, break, skip, fail, Configuration, ⟨_∣_⟩, result, failure, [call₁], [call₂], [seq₁], [seq₂], [seq₃], [if₁], [if₂], [try₁], [try₂], [alap₁], [alap₂], [alap₃], [break], [skip], [fail], last, next, here, onward, Outcome, graph, fails, bottom, CanDiverge, CanGetStuck, ⟦_⟧}
+use Rattle.published.specs.Semantics.{ComSeq, call, _⨟_, if_then_else_, try_then_else_, _!, break, skip, fail, Configuration, ⟨_∣_⟩, result, failure, [call₁], [call₂], [seq₁], [seq₂], [seq₃], [if₁], [if₂], [try₁], [try₂], [alap₁], [alap₂], [alap₃], [break], [skip], [fail], last, next, here, onward, Outcome, graph, fails, bottom, CanDiverge, CanGetStuck, ⟦_⟧}
 
 -- U holds of each rule set that P calls
 abbrev pub Calls {ℓ} : (List Rule → Type ℓ) → ComSeq → Type ℓ

@@ -27,7 +27,7 @@ use Rattle.published.specs.RuleApplication.{Matches, Applies, Applied}
 use Rattle.published.specs.Isomorphism.{iso-same, applied-iso}
 use Rattle.published.specs.SameMatch.{Agree, same-match}
 use Rattle.published.specs.HostResult.{applies-host}
-use Rattle.published.specs.Semantics.{ComSeq, call, _⨟_, _!, break, skip, fail, Outcome, graph, fails, ⟦_⟧, comSeq, inOrder, followed}
+use Rattle.published.specs.Semantics.{ComSeq, call, _⨟_, if_then_else_, try_then_else_, _!, break, skip, fail, Outcome, graph, fails, ⟦_⟧, comSeq, inOrder, followed}
 use Rattle.published.specs.Answers.{Alike, alike-back, carry, alike-outcomes}
 use Rattle.published.specs.Conformance.{held, CanComeTo, run-result, run-fail}
 use Rattle.published.specs.Alike.{Calls, Same}

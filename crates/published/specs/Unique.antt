@@ -8,7 +8,7 @@ use Prim.Native.Nat.{ℕ, suc}
 use native.Mathlib.Omega.{arith}
 use Rattle.meaning.specs.Image.{Rule}
 use Rattle.published.specs.Semantics
-use Rattle.published.specs.Semantics.{ComSeq, call, _⨟_, _!, break, skip, fail, Configuration, ⟨_∣_⟩, result, failure, [call₁], [call₂], [seq₁], [seq₂], [seq₃], [if₁], [if₂], [try₁], [try₂], [alap₁], [alap₂], [alap₃], [break], [skip], [fail], last, next, here, onward, Outcome, graph, fails, bottom, ⟦_⟧}
+use Rattle.published.specs.Semantics.{ComSeq, call, _⨟_, if_then_else_, try_then_else_, _!, break, skip, fail, Configuration, ⟨_∣_⟩, result, failure, [call₁], [call₂], [seq₁], [seq₂], [seq₃], [if₁], [if₂], [try₁], [try₂], [alap₁], [alap₂], [alap₃], [break], [skip], [fail], last, next, here, onward, Outcome, graph, fails, bottom, ⟦_⟧}
 use Rattle.published.specs.Alike
 use Rattle.published.specs.Alike.{Calls, unfinished, results, failures, Same, sameGraph, sameFail, step-over}
 

@@ -8,8 +8,8 @@ ghost use Rattle.run_input.specs.Reading.{fieldHead, Expects, Finds, Ins
 use fields::Found;
 use meaning::JournalTable;
 
-// A run image: the most bytes that it has, the bytes that are read so that a longer one is seen, the tags of its fields in their order, the bytes of a field's head, and those of the two
-// fields that hold a number, with their head.
+// A run image: the most bytes that it has, the bytes that are read so that a longer one is seen, the tags of its fields in
+// their order, the bytes of a field's head, and those of the two fields that hold a number, with their head.
 pub struct RunImage {}
 
 impl RunImage {

@@ -1,7 +1,7 @@
 -- The words of a text, as lists of bytes, and the most bytes that the words of a line have. Rests on the meaning's Numbers.
 use mathlib.Core.List.{List, [], _∷_, _++_}
 use Prim.Native.Char.{code}
-use Prim.Native.String.{String, [] as empty}
+use Prim.Native.String.{String, [] as empty, _∷_ as _before_}
 use Prim.Native.Nat.{ℕ, zero, suc, _+_, _-_, _*_, _/_, _%_}
 use lib.ListN.{getD}
 use lib.Dec.{eqb, ltb}
