@@ -80,14 +80,14 @@ install: library
 	sed 's|@PREFIX@|$(PREFIX)|' include/nhiemavut.pc.in >$(DESTDIR)$(PREFIX)/lib/pkgconfig/nhiemavut.pc
 
 # The second interpreter's own tests, with its check of every stored expected output; the proofs and the programs over stored
-# files, four checks at a time, so that no processor waits for the longest of a pair; what `make run` prints; the C examples and
+# files, eight checks at a time, since the checks of a layer begin together and end together; what `make run` prints; the C examples and
 # a short comparison of the compiled calls. The last line is rt's own, said again.
 test:
 	tools/map --check
 	cd second && $(CARGO) test --release --offline
 	rt fmt --check
 	@mkdir -p .gate
-	@{ RT_JOBS=$${RT_JOBS:-4} rt ci 2>&1; echo $$? >.gate/status; } | tee .gate/log; test "$$(cat .gate/status)" = 0
+	@{ RT_JOBS=$${RT_JOBS:-8} rt ci 2>&1; echo $$? >.gate/status; } | tee .gate/log; test "$$(cat .gate/status)" = 0
 	$(MAKE) --no-print-directory run | cmp - crates/runner/stdout
 	sh examples/run
 	sh fuzz/run 1000 2
