@@ -2,7 +2,8 @@
 use Prim.Native.Nat.{ℕ, zero, suc, _+_, _-_, _/_, _%_, _^_, _<_, _≤_}
 use mathlib.Core.Path.{_≡_, refl, sym, _∙_, ap}
 use mathlib.Core.List.{List, [], _∷_, _++_, append-nil}
-use mathlib.Core.Bool.{true, false}
+use mathlib.Core.Bool.{Bool, true, false}
+use mathlib.Core.Logic.{_⊎_, inl, inr}
 use native.Mathlib.Omega.{arith}
 use native.Mathlib.Nat.{div-div-eq-div-mul, pow-suc, div-one}
 use native.Mathlib.Numerals.{add-one}
@@ -38,6 +39,18 @@ zeros-other i l h k = rw (drop-cons l i 0 h, ne-eqb (getD l i 0) 0 k)
 pub zeros-more : (i : ℕ) (l : List ℕ) → i < length l → getD l i 0 ≡ 0 → zeros (drop i l) ≡ zeros (drop (i + 1) l)
 unfolding zeros both
 zeros-more i l h k = rw (add-one i, drop-cons l i 0 h, eq-eqb (getD l i 0) 0 k)
+
+both-false : (a : Bool) → both a false ≡ false
+unfolding both
+both-false true = refl
+both-false false = refl
+
+-- one byte more that was looked at: `all` is false where it is not zero, and else as it was
+pub zeros-seen : {A B : Type 0} (i : ℕ) (l : List ℕ) (old all : Bool) → i < length l → (A → getD l i 0 ≡ 0 → ⊥) → (B → getD l i 0 ≡ 0)
+    → (A × (all ≡ false)) ⊎ (B × (all ≡ old)) → both all (zeros (drop (i + 1) l)) ≡ both old (zeros (drop i l))
+unfolding both
+zeros-seen i l old all h f g (inl t) = rw (t .1, zeros-other i l h (f (t .0))) (sym (both-false old))
+zeros-seen i l old all h f g (inr t) = rw (t .1) (ap (both old) (sym (zeros-more i l h (g (t .0)))))
 
 pub zeros-end : (i : ℕ) (l : List ℕ) → length l ≤ i → zeros (drop i l) ≡ true
 unfolding zeros

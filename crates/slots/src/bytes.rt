@@ -28,18 +28,19 @@ pub fn clear(to: &mut [u8])
     }
 }
 
-// Whether all bytes from a place on are zero.
+// Whether all bytes from a place on are zero. All are looked at: a loop without a way out is compiled to many bytes at a time.
 pub fn zeros_from(from: &[u8], start: usize) -> bool
     ensures { λ r. ⌜ r ≡ zeros (drop start (now (from .entry))) ⌝ }
 {
+    let mut all = true;
     let mut i = start;
     while i < from.len() {
         if from[i] != 0 {
-            return false;
+            all = false;
         }
         i += 1;
     }
-    true
+    all
 }
 
 // Writes a number in all the bytes of a part, most significant first.
