@@ -37,8 +37,8 @@ use Rattle.commands.proofs.Parts.{in-range, rule-set-is, row-of, row-is
 use Rattle.commands.proofs.States.{done-is, settled-fuel, settled-steps, enter-none, enter-paid, leaf-work, row-more, row-ends, row-done, guarded-runs, guarded-stops, loop-out, loop-more, loop-closes}
 
 -- the kind of a command that is known
-pub is-kind : {image : List ℕ} {tag : ℕ} {bs : List ℕ} {kind : Kind} → Known image tag bs → (ruleSetTag ≤ tag → tag ≤ breakTag → Tagged tag kind) → (k : Kind) → kind ≡ k → Tagged tag k
-is-kind {tag = tag} w h k e = subst (λ (x : Kind). Tagged tag x) e (h (in-range w .0) (in-range w .1))
+pub is-kind : {image : List ℕ} {tag : ℕ} {bs : List ℕ} {kind : Kind} → Known image tag bs → (tag ≡ ruleSetTag → ⊥) → (sequenceTag ≤ tag → tag ≤ breakTag → Tagged tag kind) → (k : Kind) → kind ≡ k → Tagged tag k
+is-kind {tag = tag} w other h k e = let r = in-range w in subst (λ (x : Kind). Tagged tag x) e (h (omega (arith, r .0)) (r .1))
 
 pub part-less : (e : End) → partAfter e < 3
 unfolding partAfter

@@ -55,6 +55,9 @@ fn run_command(
     requires { ⌜ Known (now image) tag (now p) ⌝ }
     ensures { λ r. ⌜ Comes l (Known (now (image .entry)) tag (now (p .entry))) (runsCommand l) (now (nodes .entry)) (now (edges .entry)) (now (journal .entry)) t r (now (nodes .exit)) (now (edges .exit)) (now (journal .exit)) ⌝ }
 {
+    if tag == Tag::RULE_SET {
+        return run_set(l, image, p, nodes, edges, journal, t);
+    }
     let fuel = t.fuel;
     if fuel == 0 {
         return Ran {
@@ -65,7 +68,6 @@ fn run_command(
     let spent = tally::entered(t);
     let kind = ends::kind_of(tag);
     match kind {
-        Kind::RuleSet => run_set(l, image, p, nodes, edges, journal, t),
         Kind::Sequence => run_row(l, image, p, nodes, edges, journal, spent),
         Kind::Guarded(keep) => run_guarded(l, image, keep, p, nodes, edges, journal, spent),
         Kind::Loop => run_loop(l, image, p, nodes, edges, journal, spent),

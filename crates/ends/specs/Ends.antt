@@ -6,7 +6,7 @@ use mathlib.Core.List.{List}
 use Prim.Native.Nat.{ℕ}
 use lib.ListN.{length}
 use Rattle.meaning.specs.Basics.{choose}
-use Rattle.meaning.specs.Tags.{ruleSetTag, sequenceTag, ifTag, tryTag, loopTag, skipTag, failTag, breakTag}
+use Rattle.meaning.specs.Tags.{sequenceTag, ifTag, tryTag, loopTag, skipTag, failTag, breakTag}
 use Rattle.meaning.specs.Commands.{State, Out, ends, back}
 use Rattle.laws.specs.Hosts.{LegalHost}
 use Rattle.laws.specs.Restoring.{From}
@@ -17,7 +17,7 @@ use Rattle.meaning.specs.declared.End.{End}
 use Rattle.meaning.specs.declared.End.the-variants.{Done, Failed, Broke, Stopped}
 use Rattle.ledger.specs.Running.{ledgerOf, stateOf, outOf, Running}
 use Rattle.ends.specs.declared.Kind.{Kind}
-use Rattle.ends.specs.declared.Kind.the-variants.{RuleSet, Sequence, Guarded, Loop, Leaf}
+use Rattle.ends.specs.declared.Kind.the-variants.{Sequence, Guarded, Loop, Leaf}
 
 -- the tag of a command that ends at once
 abbrev pub LeafTag : ℕ → End → Type 0
@@ -28,7 +28,6 @@ LeafTag tag (Stopped w) = ⊥
 
 -- the tag of each kind
 abbrev pub Tagged : ℕ → Kind → Type 0
-Tagged tag RuleSet = tag ≡ ruleSetTag
 Tagged tag Sequence = tag ≡ sequenceTag
 Tagged tag (Guarded keep) = tag ≡ choose keep tryTag ifTag
 Tagged tag Loop = tag ≡ loopTag

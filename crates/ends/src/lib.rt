@@ -2,7 +2,7 @@
 // after a guard and after the last round of a loop.
 ghost use mathlib.Core.Path.{_≡_};
 ghost use Prim.Native.Nat.{_≤_};
-ghost use Rattle.meaning.specs.Tags.{ruleSetTag, breakTag};
+ghost use Rattle.meaning.specs.Tags.{sequenceTag, breakTag};
 ghost use Rattle.ledger.specs.Running.{Running};
 ghost use Rattle.ends.specs.Ends.{Tagged, isDone, partAfter, Restored, Settled, Closed};
 use meaning::End;
@@ -11,9 +11,8 @@ use meaning::Ran;
 use meaning::Tally;
 use meaning::tags::Tag;
 
-// How a command is run.
+// How a command other than a rule set is run.
 pub enum Kind {
-    RuleSet,
     Sequence,
     // A try where the flag is set, which keeps the changes of a guard that succeeds, and else an if.
     Guarded(bool),
@@ -22,12 +21,11 @@ pub enum Kind {
     Leaf(End),
 }
 
-// The kind that a command's tag says.
+// The kind that such a command's tag says.
 pub fn kind_of(tag: u8) -> Kind
-    ensures { λ r. ⌜ (ruleSetTag ≤ tag → tag ≤ breakTag → Tagged tag r) ⌝ }
+    ensures { λ r. ⌜ (sequenceTag ≤ tag → tag ≤ breakTag → Tagged tag r) ⌝ }
 {
     match tag {
-        Tag::RULE_SET => Kind::RuleSet,
         Tag::SEQUENCE => Kind::Sequence,
         Tag::IF => Kind::Guarded(false),
         Tag::TRY => Kind::Guarded(true),

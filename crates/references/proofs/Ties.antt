@@ -21,7 +21,7 @@ use Rattle.references.specs.declared.Ask.{Ask}
 use Rattle.references.specs.declared.Ask.the-variants.{Left, Right, Lacks}
 use Rattle.parts.specs.Runs.{For}
 use Rattle.parts.specs.Rows.{Item, node, edge, items, markAt, ruleOf, mainOf, imagePart, imageParts, part-is, no-command, itemLabel}
-use Rattle.references.specs.Asked.{intOperand, exist, operandAsked, elementAsked, listsIn, endsBelow, edgeMarked, itemFits, itemAsked, graphAsked, conditionFits, conditionAsked, testAsked, partsAsked, sidesAsked, keptOnLeft, partHolds}
+use Rattle.references.specs.Asked.{intOperand, exist, operandAsked, elementAsked, listsIn, endsBelow, edgeMarked, itemFits, itemAsked, graphAsked, conditionFits, conditionAsked, testAsked, rightAsked, sidesAsked, keptOnLeft, partHolds}
 use Rattle.references.proofs.Asks.{absent-append, both-swap}
 
 -- Tests over lists.
@@ -390,7 +390,7 @@ kept-left x e =
     all-same _ _ (kept-is x) (length (x .variables)) ∙ kept-all L N (length (x .variables)) below
 
 module _ (x : Rule) (v : ℕ) (a : Bool) (q : a ≡ graphAsked (Lacks v) (x .variables) (x .left)) where
-  pub lacking : (r : Bool) → a ≡ true → r ≡ partsAsked (Lacks v) (Lacks v) x → r ≡ keptOnLeft x v
+  pub lacking : (r : Bool) → a ≡ true → r ≡ rightAsked (Lacks v) (Lacks v) x → r ≡ keptOnLeft x v
   unfolding keptOnLeft either
   lacking r h p = rw (← q, h) p
 

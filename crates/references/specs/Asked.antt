@@ -57,7 +57,7 @@ unfoldable pub edgeMarked : Item → Bool
 edgeMarked (node x) = true
 edgeMarked (edge e) = not (eqb (e .mark) anyMark)
 
--- beside the elements of its label
+-- an item, beside the elements of its label
 unfoldable pub itemFits : Ask → List ℕ → Item → Bool
 itemFits (Left n) ts i = both (leb (listsIn ts (itemLabel i)) 1) (endsBelow n i)
 itemFits (Right n) ts i = both (edgeMarked i) (endsBelow n i)
@@ -69,7 +69,7 @@ itemAsked ask ts i = both (itemFits ask ts i) (every (elementAsked ask ts) (item
 unfoldable pub graphAsked : Ask → List ℕ → RuleGraph → Bool
 graphAsked ask ts g = every (itemAsked ask ts) (items g)
 
--- beside its operands
+-- a test, beside its operands
 unfoldable pub conditionFits : Ask → Condition → Bool
 conditionFits (Left n) c = every (λ a. ltb a n) (conditionNodes c)
 conditionFits (Right n) c = every (λ a. ltb a n) (conditionNodes c)
@@ -83,18 +83,19 @@ testAsked ask ts t = conditionAsked ask ts (t .condition)
 
 -- Rules.
 
--- the sides and the tests, one after the other
-abbrev pub partsAsked : Ask → Ask → Rule → Bool
-partsAsked ofRight ofTests x = both (graphAsked ofRight (x .variables) (x .right)) (every (testAsked ofTests (x .variables)) (x .tests))
+-- the right side and the tests
+abbrev pub rightAsked : Ask → Ask → Rule → Bool
+rightAsked ofRight ofTests x = both (graphAsked ofRight (x .variables) (x .right)) (every (testAsked ofTests (x .variables)) (x .tests))
 
+-- both sides and the tests, which name left nodes
 unfoldable pub sidesAsked : Rule → Bool
 sidesAsked x =
     let n = length (x .left .nodes) in
-    both (graphAsked (Left n) (x .variables) (x .left)) (partsAsked (Right (length (x .right .nodes))) (Right n) x)
+    both (graphAsked (Left n) (x .variables) (x .left)) (rightAsked (Right (length (x .right .nodes))) (Right n) x)
 
 -- a variable that the left side lacks, the right side and the tests lack
 unfoldable pub keptOnLeft : Rule → ℕ → Bool
-keptOnLeft x v = either (not (graphAsked (Lacks v) (x .variables) (x .left))) (partsAsked (Lacks v) (Lacks v) x)
+keptOnLeft x v = either (not (graphAsked (Lacks v) (x .variables) (x .left))) (rightAsked (Lacks v) (Lacks v) x)
 
 unfoldable pub partHolds : Part → Bool
 partHolds (ruleOf x) = ruleHolds x

@@ -7,7 +7,7 @@ use native.Mathlib.Omega.{arith}
 use borrow.Author.Needs.{needs}
 use lib.ListN.{length}
 use Rattle.parts.proofs.Loops.{a-field, nearer, no-field, part-in}
-use Rattle.ends.specs.declared.Kind.the-variants.{RuleSet, Sequence, Guarded, Loop, Leaf}
+use Rattle.ends.specs.declared.Kind.the-variants.{Sequence, Guarded, Loop, Leaf}
 use Rattle.commands.proofs.Parts.{row-of, guarded-of, loop-of, nth-known, nth-shorter}
 use Rattle.commands.proofs.Turns.{Going, Looping, is-kind, which-less, mark-below, fuel-less, out-of-fuel, begun-spent, paid-row, paid-guarded, paid-loop, paid-leaf, row-start, row-over, row-cut, here-known, here-shorter, row-next, row-stop, guarded-stop, begun-settled, guarded-go, loop-start, loop-over, loop-next, loop-stop}
 use borrow.Fn.Kinds.{In}
@@ -80,7 +80,7 @@ abbrev run-row-below : ℕ → In 5 run-row-kinds.ps
 run-row-below t = and 5 run-row-kinds.ps (falls 5 run-row-kinds.ps _<_ μ-run-row t) run-row.Pre
 
 abbrev run-command-claims : ℕ → run-command-lts.Claims
-run-command-claims t = (entered-reads.Asked, entered-reads.Learnt, kind-of-reads.Asked, kind-of-reads.Learnt, run-set-reads.Asked, run-set-reads.Learnt, run-row-below t, run-row.Post, run-guarded-below t, run-guarded.Post, run-loop-below t, run-loop.Post)
+run-command-claims t = (run-set-reads.Asked, run-set-reads.Learnt, entered-reads.Asked, entered-reads.Learnt, kind-of-reads.Asked, kind-of-reads.Learnt, run-row-below t, run-row.Post, run-guarded-below t, run-guarded.Post, run-loop-below t, run-loop.Post)
 
 abbrev run-guarded-claims : ℕ → run-guarded-lts.Claims
 run-guarded-claims t = (nth-part-reads.Asked, nth-part-reads.Learnt, nth-tag-reads.Asked, nth-tag-reads.Learnt, run-command-below t, run-command.Post, part-after-reads.Asked, part-after-reads.Learnt, settle-reads.Asked, settle-reads.Learnt)
@@ -91,41 +91,8 @@ run-loop-claims t = (nth-tag-reads.Asked, nth-tag-reads.Learnt, nth-part-reads.A
 abbrev run-row-claims : ℕ → run-row-lts.Claims
 run-row-claims t = (read-field-reads.Asked, read-field-reads.Learnt, part-reads.Asked, part-reads.Learnt, run-command-below t, run-command.Post, goes-on-reads.Asked, goes-on-reads.Learnt)
 
-run-command-returns : (t : ℕ) → run-command-lts.Need-returns (run-command-claims t) (run-command-at t) run-command.Post
-run-command-returns t c = out-of-fuel _ (c .if1 .taken) (c .before .before .before .before .before .before .pre .1 .0)
-
-run-command-entered-requires : (t : ℕ) → run-command-lts.Need-entered-requires (run-command-claims t) (run-command-at t) run-command.Post
-run-command-entered-requires t c κs = let h = c .if1 .left in (omega arith, omega (arith, c .before .before .before .before .before .before .pre .1 .0 .sum))
-
-run-command-kind-of-requires : (t : ℕ) → run-command-lts.Need-kind-of-requires (run-command-claims t) (run-command-at t) run-command.Post
-run-command-kind-of-requires t c κs = search needs
-
-run-command-enum-told : (t : ℕ) → run-command-lts.Need-enum-told (run-command-claims t) (run-command-at t) run-command.Post
-run-command-enum-told t c = search needs
-
 run-command-run-set-requires : (t : ℕ) → run-command-lts.Need-run-set-requires (run-command-claims t) (run-command-at t) run-command.Post
-run-command-run-set-requires t c κs = (c .before .before .before .before .before .before .before .before .before .before .before .before .before .pre .1 .0, rw (is-kind (c .before .before .before .before .before .before .before .before .before .before .before .before .before .pre .1 .1) (c .before .before .before .before .before .kind-of .ensures) RuleSet (c .before .before .before .enum-told .given .1)) at (c .before .before .before .before .before .before .before .before .before .before .before .before .before .pre .1 .1))
-
-run-command-enum-told-2 : (t : ℕ) → run-command-lts.Need-enum-told-2 (run-command-claims t) (run-command-at t) run-command.Post
-run-command-enum-told-2 t c = search needs
-
-run-command-run-row-requires : (t : ℕ) → run-command-lts.Need-run-row-requires (run-command-claims t) (run-command-at t) run-command.Post
-run-command-run-row-requires t c κs = (omega (arith, c .before .before .before .before .before .before .before .before .before .before .before .before .before .pre .0), (begun-spent _ (c .before .before .before .before .before .before .entered .ensures) (c .before .before .before .before .before .before .before .if1 .left) (c .before .before .before .before .before .before .before .before .before .before .before .before .before .pre .1 .0), row-of (c .before .before .before .before .before .before .before .before .before .before .before .before .before .pre .1 .1) (is-kind (c .before .before .before .before .before .before .before .before .before .before .before .before .before .pre .1 .1) (c .before .before .before .before .before .kind-of .ensures) Sequence (c .before .before .before .enum-told2 .given .1))))
-
-run-command-enum-known-kind : (t : ℕ) → run-command-lts.Need-enum-known-kind (run-command-claims t) (run-command-at t) run-command.Post
-run-command-enum-known-kind t c = search needs
-
-run-command-run-guarded-requires : (t : ℕ) → run-command-lts.Need-run-guarded-requires (run-command-claims t) (run-command-at t) run-command.Post
-run-command-run-guarded-requires t c κs = (omega (arith, c .before .before .before .before .before .before .before .before .before .before .before .before .before .before .pre .0), (begun-spent _ (c .before .before .before .before .before .before .before .entered .ensures) (c .before .before .before .before .before .before .before .before .if1 .left) (c .before .before .before .before .before .before .before .before .before .before .before .before .before .before .pre .1 .0), guarded-of (c .before .before .before .before .before .before .before .before .before .before .before .before .before .before .pre .1 .1) _ (is-kind (c .before .before .before .before .before .before .before .before .before .before .before .before .before .before .pre .1 .1) (c .before .before .before .before .before .before .kind-of .ensures) (Guarded _) (c .before .before .before .before .kind .given .1))))
-
-run-command-enum-told-3 : (t : ℕ) → run-command-lts.Need-enum-told-3 (run-command-claims t) (run-command-at t) run-command.Post
-run-command-enum-told-3 t c = search needs
-
-run-command-run-loop-requires : (t : ℕ) → run-command-lts.Need-run-loop-requires (run-command-claims t) (run-command-at t) run-command.Post
-run-command-run-loop-requires t c κs = (omega (arith, c .before .before .before .before .before .before .before .before .before .before .before .before .before .pre .0), (begun-spent _ (c .before .before .before .before .before .before .entered .ensures) (c .before .before .before .before .before .before .before .if1 .left) (c .before .before .before .before .before .before .before .before .before .before .before .before .before .pre .1 .0), loop-of (c .before .before .before .before .before .before .before .before .before .before .before .before .before .pre .1 .1) (is-kind (c .before .before .before .before .before .before .before .before .before .before .before .before .before .pre .1 .1) (c .before .before .before .before .before .kind-of .ensures) Loop (c .before .before .before .enum-told3 .given .1))))
-
-run-command-enum-known-kind-2 : (t : ℕ) → run-command-lts.Need-enum-known-kind-2 (run-command-claims t) (run-command-at t) run-command.Post
-run-command-enum-known-kind-2 t c = search needs
+run-command-run-set-requires t c κs = (c .before .before .before .before .before .before .before .before .before .pre .1 .0, rw (c .before .before .before .if1 .taken) at (c .before .before .before .before .before .before .before .before .before .pre .1 .1))
 
 run-command-same-length : (t : ℕ) → run-command-lts.Need-same-length (run-command-claims t) (run-command-at t) run-command.Post
 run-command-same-length t c = search needs
@@ -136,8 +103,38 @@ run-command-same-length-2 t c = search needs
 run-command-same-length-3 : (t : ℕ) → run-command-lts.Need-same-length-3 (run-command-claims t) (run-command-at t) run-command.Post
 run-command-same-length-3 t c = search needs
 
+run-command-returns : (t : ℕ) → run-command-lts.Need-returns (run-command-claims t) (run-command-at t) run-command.Post
+run-command-returns t c = rw (sym (c .before .before .before .before .before .before .before .before .before .before .if1 .taken)) at (c .before .before .before .before .before .before .run-set .ensures)
+
 run-command-returns-2 : (t : ℕ) → run-command-lts.Need-returns-2 (run-command-claims t) (run-command-at t) run-command.Post
-run-command-returns-2 t c = rw (sym (is-kind (c .before .before .before .before .before .before .before .before .before .before .before .before .before .before .before .before .before .before .before .before .pre .1 .1) (c .before .before .before .before .before .before .before .before .before .before .before .before .kind-of .ensures) RuleSet (c .before .before .before .before .before .before .before .before .before .before .enum-told .given .1))) at (c .before .before .before .before .before .before .run-set .ensures)
+run-command-returns-2 t c = out-of-fuel _ (c .if2 .taken) (c .before .before .before .before .before .before .before .pre .1 .0)
+
+run-command-entered-requires : (t : ℕ) → run-command-lts.Need-entered-requires (run-command-claims t) (run-command-at t) run-command.Post
+run-command-entered-requires t c κs = let h = c .if2 .left in (omega arith, omega (arith, c .before .before .before .before .before .before .before .pre .1 .0 .sum))
+
+run-command-kind-of-requires : (t : ℕ) → run-command-lts.Need-kind-of-requires (run-command-claims t) (run-command-at t) run-command.Post
+run-command-kind-of-requires t c κs = search needs
+
+run-command-enum-told : (t : ℕ) → run-command-lts.Need-enum-told (run-command-claims t) (run-command-at t) run-command.Post
+run-command-enum-told t c = search needs
+
+run-command-run-row-requires : (t : ℕ) → run-command-lts.Need-run-row-requires (run-command-claims t) (run-command-at t) run-command.Post
+run-command-run-row-requires t c κs = (omega (arith, c .before .before .before .before .before .before .before .before .before .before .before .before .before .before .pre .0), (begun-spent _ (c .before .before .before .before .before .before .entered .ensures) (c .before .before .before .before .before .before .before .if2 .left) (c .before .before .before .before .before .before .before .before .before .before .before .before .before .before .pre .1 .0), row-of (c .before .before .before .before .before .before .before .before .before .before .before .before .before .before .pre .1 .1) (is-kind (c .before .before .before .before .before .before .before .before .before .before .before .before .before .before .pre .1 .1) (c .before .before .before .before .before .before .before .before .if1 .left) (c .before .before .before .before .before .kind-of .ensures) Sequence (c .before .before .before .enum-told .given .1))))
+
+run-command-enum-known-kind : (t : ℕ) → run-command-lts.Need-enum-known-kind (run-command-claims t) (run-command-at t) run-command.Post
+run-command-enum-known-kind t c = search needs
+
+run-command-run-guarded-requires : (t : ℕ) → run-command-lts.Need-run-guarded-requires (run-command-claims t) (run-command-at t) run-command.Post
+run-command-run-guarded-requires t c κs = (omega (arith, c .before .before .before .before .before .before .before .before .before .before .before .before .before .before .before .pre .0), (begun-spent _ (c .before .before .before .before .before .before .before .entered .ensures) (c .before .before .before .before .before .before .before .before .if2 .left) (c .before .before .before .before .before .before .before .before .before .before .before .before .before .before .before .pre .1 .0), guarded-of (c .before .before .before .before .before .before .before .before .before .before .before .before .before .before .before .pre .1 .1) _ (is-kind (c .before .before .before .before .before .before .before .before .before .before .before .before .before .before .before .pre .1 .1) (c .before .before .before .before .before .before .before .before .before .if1 .left) (c .before .before .before .before .before .before .kind-of .ensures) (Guarded _) (c .before .before .before .before .kind .given .1))))
+
+run-command-enum-told-2 : (t : ℕ) → run-command-lts.Need-enum-told-2 (run-command-claims t) (run-command-at t) run-command.Post
+run-command-enum-told-2 t c = search needs
+
+run-command-run-loop-requires : (t : ℕ) → run-command-lts.Need-run-loop-requires (run-command-claims t) (run-command-at t) run-command.Post
+run-command-run-loop-requires t c κs = (omega (arith, c .before .before .before .before .before .before .before .before .before .before .before .before .before .before .pre .0), (begun-spent _ (c .before .before .before .before .before .before .entered .ensures) (c .before .before .before .before .before .before .before .if2 .left) (c .before .before .before .before .before .before .before .before .before .before .before .before .before .before .pre .1 .0), loop-of (c .before .before .before .before .before .before .before .before .before .before .before .before .before .before .pre .1 .1) (is-kind (c .before .before .before .before .before .before .before .before .before .before .before .before .before .before .pre .1 .1) (c .before .before .before .before .before .before .before .before .if1 .left) (c .before .before .before .before .before .kind-of .ensures) Loop (c .before .before .before .enum-told2 .given .1))))
+
+run-command-enum-known-kind-2 : (t : ℕ) → run-command-lts.Need-enum-known-kind-2 (run-command-claims t) (run-command-at t) run-command.Post
+run-command-enum-known-kind-2 t c = search needs
 
 run-command-same-length-4 : (t : ℕ) → run-command-lts.Need-same-length-4 (run-command-claims t) (run-command-at t) run-command.Post
 run-command-same-length-4 t c = search needs
@@ -149,7 +146,7 @@ run-command-same-length-6 : (t : ℕ) → run-command-lts.Need-same-length-6 (ru
 run-command-same-length-6 t c = search needs
 
 run-command-returns-3 : (t : ℕ) → run-command-lts.Need-returns-3 (run-command-claims t) (run-command-at t) run-command.Post
-run-command-returns-3 t c = paid-row _ (c .before .before .before .before .before .before .before .before .before .before .before .before .before .entered .ensures) (c .before .before .before .before .before .before .before .before .before .before .before .before .before .before .if1 .left) (is-kind (c .before .before .before .before .before .before .before .before .before .before .before .before .before .before .before .before .before .before .before .before .pre .1 .1) (c .before .before .before .before .before .before .before .before .before .before .before .before .kind-of .ensures) Sequence (c .before .before .before .before .before .before .before .before .before .before .enum-told2 .given .1)) (c .before .before .before .before .before .before .run-row .ensures)
+run-command-returns-3 t c = paid-row _ (c .before .before .before .before .before .before .before .before .before .before .before .before .before .entered .ensures) (c .before .before .before .before .before .before .before .before .before .before .before .before .before .before .if2 .left) (is-kind (c .before .before .before .before .before .before .before .before .before .before .before .before .before .before .before .before .before .before .before .before .before .pre .1 .1) (c .before .before .before .before .before .before .before .before .before .before .before .before .before .before .before .if1 .left) (c .before .before .before .before .before .before .before .before .before .before .before .before .kind-of .ensures) Sequence (c .before .before .before .before .before .before .before .before .before .before .enum-told .given .1)) (c .before .before .before .before .before .before .run-row .ensures)
 
 run-command-same-length-7 : (t : ℕ) → run-command-lts.Need-same-length-7 (run-command-claims t) (run-command-at t) run-command.Post
 run-command-same-length-7 t c = search needs
@@ -161,7 +158,7 @@ run-command-same-length-9 : (t : ℕ) → run-command-lts.Need-same-length-9 (ru
 run-command-same-length-9 t c = search needs
 
 run-command-returns-4 : (t : ℕ) → run-command-lts.Need-returns-4 (run-command-claims t) (run-command-at t) run-command.Post
-run-command-returns-4 t c = paid-guarded _ (c .before .before .before .before .before .before .before .before .before .before .before .before .before .before .entered .ensures) (c .before .before .before .before .before .before .before .before .before .before .before .before .before .before .before .if1 .left) _ (is-kind (c .before .before .before .before .before .before .before .before .before .before .before .before .before .before .before .before .before .before .before .before .before .pre .1 .1) (c .before .before .before .before .before .before .before .before .before .before .before .before .before .kind-of .ensures) (Guarded _) (c .before .before .before .before .before .before .before .before .before .before .before .kind .given .1)) (c .before .before .before .before .before .before .run-guarded .ensures)
+run-command-returns-4 t c = paid-guarded _ (c .before .before .before .before .before .before .before .before .before .before .before .before .before .before .entered .ensures) (c .before .before .before .before .before .before .before .before .before .before .before .before .before .before .before .if2 .left) _ (is-kind (c .before .before .before .before .before .before .before .before .before .before .before .before .before .before .before .before .before .before .before .before .before .before .pre .1 .1) (c .before .before .before .before .before .before .before .before .before .before .before .before .before .before .before .before .if1 .left) (c .before .before .before .before .before .before .before .before .before .before .before .before .before .kind-of .ensures) (Guarded _) (c .before .before .before .before .before .before .before .before .before .before .before .kind .given .1)) (c .before .before .before .before .before .before .run-guarded .ensures)
 
 run-command-same-length-10 : (t : ℕ) → run-command-lts.Need-same-length-10 (run-command-claims t) (run-command-at t) run-command.Post
 run-command-same-length-10 t c = search needs
@@ -173,10 +170,10 @@ run-command-same-length-12 : (t : ℕ) → run-command-lts.Need-same-length-12 (
 run-command-same-length-12 t c = search needs
 
 run-command-returns-5 : (t : ℕ) → run-command-lts.Need-returns-5 (run-command-claims t) (run-command-at t) run-command.Post
-run-command-returns-5 t c = paid-loop _ (c .before .before .before .before .before .before .before .before .before .before .before .before .before .entered .ensures) (c .before .before .before .before .before .before .before .before .before .before .before .before .before .before .if1 .left) (is-kind (c .before .before .before .before .before .before .before .before .before .before .before .before .before .before .before .before .before .before .before .before .pre .1 .1) (c .before .before .before .before .before .before .before .before .before .before .before .before .kind-of .ensures) Loop (c .before .before .before .before .before .before .before .before .before .before .enum-told3 .given .1)) (c .before .before .before .before .before .before .run-loop .ensures)
+run-command-returns-5 t c = paid-loop _ (c .before .before .before .before .before .before .before .before .before .before .before .before .before .entered .ensures) (c .before .before .before .before .before .before .before .before .before .before .before .before .before .before .if2 .left) (is-kind (c .before .before .before .before .before .before .before .before .before .before .before .before .before .before .before .before .before .before .before .before .before .pre .1 .1) (c .before .before .before .before .before .before .before .before .before .before .before .before .before .before .before .if1 .left) (c .before .before .before .before .before .before .before .before .before .before .before .before .kind-of .ensures) Loop (c .before .before .before .before .before .before .before .before .before .before .enum-told2 .given .1)) (c .before .before .before .before .before .before .run-loop .ensures)
 
 run-command-returns-6 : (t : ℕ) → run-command-lts.Need-returns-6 (run-command-claims t) (run-command-at t) run-command.Post
-run-command-returns-6 t c = paid-leaf _ (c .before .before .before .before .entered .ensures) (c .before .before .before .before .before .if1 .left) _ (is-kind (c .before .before .before .before .before .before .before .before .before .before .before .pre .1 .1) (c .before .before .before .kind-of .ensures) (Leaf _) (c .before .kind2 .given .1)) (c .before .before .before .before .before .before .before .before .before .before .before .pre .1 .0)
+run-command-returns-6 t c = paid-leaf _ (c .before .before .before .before .entered .ensures) (c .before .before .before .before .before .if2 .left) _ (is-kind (c .before .before .before .before .before .before .before .before .before .before .before .before .pre .1 .1) (c .before .before .before .before .before .before .if1 .left) (c .before .before .before .kind-of .ensures) (Leaf _) (c .before .kind2 .given .1)) (c .before .before .before .before .before .before .before .before .before .before .before .before .pre .1 .0)
 
 run-guarded-nth-part-requires : (t : ℕ) → run-guarded-lts.Need-nth-part-requires (run-guarded-claims t) (run-guarded-at t) run-guarded.Post
 run-guarded-nth-part-requires t c κs = search needs
@@ -348,24 +345,24 @@ run-row-returns-3 t c = row-over _ (c .before .loop .inv) (c .loop-test .left)
 
 pub +run-command+run-guarded+run-loop+run-row-spec : {M : Type 1} → statement M
 +run-command+run-guarded+run-loop+run-row-spec =
-    close μ-run-command μ-run-guarded μ-run-loop μ-run-row (λ t. run-command-lts.spec (run-command-claims t) (run-command-at t)
+    close μ-run-command μ-run-guarded μ-run-loop μ-run-row (λ t. run-command-lts.spec (run-command-claims t)
+    (run-command-at t)
     run-command.Post
-    (run-command-returns t)
-    (run-command-entered-requires t)
-    (run-command-kind-of-requires t)
-    (run-command-enum-told t)
     (run-command-run-set-requires t)
-    (run-command-enum-told-2 t)
-    (run-command-run-row-requires t)
-    (run-command-enum-known-kind t)
-    (run-command-run-guarded-requires t)
-    (run-command-enum-told-3 t)
-    (run-command-run-loop-requires t)
-    (run-command-enum-known-kind-2 t)
     (run-command-same-length t)
     (run-command-same-length-2 t)
     (run-command-same-length-3 t)
+    (run-command-returns t)
     (run-command-returns-2 t)
+    (run-command-entered-requires t)
+    (run-command-kind-of-requires t)
+    (run-command-enum-told t)
+    (run-command-run-row-requires t)
+    (run-command-enum-known-kind t)
+    (run-command-run-guarded-requires t)
+    (run-command-enum-told-2 t)
+    (run-command-run-loop-requires t)
+    (run-command-enum-known-kind-2 t)
     (run-command-same-length-4 t)
     (run-command-same-length-5 t)
     (run-command-same-length-6 t)
@@ -379,7 +376,8 @@ pub +run-command+run-guarded+run-loop+run-row-spec : {M : Type 1} → statement 
     (run-command-same-length-12 t)
     (run-command-returns-5 t)
     (run-command-returns-6 t))
-    (λ t. run-guarded-lts.spec (run-guarded-claims t) (run-guarded-at t)
+    (λ t. run-guarded-lts.spec (run-guarded-claims t)
+    (run-guarded-at t)
     run-guarded.Post
     (run-guarded-nth-part-requires t)
     (run-guarded-nth-tag-requires t)
@@ -397,7 +395,8 @@ pub +run-command+run-guarded+run-loop+run-row-spec : {M : Type 1} → statement 
     (run-guarded-same-length-5 t)
     (run-guarded-same-length-6 t)
     (run-guarded-returns-2 t))
-    (λ t. run-loop-lts.spec (run-loop-claims t) (run-loop-at t)
+    (λ t. run-loop-lts.spec (run-loop-claims t)
+    (run-loop-at t)
     run-loop.Post
     run-loop-Inv-loop
     run-loop-μ-loop
@@ -417,7 +416,8 @@ pub +run-command+run-guarded+run-loop+run-row-spec : {M : Type 1} → statement 
     (run-loop-same-length-5 t)
     (run-loop-same-length-6 t)
     (run-loop-returns-2 t))
-    λ t. run-row-lts.spec (run-row-claims t) (run-row-at t)
+    λ t. run-row-lts.spec (run-row-claims t)
+    (run-row-at t)
     run-row.Post
     run-row-Inv-loop
     run-row-μ-loop

@@ -4,12 +4,15 @@ use Prim.Native.Nat.{ℕ, _≤_}
 use native.Mathlib.Omega.{arith}
 use borrow.Author.Needs.{needs}
 use Rattle.meaning.specs.Basics.{choose}
-use Rattle.meaning.specs.Tags.{ruleSetTag, loopTag, skipTag, failTag, breakTag}
-use Rattle.fields.specs.Laws.{past}
+use Rattle.meaning.specs.Tags.{sequenceTag, ifTag, tryTag, loopTag, skipTag, failTag, breakTag}
 use Rattle.ends.proofs.kind_of.Statement.{statement}
 use Rattle.ends.proofs.kind_of.Tie as tie
 
 -- the tag that is none of the others
+
+past-try : (tag : ℕ) → (tag ≡ sequenceTag → ⊥) → (tag ≡ ifTag → ⊥) → (tag ≡ tryTag → ⊥) → sequenceTag ≤ tag → loopTag ≤ tag
+past-try tag h1 h2 h3 low = omega arith
+
 last : (tag : ℕ) → (tag ≡ loopTag → ⊥) → (tag ≡ skipTag → ⊥) → (tag ≡ failTag → ⊥) → loopTag ≤ tag → tag ≤ breakTag → tag ≡ breakTag
 last tag h4 h5 h6 low high = omega arith
 
@@ -17,6 +20,7 @@ returns : tie.Need-returns
 returns c = search needs
 
 returns-2 : tie.Need-returns-2
+unfolding choose
 returns-2 c = search needs
 
 returns-3 : tie.Need-returns-3
@@ -24,7 +28,6 @@ unfolding choose
 returns-3 c = search needs
 
 returns-4 : tie.Need-returns-4
-unfolding choose
 returns-4 c = search needs
 
 returns-5 : tie.Need-returns-5
@@ -34,12 +37,7 @@ returns-6 : tie.Need-returns-6
 returns-6 c = search needs
 
 returns-7 : tie.Need-returns-7
-returns-7 c = search needs
-
-returns-8 : tie.Need-returns-8
-returns-8 c low high = last _ (c .match .rest .0 .0 .1) (c .match .rest .0 .1) (c .match .rest .1) (past ruleSetTag _ (c .match .rest .0 .0 .0 .0 .0 .0 .1) (c .match .rest .0 .0 .0 .0 .0 .1) (c .match .rest .0 .0 .0 .0 .1) (c .match .rest .0 .0 .0 .1) low) high
+returns-7 c low high = last _ (c .match .rest .0 .0 .1) (c .match .rest .0 .1) (c .match .rest .1) (past-try _ (c .match .rest .0 .0 .0 .0 .0 .1) (c .match .rest .0 .0 .0 .0 .1) (c .match .rest .0 .0 .0 .1) low) high
 
 pub kind-of-spec : {M : Type 1} → statement M
-kind-of-spec =
-    tie.close
-    (tie.spec returns returns-2 returns-3 returns-4 returns-5 returns-6 returns-7 returns-8)
+kind-of-spec = tie.close (tie.spec returns returns-2 returns-3 returns-4 returns-5 returns-6 returns-7)
