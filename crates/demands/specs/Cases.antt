@@ -1,21 +1,21 @@
 -- What shows that an interpreter does not meet a demand: the cases of document 01 as what run is lent, what ours leaves of
 -- them, and interpreters that differ from ours in one thing. Rests on Second, Third and the meaning's ProvedSet.
-use Prim.Native.Nat.{ℕ, zero, suc, _*_, _≤_}
+use Prim.Native.Nat.{ℕ, zero, suc, _*_, _^_, _≤_}
 use mathlib.Core.Path.{_≡_, sym, _∙_, ap, subst}
 use mathlib.Core.Bool.{Bool, true}
 use mathlib.Core.Option.{Option, some, none}
 use mathlib.Core.List.{List, [], _∷_, map}
 use native.Mathlib.Omega.{arith}
 use borrow.Author.Tests.{ltb-true}
-use lib.ListN.{getD, take, replicate, List·getD-map}
+use lib.ListN.{length, getD, take, replicate, List·getD-map}
 use lib.Dec.{ltb}
-use Rattle.meaning.specs.Basics.{both, every}
+use Rattle.meaning.specs.Basics.{both, every, clauses}
 use Rattle.meaning.specs.Layout.{base, recordLength}
 use Rattle.meaning.specs.Image.{Rule, Program, program, Command}
 use Rattle.meaning.specs.Commands.{State, Out}
-use Rattle.meaning.specs.Calls.{refused, runRefusal, journalRoom, finished, Lent}
+use Rattle.meaning.specs.Calls.{refused, runRefusal, journalRoom, finished, Lent, LentBack}
 use Rattle.meaning.specs.ProvedSet.{Expected, Case, given, cases, proved-set, plainNode, onPlainNode, results, skipField}
-use Rattle.demands.specs.Demands.{Outcome, Interpreter, In, Bytewise, start, Demand2, Demand3}
+use Rattle.demands.specs.Demands.{Outcome, Interpreter, In, Buffer, Lendable, LendableBack, start, Demand2, Demand3}
 use Rattle.demands.specs.Ours.{outcome, ours}
 use Rattle.demands.specs.First.{run-settled}
 use Rattle.laws.specs.Undoing.{base-numbered}
@@ -66,15 +66,67 @@ byteList [] e i = omega arith
 byteList (a ∷ bs) e zero = ltb-true a 256 (both-true _ _ e .0)
 byteList (a ∷ bs) e (suc i) = byteList bs (both-true _ _ e .1) i
 
-abbrev pub inBytes : Lent → Bool
-inBytes x =
-    both (every (λ b. ltb b 256) (x .nodes)) (both (every (λ b. ltb b 256) (x .edges)) (every (λ b. ltb b 256) (x .image)))
+abbrev isBuffer : List ℕ → Bool
+isBuffer bs = both (every (λ b. ltb b 256) bs) (ltb (length bs) (2 ^ 64))
 
-pub lentBytes : (x : Lent) → inBytes x ≡ true → Bytewise x
-lentBytes x e =
-    let t = both-true _ _ e in
-    let u = both-true _ _ (t .1) in
-    record { nodes = byteList (x .nodes) (t .0); edges = byteList (x .edges) (u .0); image = byteList (x .image) (u .1) }
+buffer : (bs : List ℕ) → isBuffer bs ≡ true → Buffer bs
+buffer bs e = let t = both-true _ _ e in record { bytes = byteList bs (t .0); fits = ltb-true _ _ (t .1) }
+
+-- all of it can be lent
+abbrev pub canBeLent : Lent → Bool
+canBeLent x =
+    clauses
+    (isBuffer (x .nodes)
+    ∷ isBuffer (x .edges)
+    ∷ isBuffer (x .journal)
+    ∷ isBuffer (x .image)
+    ∷ ltb (x .fuel) (2 ^ 32)
+    ∷ isBuffer (x .report)
+    ∷ [])
+
+pub lendable : (x : Lent) → canBeLent x ≡ true → Lendable x
+unfolding clauses
+lendable x e =
+    let a = both-true _ _ e in
+    let b = both-true _ _ (a .1) in
+    let c = both-true _ _ (b .1) in
+    let d = both-true _ _ (c .1) in
+    let f = both-true _ _ (d .1) in
+    let g = both-true _ _ (f .1) in
+    record {
+      nodes = buffer (x .nodes) (a .0);
+      edges = buffer (x .edges) (b .0);
+      journal = buffer (x .journal) (c .0);
+      image = buffer (x .image) (d .0);
+      fuel = ltb-true _ _ (f .0);
+      report = buffer (x .report) (g .0);
+    }
+
+abbrev pub canBeLentBack : LentBack → Bool
+canBeLentBack y =
+    clauses
+    (isBuffer (y .nodes)
+    ∷ isBuffer (y .edges)
+    ∷ isBuffer (y .journal)
+    ∷ ltb (y .count) (2 ^ 32)
+    ∷ isBuffer (y .report)
+    ∷ [])
+
+pub lendableBack : (y : LentBack) → canBeLentBack y ≡ true → LendableBack y
+unfolding clauses
+lendableBack y e =
+    let a = both-true _ _ e in
+    let b = both-true _ _ (a .1) in
+    let c = both-true _ _ (b .1) in
+    let d = both-true _ _ (c .1) in
+    let f = both-true _ _ (d .1) in
+    record {
+      nodes = buffer (y .nodes) (a .0);
+      edges = buffer (y .edges) (b .0);
+      journal = buffer (y .journal) (c .0);
+      count = ltb-true _ _ (d .0);
+      report = buffer (y .report) (f .0);
+    }
 
 -- An interpreter that has our undo.
 abbrev pub running : (Lent → Outcome) → Interpreter
@@ -100,17 +152,17 @@ by f =
 
 -- Breaking demand 2: another outcome than ours where ours starts.
 
-pub breaks2 : (I : Interpreter) (x : Lent) → inBytes x ≡ true → ours base .run x .answer ≤ 7 → (I .run x ≡ ours base .run x → ⊥)
+pub breaks2 : (I : Interpreter) (x : Lent) → canBeLent x ≡ true → ours base .run x .answer ≤ 7 → (I .run x ≡ ours base .run x → ⊥)
     → Demand2 base I → ⊥
-breaks2 I x b l n d = n (one-outcome base base-numbered I d x (lentBytes x b) (run-settled base x l))
+breaks2 I x b l n d = n (one-outcome base base-numbered I d x (lendable x b) (run-settled base x l))
 
-pub atCase : (n : ℕ) → inBytes (lent (caseAt n)) ≡ true → caseAt n .expected .answer ≤ 7 → (I : Interpreter)
+pub atCase : (n : ℕ) → canBeLent (lent (caseAt n)) ≡ true → caseAt n .expected .answer ≤ 7 → (I : Interpreter)
     → (I .run (lent (caseAt n)) ≡ expects (caseAt n .expected) → ⊥) → Demand2 base I → ⊥
 atCase n b l I h =
     breaks2 I (lent (caseAt n)) b (subst (λ (o : Outcome). o .answer ≤ 7) (sym (proved n)) l) (λ e. h (e ∙ proved n))
 
 -- Breaking demand 3: other steps than ours where ours starts.
 
-pub breaks3 : (I : Interpreter) (x : Lent) → inBytes x ≡ true → ours base .run x .answer ≤ 7 → In (I .run x .answer) (0 ∷ 1 ∷ 6 ∷ [])
+pub breaks3 : (I : Interpreter) (x : Lent) → canBeLent x ≡ true → ours base .run x .answer ≤ 7 → In (I .run x .answer) (0 ∷ 1 ∷ 6 ∷ [])
     → (take 4 (I .run x .report) ≡ take 4 (ours base .run x .report) → ⊥) → Demand3 base I → ⊥
-breaks3 I x b l a n d = n (one-count base base-numbered x (lentBytes x b) (run-settled base x l) I d a)
+breaks3 I x b l a n d = n (one-count base base-numbered x (lendable x b) (run-settled base x l) I d a)

@@ -7,12 +7,12 @@ use mathlib.Core.Path.{_≡_}
 use mathlib.Core.Bool.{Bool, true, false}
 use mathlib.Core.Option.{Option, some, none}
 use mathlib.Core.List.{List, [], _∷_, _++_, map, reverse}
-use Prim.Native.Nat.{ℕ, _-_, _*_, _/_, _<_, _≤_}
-use lib.ListN.{length, drop, replicate}
+use Prim.Native.Nat.{ℕ, zero, suc, _+_, _-_, _*_, _/_, _^_, _<_, _≤_}
+use lib.ListN.{length, getD, take, drop, replicate}
 use lib.Dec.{eqb, leb}
-use Rattle.meaning.specs.Basics.{concat, padded, absent, isSome, firstFailing}
+use Rattle.meaning.specs.Basics.{choose, concat, padded, absent, isSome, firstFailing}
 use Rattle.meaning.specs.Numbers.{number, bytes}
-use Rattle.meaning.specs.Layout.{nodeLength, edgeLength, recordLength, fitsTable, hostOf, writeNodes, writeEdges, writeRecord, keepsLayout}
+use Rattle.meaning.specs.Layout.{nodeLength, edgeLength, recordLength, kindPlace, slotOf, fitsTable, hostOf, writeNodes, writeEdges, writeRecord, keepsLayout}
 use Rattle.meaning.specs.Image.{Program, limits, program}
 use Rattle.meaning.specs.Commands.{State, beginning}
 use Rattle.demands.specs.Inference.{Runs}
@@ -24,13 +24,29 @@ use Rattle.meaning.specs.declared.Stop.the-variants.{OutOfFuel, NoNodeRoom, NoE
 use Rattle.meaning.specs.declared.End.{End}
 use Rattle.meaning.specs.declared.End.the-variants.{Done, Failed, Broke, Stopped}
 
--- Interpreters.
+-- What a driver can lend: buffers of bytes, whose lengths are numbers of 64 bits, and numbers of 32 bits. Nothing else reaches a
+-- call, and the demands speak of nothing else.
 
--- what is read of what run is lent holds bytes
-pub record Bytewise (x : Lent) : Type 0 where
-  pub nodes : Bytes (x .nodes)
-  pub edges : Bytes (x .edges)
-  pub image : Bytes (x .image)
+pub record Buffer (bs : List ℕ) : Type 0 where
+  pub bytes : Bytes bs
+  pub fits : length bs < 2 ^ 64
+
+pub record Lendable (x : Lent) : Type 0 where
+  pub nodes : Buffer (x .nodes)
+  pub edges : Buffer (x .edges)
+  pub journal : Buffer (x .journal)
+  pub image : Buffer (x .image)
+  pub fuel : x .fuel < 2 ^ 32
+  pub report : Buffer (x .report)
+
+pub record LendableBack (y : LentBack) : Type 0 where
+  pub nodes : Buffer (y .nodes)
+  pub edges : Buffer (y .edges)
+  pub journal : Buffer (y .journal)
+  pub count : y .count < 2 ^ 32
+  pub report : Buffer (y .report)
+
+-- Interpreters.
 
 -- what either call leaves: the answer's number, and every buffer
 pub record Outcome : Type 0 where
@@ -100,6 +116,10 @@ pub record Restored (x : Lent) (count : ℕ) (o : Outcome) : Type 0 where
   pub journal : o .journal ≡ replicate (length (x .journal)) 0
   pub report : o .report ≡ stating 0 count
 
+-- a table with slots of w bytes, the first w of the bytes b in slot i
+abbrev pub withSlot : ℕ → ℕ → List ℕ → List ℕ → List ℕ
+withSlot w i b table = take (i * w) table ++ take w b ++ drop (i * w + w) table
+
 module _ (L : Layout) where
   -- What is asked of the input, in order, with the number that is answered where it does not hold.
 
@@ -131,20 +151,48 @@ module _ (L : Layout) where
       ++ (keepsRecords L (y .nodes) (y .edges) (y .journal) (y .count), 20)
       ∷ [])
 
+  -- An accepted undo, on bytes.
+
+  -- record n of a journal, from 0
+  abbrev pub recordAt : List ℕ → ℕ → List ℕ
+  recordAt journal n = take (recordLength L) (drop (n * recordLength L) journal)
+
+  -- the bytes that record r holds of its slot as it stood before; base: from byte 4 on
+  abbrev pub before : List ℕ → List ℕ
+  before r = drop (2 * L .width) r
+
+  -- both tables after the first n records of the journal are stored back, from last to first; kind 1 is a node's
+  unfoldable pub storedBack : List ℕ → ℕ → List ℕ → List ℕ → List ℕ × List ℕ
+  storedBack journal zero nodes edges = (nodes, edges)
+  storedBack journal (suc n) nodes edges =
+      let r = recordAt journal n in
+      choose (eqb (getD r kindPlace 0) 1)
+      (storedBack journal n (withSlot (nodeLength L) (slotOf L r) (before r) nodes) edges)
+      (storedBack journal n nodes (withSlot (edgeLength L) (slotOf L r) (before r) edges))
+
+  -- the counted records are stored back, and are zeros then; 0 steps and the count are reported
+  pub record StoredBack (y : LentBack) (o : Outcome) : Type 0 where
+    pub answer : o .answer ≡ 0
+    pub nodes : o .nodes ≡ storedBack (y .journal) (y .count) (y .nodes) (y .edges) .0
+    pub edges : o .edges ≡ storedBack (y .journal) (y .count) (y .nodes) (y .edges) .1
+    pub journal : o .journal ≡ replicate (y .count * recordLength L) 0 ++ drop (y .count * recordLength L) (y .journal)
+    pub report : o .report ≡ stating 0 (y .count)
+
   -- 1. Every program, graph, table and allowance gets an answer from the published table. The entry point itself refuses bad
   -- input. A refusal before the start changes no table or journal; a run that starts and ends in anything but a result gives
-  -- the graph back byte for byte, with the journal cleared.
+  -- the graph back byte for byte, with the journal cleared. An accepted undo stores the counted records back.
   pub record Demand1 (I : Interpreter) : Type 0 where
-    pub answers : (x : Lent) → In (I .run x .answer) runTable
-    pub refuses : (x : Lent) (n : ℕ) → refusal x ≡ some n → I .run x .answer ≡ n
-    pub starts : (x : Lent) → refusal x ≡ none → I .run x .answer ≤ 7
-    pub untouched : (x : Lent) → 9 ≤ I .run x .answer → Untouched (x .nodes) (x .edges) (x .journal) (x .report) (I .run x)
-    pub givesBack : (x : Lent) → 1 ≤ I .run x .answer → I .run x .answer ≤ 7 → GivenBack x (I .run x)
-    pub undoAnswers : (y : LentBack) → In (I .undo y .answer) undoTable
-    pub undoRefuses : (y : LentBack) (n : ℕ) → undoRefusal y ≡ some n → I .undo y .answer ≡ n
-    pub undoStarts : (y : LentBack) → undoRefusal y ≡ none → I .undo y .answer ≡ 0
-    pub undoUntouched : (y : LentBack) → 9 ≤ I .undo y .answer
+    pub answers : (x : Lent) → Lendable x → In (I .run x .answer) runTable
+    pub refuses : (x : Lent) → Lendable x → (n : ℕ) → refusal x ≡ some n → I .run x .answer ≡ n
+    pub starts : (x : Lent) → Lendable x → refusal x ≡ none → I .run x .answer ≤ 7
+    pub untouched : (x : Lent) → Lendable x → 9 ≤ I .run x .answer
+        → Untouched (x .nodes) (x .edges) (x .journal) (x .report) (I .run x)
+    pub givesBack : (x : Lent) → Lendable x → 1 ≤ I .run x .answer → I .run x .answer ≤ 7 → GivenBack x (I .run x)
+    pub undoAnswers : (y : LentBack) → LendableBack y → In (I .undo y .answer) undoTable
+    pub undoRefuses : (y : LentBack) → LendableBack y → (n : ℕ) → undoRefusal y ≡ some n → I .undo y .answer ≡ n
+    pub undoUntouched : (y : LentBack) → LendableBack y → 9 ≤ I .undo y .answer
         → Untouched (y .nodes) (y .edges) (y .journal) (y .report) (I .undo y)
+    pub undoes : (y : LentBack) → LendableBack y → undoRefusal y ≡ none → StoredBack y (I .undo y)
 
   -- What a run of the meaning leaves.
 
@@ -178,13 +226,14 @@ module _ (L : Layout) where
   -- 2. Commands mean what GP 2 says, with document 01's fixed order of choice: a run that starts leaves what the rules of
   -- inference say of its program. Undoing the journal of a result restores the graph that came in.
   pub record Demand2 (I : Interpreter) : Type 0 where
-    pub means : (x : Lent) (p : Program) → Bytewise x → refusal x ≡ none → program (x .image) ≡ some p
+    pub means : (x : Lent) → Lendable x → (p : Program) → refusal x ≡ none → program (x .image) ≡ some p
         → (e : End) × (t : State) × Means x p e t × (I .run x ≡ leaves x e t)
-    pub restores : (x : Lent) (report : List ℕ) → Bytewise x → length report ≡ 8
+    pub restores : (x : Lent) → Lendable x → (report : List ℕ) → Buffer report → length report ≡ 8
         → I .run x .answer ≡ 0 → Restored x (recordsIn (I .run x)) (I .undo (lentBack (I .run x) report))
 
   -- y is x with any fuel, further free slots behind the tables and any longer journal, within the limits
   pub record Roomier (x y : Lent) : Type 0 where
+    pub lendable : Lendable y
     pub nodesMore : ℕ
     pub edgesMore : ℕ
     pub nodes : y .nodes ≡ x .nodes ++ replicate (nodesMore * nodeLength L) 0
@@ -227,4 +276,4 @@ module _ (L : Layout) where
     pub short : (y : Lent) (more : Roomier x y) → y .fuel < s → I .run y .answer ≡ 2
 
   pub record Demand3 (I : Interpreter) : Type 0 where
-    pub settled : (x : Lent) → Bytewise x → In (I .run x .answer) (0 ∷ 1 ∷ 6 ∷ []) → Settled I x
+    pub settled : (x : Lent) → Lendable x → In (I .run x .answer) (0 ∷ 1 ∷ 6 ∷ []) → Settled I x

@@ -1,4 +1,4 @@
--- Our two calls meet demand 1. Rests on Ours.
+-- Our two calls meet demand 1. Rests on Ours and Undone.
 use Prim.Native.Nat.{ℕ, _≤_}
 use mathlib.Core.Path.{_≡_, refl, sym, _∙_, ap}
 use mathlib.Core.Logic.{_⊎_, inl, inr}
@@ -10,9 +10,10 @@ use lib.ListN.{length}
 use lib.Dec.{eqb}
 use Rattle.meaning.specs.Basics.{choose, absent, both, firstFailing}
 use Rattle.meaning.specs.Commands.{State}
-use Rattle.meaning.specs.Calls.{Left, answerNumber, refusalNumber, refused, undoOn, undo, Lent, LentBack}
+use Rattle.meaning.specs.Calls.{answerNumber, refusalNumber, refused, Lent, LentBack}
 use Rattle.demands.specs.Demands.{Outcome, In, runTable, undoTable, stopAnswer, Untouched, GivenBack, refusal, undoRefusal, leaves, Demand1}
-use Rattle.demands.specs.Ours.{outcome, ours, refusing-some, end, ours-leaves, good, ours-refused, undoing-none, undoing-some, undo-leaves, undo-left}
+use Rattle.demands.specs.Ours.{outcome, ours, refusing-some, end, ours-leaves, good, ours-refused, undoing-some, undo-left}
+use Rattle.demands.specs.Undone.{ours-undoes}
 use Rattle.meaning.specs.Laws.Tests.{some-inj}
 use Rattle.meaning.specs.Laws.Every.{Every}
 use Rattle.meaning.specs.Laws.Checks.{failing-of}
@@ -147,7 +148,7 @@ module _ (L : Layout) (x : Lent) where
           absurd (omega (arith, w .2))
 
 module _ (L : Layout) (y : LentBack) where
-  undo-answer : (n : ℕ) → undoRefusal L y ≡ some n → (In n undoTable) × (9 ≤ n)
+  pub undo-answer : (n : ℕ) → undoRefusal L y ≡ some n → (In n undoTable) × (9 ≤ n)
   unfolding absent both
   undo-answer n e =
       let k : (n : ℕ) → Type 0 = λ n. (In n undoTable) × (9 ≤ n) in
@@ -158,10 +159,6 @@ module _ (L : Layout) (y : LentBack) where
   undo-told : (n : ℕ) → undoRefusal L y ≡ some n → Told n (y .report)
   undo-told n e = told (y .report) _ (omega arith, (omega arith, (omega arith, (omega arith, tt)))) n e
 
-  undo-none : undoRefusal L y ≡ none → ours L .undo y .answer ≡ 0
-  unfolding undoOn answerNumber
-  undo-none e = ap (λ (l : Left). answerNumber (l .answer)) (undo-leaves L y (undoing-none L y e))
-
   undo-cases : (P : Outcome → Type 0)
       → ((w : Refusal) (n : ℕ) → undoRefusal L y ≡ some n → refusalNumber w ≡ n
       → P (outcome (refused w (y .nodes) (y .edges) (y .journal) (y .report))))
@@ -170,7 +167,7 @@ module _ (L : Layout) (y : LentBack) where
     where
       at : (o : Option ℕ) → undoRefusal L y ≡ o → P (ours L .undo y)
       at (some n) e = let w = undoing-some L y n e in rw (undo-left L y (w .0) (w .1)) (r (w .0) n e (w .2))
-      at none e = s (undo-none e)
+      at none e = s (ours-undoes L y e .answer)
 
 zero-answer : In 0 undoTable
 unfolding absent both
@@ -179,34 +176,34 @@ zero-answer = refl
 pub demand1 : (L : Layout) → Demand1 L (ours L)
 demand1 L =
     record {
-      answers = λ x. cases L x (λ o. In (o .answer) runTable)
+      answers = λ x l. cases L x (λ o. In (o .answer) runTable)
           (λ w n e q. rw (refused-answer L (x .nodes) (x .edges) (x .journal) (x .report) w, q) (refusal-answer L x n e .0))
           (λ e t k. left-answer L x e t .0);
-      refuses = λ x n e.
+      refuses = λ x l n e.
           let w = refusing-some L x n e in
           ap (λ (o : Outcome). o .answer) (ours-refused L x (w .0) (w .1))
           ∙ refused-answer L (x .nodes) (x .edges) (x .journal) (x .report) (w .0) ∙ w .2;
-      starts = λ x e. cases L x (λ o. o .answer ≤ 7)
+      starts = λ x l e. cases L x (λ o. o .answer ≤ 7)
           (λ w n q i. let z : _≡_ {A = ℕ} 0 1 = cc in absurd (omega arith))
           (λ e t k. left-answer L x e t .1);
-      untouched = λ x.
+      untouched = λ x l.
           cases L x (λ o. 9 ≤ o .answer → Untouched (x .nodes) (x .edges) (x .journal) (x .report) o)
           (λ w n e q k. untouched L (x .nodes) (x .edges) (x .journal) (x .report) w (rw q (refusal-told L x n e)))
           (λ e t k j. absurd (omega (arith, left-answer L x e t .1)));
-      givesBack = λ x. cases L x (λ o. 1 ≤ o .answer → o .answer ≤ 7 → GivenBack x o)
+      givesBack = λ x l. cases L x (λ o. 1 ≤ o .answer → o .answer ≤ 7 → GivenBack x o)
           (λ w n e q i j.
           absurd (omega (arith, refused-answer L (x .nodes) (x .edges) (x .journal) (x .report) w, refusal-answer L x n e .1)))
           (λ e t k i j. left-back L x e t i);
-      undoAnswers = λ y. undo-cases L y (λ o. In (o .answer) undoTable)
+      undoAnswers = λ y l. undo-cases L y (λ o. In (o .answer) undoTable)
           (λ w n e q. rw (refused-answer L (y .nodes) (y .edges) (y .journal) (y .report) w, q) (undo-answer L y n e .0))
           (λ e. rw e zero-answer);
-      undoRefuses = λ y n e.
+      undoRefuses = λ y l n e.
           let w = undoing-some L y n e in
           ap (λ (o : Outcome). o .answer) (undo-left L y (w .0) (w .1))
           ∙ refused-answer L (y .nodes) (y .edges) (y .journal) (y .report) (w .0) ∙ w .2;
-      undoStarts = λ y e. undo-none L y e;
-      undoUntouched = λ y.
+      undoUntouched = λ y l.
           undo-cases L y (λ o. 9 ≤ o .answer → Untouched (y .nodes) (y .edges) (y .journal) (y .report) o)
           (λ w n e q k. untouched L (y .nodes) (y .edges) (y .journal) (y .report) w (rw q (undo-told L y n e)))
           (λ e k. absurd (omega arith));
+      undoes = λ y l. ours-undoes L y;
     }

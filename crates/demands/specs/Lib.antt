@@ -2,6 +2,7 @@ pub mod Inference
 pub mod Demands
 pub mod Laws
 pub mod Ours
+pub mod Undone
 pub mod First
 pub mod Started
 pub mod Second

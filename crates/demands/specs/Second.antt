@@ -10,7 +10,7 @@ use Rattle.meaning.specs.Layout.{recordLength}
 use Rattle.meaning.specs.Image.{Program, program}
 use Rattle.meaning.specs.Commands.{State}
 use Rattle.meaning.specs.Calls.{Left, answerNumber, finished, run, Lent}
-use Rattle.demands.specs.Demands.{Outcome, Interpreter, Bytewise, refusal, leaves, Means, recordsIn, lentBack, Restored, Demand2}
+use Rattle.demands.specs.Demands.{Outcome, Interpreter, Lendable, refusal, leaves, Means, recordsIn, lentBack, Restored, Demand2}
 use Rattle.demands.specs.Ours.{ours, refusing-none, ours-leaves, good}
 use Rattle.demands.specs.First.{stop-answer, run-settled}
 use Rattle.demands.specs.Started.{rules-sound, last, last-means}
@@ -23,7 +23,7 @@ use Rattle.meaning.specs.declared.Answer.the-variants.{Result}
 use Rattle.meaning.specs.declared.End.{End}
 use Rattle.meaning.specs.declared.End.the-variants.{Done, Failed, Broke, Stopped}
 
-module _ (L : Layout) (k : Numbered L) (x : Lent) (b : Bytewise x) where
+module _ (L : Layout) (k : Numbered L) (x : Lent) (b : Lendable x) where
   meant : (p : Program) → refusal L x ≡ none → program (x .image) ≡ some p
       → (e : End) × (t : State) × Means L x p e t × (ours L .run x ≡ leaves L x e t)
   meant p e q =
@@ -57,7 +57,7 @@ module _ (L : Layout) (k : Numbered L) (x : Lent) (b : Bytewise x) where
   restored report e q =
       let r = answers-result q in
       let u =
-      run-undo L k (x .nodes) (x .edges) (x .journal) (x .image) (x .fuel) (x .report) (b .nodes) (b .edges) (b .image) report e r in
+      run-undo L k (x .nodes) (x .edges) (x .journal) (x .image) (x .fuel) (x .report) (b .nodes .bytes) (b .edges .bytes) (b .image .bytes) report e r in
       record {
         answer = ap (λ (l : Left). answerNumber (l .answer)) u;
         nodes = ap (λ (l : Left). l .nodes) u;
@@ -67,14 +67,14 @@ module _ (L : Layout) (k : Numbered L) (x : Lent) (b : Bytewise x) where
       }
 
 pub demand2 : (L : Layout) → Numbered L → Demand2 L (ours L)
-demand2 L k = record { means = λ x p b. meant L k x b p; restores = λ x report b. restored L k x b report }
+demand2 L k = record { means = λ x b p. meant L k x b p; restores = λ x b report r. restored L k x b report }
 
 -- Two interpreters that meet demand 2 leave the same of each input that is accepted.
-pub one-outcome : (L : Layout) → Numbered L → (I : Interpreter) → Demand2 L I → (x : Lent) → Bytewise x → refusal L x ≡ none
+pub one-outcome : (L : Layout) → Numbered L → (I : Interpreter) → Demand2 L I → (x : Lent) → Lendable x → refusal L x ≡ none
     → I .run x ≡ ours L .run x
 one-outcome L k I d x b e =
     let a = good L x e in
-    let m = d .means x (a .tree) b e (a .form) in
+    let m = d .means x b (a .tree) e (a .form) in
     let n = meant L k x b (a .tree) e (a .form) in
     let q =
     runs-one (L .atoms) (length (x .journal) / recordLength L) (a .tree .rules) (rules-sound L k x b a) (m .2) (n .2) in

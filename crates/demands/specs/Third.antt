@@ -13,7 +13,7 @@ use Rattle.meaning.specs.Layout.{nodeLength, edgeLength, recordLength, readNode
 use Rattle.meaning.specs.Image.{Program, program}
 use Rattle.meaning.specs.Commands.{State, Out, ends, exec, beginning}
 use Rattle.meaning.specs.Calls.{Lent}
-use Rattle.demands.specs.Demands.{Outcome, Interpreter, stopAnswer, In, Bytewise, stating, refusal, start, leaves, Means, Roomier, Same, Entered, Settled, Demand3}
+use Rattle.demands.specs.Demands.{Outcome, Interpreter, stopAnswer, In, Lendable, stating, refusal, start, leaves, Means, Roomier, Same, Entered, Settled, Demand3}
 use Rattle.demands.specs.Ours.{ours, end, ours-leaves, Good, good, good-starts}
 use Rattle.demands.specs.First.{run-settled}
 use Rattle.demands.specs.Started.{rules-sound, written-fits, last-means}
@@ -103,7 +103,7 @@ module _ (L : Layout) (x y : Lent) (more : Roomier L x y) where
   left-same (Stopped w) t f h =
       record { answer = refl; report = refl; nodes = more .nodes; edges = more .edges; journal = zeros-longer }
 
-module _ (L : Layout) (k : Numbered L) (x : Lent) (b : Bytewise x) (h : In (ours L .run x .answer) (0 ∷ 1 ∷ 6 ∷ [])) where
+module _ (L : Layout) (k : Numbered L) (x : Lent) (b : Lendable x) (h : In (ours L .run x .answer) (0 ∷ 1 ∷ 6 ∷ [])) where
   starts : refusal L x ≡ none
   starts = run-settled L x (settled-low (ours L .run x .answer) h)
 
@@ -235,7 +235,7 @@ pub demand3 : (L : Layout) → Numbered L → Demand3 L (ours L)
 demand3 L k = record { settled = λ x b h. settled L k x b h }
 
 -- Demand 3 leaves one count of steps: what an interpreter that meets it states where ours starts is what ours states.
-module _ (L : Layout) (k : Numbered L) (x : Lent) (b : Bytewise x) (e : refusal L x ≡ none) where
+module _ (L : Layout) (k : Numbered L) (x : Lent) (b : Lendable x) (e : refusal L x ≡ none) where
   pub entered-is : (s : ℕ) → Entered L x s → take 4 (ours L .run x .report) ≡ bytes 4 s
   entered-is s n =
       let a = good L x e in

@@ -16,7 +16,7 @@ use Rattle.meaning.specs.ProvedSet.{Case, plainNode, onPlainNode, results, ends
 use Rattle.demands.specs.Demands.{Outcome, Interpreter, stating, Roomier, Demand1, Demand2, Demand3}
 use Rattle.demands.specs.Ours.{ours}
 use Rattle.demands.specs.First.{run-settled}
-use Rattle.demands.specs.Cases.{lent, caseAt, lentBytes, running, runsOn, by, breaks2, atCase, breaks3}
+use Rattle.demands.specs.Cases.{lent, caseAt, lendable, running, runsOn, by, breaks2, atCase, breaks3}
 use Rattle.laws.specs.Undoing.{base-numbered}
 use Rattle.demands.specs.Third.{entered-is}
 use Rattle.meaning.specs.declared.Stop.the-variants.{OutOfFuel, NoNodeRoom, NoEdgeRoom, NoRecordRoom, LabelTooLarge, EdgeOnFreeNode}
@@ -219,12 +219,13 @@ unfolding computing runsOn madeDone
 answering-short d =
     let x = lent (caseAt 0) in
     let y = lent (caseAt 1) in
-    let b = lentBytes x refl in
+    let b = lendable x refl in
     let n = d .settled x b refl in
     let t = entered-is base base-numbered x b (run-settled base x (omega arith)) (n .s) (n .entered) in
     let one = ap (λ (l : List ℕ). getD l 3 0) t in
     let more : Roomier base x y =
     record {
+      lendable = lendable y refl;
       nodesMore = 0;
       edgesMore = 0;
       nodes = refl;
@@ -256,6 +257,6 @@ cutShort = onPlainNode 2 (marks ++ field 0x51 (calls 0 ++ skipField)) (endsIn 2 
 pub leaving-half : Demand1 base leavesHalf → ⊥
 unfolding computing runsOn madeDone
 leaving-half d =
-    let b = d .givesBack (lent cutShort) (omega arith) (omega arith) in
+    let b = d .givesBack (lent cutShort) (lendable (lent cutShort) refl) (omega arith) (omega arith) in
     let z = ap (λ (l : List ℕ). getD l 1 0) (b .nodes) in
     omega arith

@@ -1,6 +1,5 @@
 // The calls, for a driver in C: byte buffers and numbers in, a number out. What each leaves is fixed on all inputs.
-ghost use Rattle.meaning.specs.Layout.{base};
-ghost use Rattle.meaning.specs.Calls.{run, undo, lending, lendingBack, Leaves};
+ghost use Rattle.meaning.specs.Calls.{lending, lendingBack, RunPromise, UndoPromise};
 use meaning::Layout;
 
 pub mod running;
@@ -16,7 +15,7 @@ pub extern "C" fn nhiemavut_run(
     fuel: u32,
     report: &mut [u8],
 ) -> u32
-    ensures { λ r. ⌜ Leaves (run base (lending (now (nodes .entry)) (now (edges .entry)) (now (journal .entry)) (now (image .entry)) fuel (now (report .entry)))) r (now (nodes .exit)) (now (edges .exit)) (now (journal .exit)) (now (report .exit)) ⌝ }
+    ensures { λ r. ⌜ RunPromise (lending (now (nodes .entry)) (now (edges .entry)) (now (journal .entry)) (now (image .entry)) fuel (now (report .entry))) r (now (nodes .exit)) (now (edges .exit)) (now (journal .exit)) (now (report .exit)) ⌝ }
 {
     answers::answer_number(running::run_call(
         Layout::base(),
@@ -38,7 +37,7 @@ pub extern "C" fn nhiemavut_undo(
     count: u32,
     report: &mut [u8],
 ) -> u32
-    ensures { λ r. ⌜ Leaves (undo base (lendingBack (now (nodes .entry)) (now (edges .entry)) (now (journal .entry)) count (now (report .entry)))) r (now (nodes .exit)) (now (edges .exit)) (now (journal .exit)) (now (report .exit)) ⌝ }
+    ensures { λ r. ⌜ UndoPromise (lendingBack (now (nodes .entry)) (now (edges .entry)) (now (journal .entry)) count (now (report .entry))) r (now (nodes .exit)) (now (edges .exit)) (now (journal .exit)) (now (report .exit)) ⌝ }
 {
     answers::answer_number(undo::undo_call(Layout::base(), nodes, edges, journal, count, report))
 }

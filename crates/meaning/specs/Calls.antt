@@ -9,7 +9,7 @@ use lib.ListN.{length, drop, replicate}
 use lib.Dec.{eqb, leb}
 use Rattle.meaning.specs.Basics.{choose, both, every, zeros, concat, padded, isSome, each, firstFailing}
 use Rattle.meaning.specs.Numbers.{number, bytes}
-use Rattle.meaning.specs.Layout.{Tables, undone, nodeLength, edgeLength, recordLength, fitsTable, pieces, cut, hostOf, writeNodes, writeEdges, writeRecord, keepsLayout, readRecord, keepsRecord}
+use Rattle.meaning.specs.Layout.{base, Tables, undone, nodeLength, edgeLength, recordLength, fitsTable, pieces, cut, hostOf, writeNodes, writeEdges, writeRecord, keepsLayout, readRecord, keepsRecord}
 use Rattle.meaning.specs.Image.{Program, limits, program}
 use Rattle.meaning.specs.References.{references}
 use Rattle.meaning.specs.Placement.{placement}
@@ -218,3 +218,11 @@ module _ (L : Layout) where
 
   unfoldable pub undo : LentBack → Left
   undo y = undoOn (undoRefusal y) y
+
+-- What the exported calls promise, with document 01's layout: the number that is answered, and what lies in every buffer then.
+
+abbrev pub RunPromise : Lent → ℕ → List ℕ → List ℕ → List ℕ → List ℕ → Type 0
+RunPromise x number nodes edges journal report = Leaves (run base x) number nodes edges journal report
+
+abbrev pub UndoPromise : LentBack → ℕ → List ℕ → List ℕ → List ℕ → List ℕ → Type 0
+UndoPromise y number nodes edges journal report = Leaves (undo base y) number nodes edges journal report
