@@ -9,5 +9,10 @@ pub mod Second
 pub mod OneOutcome
 pub mod Third
 pub mod Met
+pub mod Lending
+pub mod Again
+pub mod Exported
+pub mod Fails
 pub mod Cases
 pub mod Worthless
+pub mod WorthlessUndo

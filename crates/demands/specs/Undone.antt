@@ -169,7 +169,6 @@ fit L y e =
       keeps = k .1;
     }
 
-
 pub ours-undoes : (L : Layout) (y : LentBack) → undoRefusal L y ≡ none → StoredBack L y (ours L .undo y)
 unfolding undoOn answerNumber
 ours-undoes L y e =
