@@ -15,6 +15,7 @@ use Rattle.demands.specs.OneOutcome.{run-one, undo-one}
 use Rattle.demands.specs.Met.{met}
 use Rattle.demands.specs.Lending.{left-lendable}
 use Rattle.demands.specs.Again.{again, run-again}
+use Rattle.meaning.specs.Laws.Promises.{leaves-one}
 use Rattle.laws.specs.Undoing.{base-numbered}
 
 pub record Exported (I : Interpreter) : Type 0 where
@@ -29,21 +30,16 @@ pub record Exported (I : Interpreter) : Type 0 where
 abbrev pub LeftBy : Left → Outcome → Type 0
 LeftBy l o = Leaves l (o .answer) (o .nodes) (o .edges) (o .journal) (o .report)
 
-pub promise-is : (l : Left) (o : Outcome) → LeftBy l o → o ≡ outcome l
-promise-is l o k =
-    λ i. record {
-      answer = k .numbered i;
-      nodes = k .nodesLeft i;
-      edges = k .edgesLeft i;
-      journal = k .journalLeft i;
-      report = k .reportLeft i;
-    }
-
 pub promise-one : (l : Left) (o q : Outcome) → LeftBy l o → LeftBy l q → o ≡ q
-promise-one l o q h k = promise-is l o h ∙ sym (promise-is l q k)
+promise-one l o q h k =
+    let e = leaves-one l _ _ _ _ _ _ _ _ _ _ h k in
+    λ i. record { answer = e .0 i; nodes = e .1 i; edges = e .2 i; journal = e .3 i; report = e .4 i }
 
 pub promise-some : (l : Left) → LeftBy l (outcome l)
 promise-some l = record { numbered = refl; nodesLeft = refl; edgesLeft = refl; journalLeft = refl; reportLeft = refl }
+
+promise-is : (l : Left) (o : Outcome) → LeftBy l o → o ≡ outcome l
+promise-is l o k = promise-one l o (outcome l) k (promise-some l)
 
 pub ours-exported : Exported (ours base)
 ours-exported = record { run = λ x b. promise-some (run base x); undo = λ y b. promise-some (undo base y) }

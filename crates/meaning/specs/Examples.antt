@@ -82,11 +82,11 @@ pub short-report : run base (lending plainNode [] [] skipField 1 (7 ∷ [])) .re
 unfolding computing
 short-report = refl
 
--- undo puts the counted records back and zeros them
+-- undo puts the counted records back from last to first, and zeros them: the slot was plain, then red, and is free
 abbrev restored : Left
 restored =
-    record { answer = Result; nodes = plainNode; edges = []; journal = replicate (recordLength base) 0; report = reportOf 0 1 }
+    record { answer = Result; nodes = plainNode; edges = []; journal = replicate (2 * recordLength base) 0; report = reportOf 0 2 }
 
-pub record-zeroed : undo base (lendingBack freeNode [] (nodeRecord 0 plainNode) 1 (replicate 8 7)) ≡ restored
+pub records-back : undo base (lendingBack freeNode [] (nodeRecord 0 plainNode ++ nodeRecord 0 redNode) 2 (replicate 8 7)) ≡ restored
 unfolding computing
-record-zeroed = refl
+records-back = refl

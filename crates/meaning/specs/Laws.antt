@@ -3,3 +3,4 @@ pub mod Tests
 pub mod Every
 pub mod Loops
 pub mod Checks
+pub mod Promises

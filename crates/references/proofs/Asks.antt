@@ -12,7 +12,7 @@ use Rattle.meaning.specs.Basics.{both, every, absent}
 use Rattle.meaning.specs.Tags.{nodeTag, intType, anyMark}
 use Rattle.meaning.specs.Image.{RuleGraph, label, element, anyTag, limits}
 use Rattle.meaning.specs.References.{operandNames, elementOperands, elementNames, conditionOperands, conditionNodes, isPlain}
-use Rattle.meaning.specs.Laws.Tests.{every-append, both-yes, both-no, both-last}
+use Rattle.meaning.specs.Laws.Tests.{every-append, both-yes, both-no, both-false, both-last}
 use Rattle.meaning.specs.declared.Operand.{Operand}
 use Rattle.meaning.specs.declared.Operand.the-variants.{Constant as constantOperand, Variable as variableOperand}
 use Rattle.meaning.specs.declared.Element.{Element}
@@ -47,11 +47,6 @@ absent-append u (a ∷ l) m = at (not (eqb a u)) (absent-append u l m)
     at : (b : Bool) → absent u (l ++ m) ≡ both (absent u l) (absent u m) → both b (absent u (l ++ m)) ≡ both (both b (absent u l)) (absent u m)
     at true e = e
     at false e = refl
-
-pub both-false : (a : Bool) → both a false ≡ false
-unfolding both
-both-false true = refl
-both-false false = refl
 
 -- two questions of each of two
 pub both-swap : (a b c d : Bool) → both (both a b) (both c d) ≡ both (both a c) (both b d)

@@ -12,6 +12,7 @@ use lib.ListN.{length, getD, set, take, drop, replicate, drop-of-length-le}
 use lib.Seq.{drop-cons, take-all}
 use Rattle.meaning.specs.Basics.{both, zeros}
 use Rattle.meaning.specs.Numbers.{number, bytes}
+use Rattle.meaning.specs.Laws.Tests.{both-false}
 
 -- Copying: after i stores the bytes are the first i of s, then d's.
 
@@ -39,11 +40,6 @@ zeros-other i l h k = rw (drop-cons l i 0 h, ne-eqb (getD l i 0) 0 k)
 pub zeros-more : (i : ℕ) (l : List ℕ) → i < length l → getD l i 0 ≡ 0 → zeros (drop i l) ≡ zeros (drop (i + 1) l)
 unfolding zeros both
 zeros-more i l h k = rw (add-one i, drop-cons l i 0 h, eq-eqb (getD l i 0) 0 k)
-
-both-false : (a : Bool) → both a false ≡ false
-unfolding both
-both-false true = refl
-both-false false = refl
 
 -- one byte more that was looked at: `all` is false where it is not zero, and else as it was
 pub zeros-seen : {A B : Type 0} (i : ℕ) (l : List ℕ) (old all : Bool) → i < length l → (A → getD l i 0 ≡ 0 → ⊥) → (B → getD l i 0 ≡ 0)

@@ -30,6 +30,11 @@ pub both-yes : (a b : Bool) → a ≡ true → both a b ≡ b
 unfolding both
 both-yes a b e = rw e
 
+pub both-false : (a : Bool) → both a false ≡ false
+unfolding both
+both-false true = refl
+both-false false = refl
+
 pub both-last : (a : Bool) → a ≡ both a true
 unfolding both
 both-last true = refl
