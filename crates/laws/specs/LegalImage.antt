@@ -7,18 +7,21 @@ use mathlib.Core.Bool.{Bool, true, false}
 use mathlib.Core.Option.{Option, some}
 use native.Mathlib.Omega.{arith}
 use borrow.Author.Tests.{eqb-true, leb-true}
-use lib.ListN.{length, drop}
+use lib.ListN.{length, getD, drop}
 use Rattle.meaning.specs.Tags.{interfaceTag, leftTag, rightTag, testsTag, variablesTag}
 use Rattle.meaning.specs.Basics.{choose, every, _>>=_}
 use Rattle.meaning.specs.Numbers.{number, whole}
-use Rattle.meaning.specs.Image.{RuleNode, RuleEdge, RuleGraph, Rule, Program, limits, Field, Read, stated, field, expect, leading, only, anyTag, constant, oneByte, twoOperands, element, label, ruleNode, ruleEdge, ruleGraph, isType, types, test, rule, program}
-use Rattle.meaning.specs.References.{ruleHolds, references}
+use Rattle.meaning.specs.Image.{RuleNode, RuleEdge, RuleGraph, Rule, Program, limits, Field, Read, stated, field, expect, leading, only, anyTag, constant, oneByte, operand, Pair, asPair, twoOperands, element, label, ruleNode, ruleEdge, ruleGraph, isType, types, relation, condition, test, rule, program}
+use Rattle.meaning.specs.References.{conditionOperands, ruleHolds, references}
 use Rattle.meaning.specs.Laws.Tests.{both-true, some-inj, bind-some, ensure-some}
 use Rattle.meaning.specs.Laws.Every.{Every, Every-true, Every-with}
 use Rattle.laws.specs.Numbers.{Bytes, Bytes-take, Bytes-drop, number-lt}
-use Rattle.laws.specs.Values.{LegalElement, LegalRuleNode, LegalRuleEdge, LegalRule}
+use Rattle.laws.specs.Values.{LegalOperand, LegalElement, LegalRuleNode, LegalRuleEdge, LegalTest, LegalRule}
 use Rattle.laws.specs.LegalCommands.{LegalRules}
+use Rattle.meaning.specs.declared.Operand.{Operand}
 use Rattle.meaning.specs.declared.Element.{Element}
+use Rattle.meaning.specs.declared.Condition.{Condition}
+use Rattle.meaning.specs.declared.Test.{Test}
 
 -- the parts of a bind that succeeds
 after : {A B C : Type 0} (o : Option A) (f : A → Option B) (b : B) → (o >>= f) ≡ some b → ((a : A) → o ≡ some a → f a ≡ some b → C) → C
@@ -78,7 +81,7 @@ module _ {A : Type 0} (passes : ℕ → Bool) (item : ℕ → List ℕ → Optio
         let u = ensure-some _ _ l (t .2) in
         rw (← (some-inj _ l (u .1))) (leading-every n bs (t .0) b (t .1) .0)
 
--- Elements.
+-- Operands and elements.
 
 constant-word : (bs : List ℕ) (c : ℕ) → Bytes bs → constant bs ≡ some c → c < whole
 unfolding constant
@@ -94,14 +97,38 @@ unfolding choose
 choose-either true x y z e f g = f e
 choose-either false x y z e f g = g e
 
+operand-legal : (tag : ℕ) (bs : List ℕ) (a : Operand) → Bytes bs → operand tag bs ≡ some a → LegalOperand a
+unfolding operand
+operand-legal tag bs a h e =
+    choose-either _ _ _ _ e
+    (λ e. let t = bind-some (constant bs) _ a e in rw (← (some-inj _ a (t .2))) (constant-word bs (t .0) h (t .1)))
+    (λ e. choose-either _ _ _ _ e (λ e. let t = bind-some (oneByte bs) _ a e in rw (← (some-inj _ a (t .2))) tt)
+    (λ e. let z : _≡_ {A = ℕ} 0 1 = cc in absurd (omega arith)))
+
+abbrev LegalPair : Pair → Type 0
+LegalPair p = LegalOperand (p .first) × LegalOperand (p .second)
+
+asPair-legal : (l : List Operand) (p : Pair) → Every LegalOperand l → asPair l ≡ some p → LegalPair p
+unfolding asPair
+asPair-legal [] p h e = let z : _≡_ {A = ℕ} 0 1 = cc in absurd (omega arith)
+asPair-legal (a ∷ []) p h e = let z : _≡_ {A = ℕ} 0 1 = cc in absurd (omega arith)
+asPair-legal (a ∷ b ∷ []) p h e = rw (← (some-inj _ p e)) (h .0, h .1 .0)
+asPair-legal (a ∷ b ∷ c ∷ l) p h e = let z : _≡_ {A = ℕ} 0 1 = cc in absurd (omega arith)
+
+operands-legal : (bs : List ℕ) (p : Pair) → Bytes bs → twoOperands bs ≡ some p → LegalPair p
+unfolding twoOperands
+operands-legal bs p h e =
+    let t = bind-some (only anyTag operand 2 bs) _ p e in
+    asPair-legal (t .0) p (only-every anyTag operand LegalOperand operand-legal 2 bs (t .0) h (t .1)) (t .2)
+
 element-legal : (tag : ℕ) (bs : List ℕ) (a : Element) → Bytes bs → element tag bs ≡ some a → LegalElement a
 unfolding element
 element-legal tag bs a h e =
     choose-either _ _ _ _ e
     (λ e. let t = bind-some (constant bs) _ a e in rw (← (some-inj _ a (t .2))) (constant-word bs (t .0) h (t .1)))
     (λ e. choose-either _ _ _ _ e (λ e. let t = bind-some (oneByte bs) _ a e in rw (← (some-inj _ a (t .2))) tt)
-    (λ e. choose-either _ _ _ _ e (λ e. let t = bind-some (twoOperands bs) _ a e in rw (← (some-inj _ a (t .2))) tt)
-    (λ e. choose-either _ _ _ _ e (λ e. let t = bind-some (twoOperands bs) _ a e in rw (← (some-inj _ a (t .2))) tt)
+    (λ e. choose-either _ _ _ _ e (λ e. let t = bind-some (twoOperands bs) _ a e in rw (← (some-inj _ a (t .2))) (operands-legal bs (t .0) h (t .1)))
+    (λ e. choose-either _ _ _ _ e (λ e. let t = bind-some (twoOperands bs) _ a e in rw (← (some-inj _ a (t .2))) (operands-legal bs (t .0) h (t .1)))
     (λ e. let z : _≡_ {A = ℕ} 0 1 = cc in absurd (omega arith)))))
 
 label-elements : (bs : List ℕ) (l : List Element) → Bytes bs → label bs ≡ some l → Every LegalElement l
@@ -139,12 +166,43 @@ ruleGraph-legal bs g h e =
     let d = only-every _ (λ tag. ruleEdge) LegalRuleEdge (λ tag. ruleEdge-legal) (limits .edges) (t .0 .rest) (u .0) (n .1) (u .1) in
     rw (← (some-inj _ g (u .2))) (n .0, d)
 
+-- Tests.
+
+relation-legal : (kind : ℕ) (p : Pair) (c : Condition) → LegalPair p → relation kind p ≡ some c → Every LegalOperand (conditionOperands c)
+unfolding relation conditionOperands
+relation-legal kind p c h e =
+    choose-either _ _ _ _ e (λ e. rw (← (some-inj _ c e)) (h .0, (h .1, tt)))
+    (λ e. choose-either _ _ _ _ e (λ e. rw (← (some-inj _ c e)) (h .0, (h .1, tt)))
+    (λ e. let z : _≡_ {A = ℕ} 0 1 = cc in absurd (omega arith)))
+
+condition-legal : (tag : ℕ) (bs : List ℕ) (c : Condition) → Bytes bs → condition tag bs ≡ some c → Every LegalOperand (conditionOperands c)
+unfolding condition conditionOperands
+condition-legal tag bs c h e =
+    choose-either _ _ _ _ e (λ e. rw (← (some-inj _ c (ensure-some _ _ c e .1))) tt)
+    (λ e. choose-either _ _ _ _ e (λ e. rw (← (some-inj _ c (ensure-some _ _ c e .1))) tt)
+    (λ e. choose-either _ _ _ _ e (λ e. rw (← (some-inj _ c (ensure-some _ _ c e .1))) tt)
+    (λ e. choose-either _ _ _ _ e (λ e. related (ensure-some _ _ c e .1))
+    (λ e. let z : _≡_ {A = ℕ} 0 1 = cc in absurd (omega arith)))))
+  where
+    related : (twoOperands (drop 1 bs) >>= relation (getD bs 0 0)) ≡ some c → Every LegalOperand (conditionOperands c)
+    related e =
+        let t = bind-some (twoOperands (drop 1 bs)) _ c e in
+        relation-legal (getD bs 0 0) (t .0) c (operands-legal (drop 1 bs) (t .0) (Bytes-drop 1 bs h) (t .1)) (t .2)
+
+test-legal : (tag : ℕ) (bs : List ℕ) (t : Test) → Bytes bs → test tag bs ≡ some t → LegalTest t
+unfolding test
+test-legal tag bs t h e =
+    let u = ensure-some _ _ t (ensure-some _ _ t e .1) in
+    let c = bind-some (condition tag (drop 1 bs)) _ t (u .1) in
+    rw (← (some-inj _ t (c .2))) (condition-legal tag (drop 1 bs) (c .0) (Bytes-drop 1 bs h) (c .1))
+
 -- Rules.
 
 -- what the form gives of a legal rule
 pub record Formed (r : Rule) : Type 0 where
   pub nodes : Every LegalRuleNode (r .right .nodes)
   pub edges : Every LegalRuleEdge (r .right .edges)
+  pub tests : Every LegalTest (r .tests)
   pub types : every isType (r .variables) ≡ true
 
 types-hold : (bs l : List ℕ) → types bs ≡ some l → every isType l ≡ true
@@ -165,8 +223,16 @@ rule-formed bs r h e =
     let hv = expect-bytes variablesTag bs v h ev in
     let hl = expect-bytes leftTag (v .rest) l (hv .1) el in
     let hg = expect-bytes rightTag (l .rest) g (hl .1) eg in
+    let hk = expect-bytes interfaceTag (g .rest) k (hg .1) ek in
+    let ht = expect-bytes testsTag (k .rest) t (hk .1) et in
     let q = ruleGraph-legal (g .payload) c (hg .0) ec in
-    rw (← (some-inj _ r e)) (record { nodes = q .0; edges = q .1; types = types-hold (v .payload) a ea })))))))))))
+    rw (← (some-inj _ r e))
+    (record {
+      nodes = q .0;
+      edges = q .1;
+      tests = only-every anyTag test LegalTest test-legal (limits .tests) (t .payload) s (ht .0) es;
+      types = types-hold (v .payload) a ea;
+    })))))))))))
 
 pub program-formed : (bs : List ℕ) (p : Program) → Bytes bs → program bs ≡ some p → Every Formed (p .rules)
 unfolding program
@@ -182,5 +248,5 @@ pub program-legal : (bs : List ℕ) (p : Program) → Bytes bs → program bs �
 unfolding references
 program-legal bs p h e k =
     Every-with Formed (λ r. ruleHolds r ≡ true) LegalRule
-    (λ r f q. record { nodes = f .nodes; edges = f .edges; types = f .types; holds = q }) (p .rules) (program-formed bs p h e)
+    (λ r f q. record { nodes = f .nodes; edges = f .edges; tests = f .tests; types = f .types; holds = q }) (p .rules) (program-formed bs p h e)
     (Every-true ruleHolds _ (λ r q. q) (p .rules) (both-true _ _ k .0))

@@ -17,7 +17,7 @@ use Rattle.meaning.specs.Numbers.{whole, sum, difference}
 use Rattle.meaning.specs.Layout.{Slot, free, live, Node, Edge, Host, isNodeMark, isEdgeMark}
 use Rattle.meaning.specs.Image.{RuleNode, RuleEdge, Rule, isType}
 use Rattle.meaning.specs.Tags.{anyMark}
-use Rattle.meaning.specs.References.{interfaceFits, endsExist, anyKept, anyPlaced, ruleHolds}
+use Rattle.meaning.specs.References.{conditionOperands, interfaceFits, endsExist, anyKept, anyPlaced, ruleHolds}
 use Rattle.meaning.specs.Matching.{nodeIn, edgeIn, nodeAt, edgeAt, leftNodes, nodeSlot, Assignment, atomOf}
 use Rattle.meaning.specs.Assigned.{isVariable, share, spare, taken, Item, paired, hostLabels, placedItems, orElse, valueFrom, assigned}
 use Rattle.meaning.specs.Applying.{elementValue, labelValue, rightNode, rightNodes, rightEdge, Right, rightSide}
@@ -31,17 +31,24 @@ use Rattle.laws.specs.Records.{Every-append}
 use Rattle.laws.specs.References.{clauses-true}
 use Rattle.laws.specs.Applying.{rightNodes-some}
 use Rattle.meaning.specs.declared.Layout.{Layout}
+use Rattle.meaning.specs.declared.Operand.{Operand}
+use Rattle.meaning.specs.declared.Operand.the-variants.{Constant as constantOperand, Variable as variableOperand}
 use Rattle.meaning.specs.declared.Element.{Element}
 use Rattle.meaning.specs.declared.Element.the-variants.{Constant, Variable, Sum, Difference}
+use Rattle.meaning.specs.declared.Test.{Test}
 
--- Rules that have the form: what of it the right side's values need.
+-- Rules that have the form: what of it the right side's values need, and that each constant in a sum, a difference or a test is a
+-- word.
 
--- a constant is a word
+abbrev pub LegalOperand : Operand → Type 0
+LegalOperand (constantOperand c) = c < whole
+LegalOperand (variableOperand v) = Unit {0}
+
 abbrev pub LegalElement : Element → Type 0
 LegalElement (Constant c) = c < whole
 LegalElement (Variable v) = Unit {0}
-LegalElement (Sum a b) = Unit {0}
-LegalElement (Difference a b) = Unit {0}
+LegalElement (Sum a b) = LegalOperand a × LegalOperand b
+LegalElement (Difference a b) = LegalOperand a × LegalOperand b
 
 pub record LegalRuleNode (n : RuleNode) : Type 0 where
   pub mark : either (isNodeMark (n .mark)) (eqb (n .mark) anyMark) ≡ true
@@ -52,10 +59,14 @@ pub record LegalRuleEdge (e : RuleEdge) : Type 0 where
   pub mark : either (isEdgeMark (e .mark)) (eqb (e .mark) anyMark) ≡ true
   pub label : Every LegalElement (e .label)
 
--- the right side and the variable types have the form, and the references hold
+abbrev pub LegalTest : Test → Type 0
+LegalTest t = Every LegalOperand (conditionOperands (t .condition))
+
+-- the right side, the tests and the variable types have the form, and the references hold
 pub record LegalRule (r : Rule) : Type 0 where
   pub nodes : Every LegalRuleNode (r .right .nodes)
   pub edges : Every LegalRuleEdge (r .right .edges)
+  pub tests : Every LegalTest (r .tests)
   pub types : every isType (r .variables) ≡ true
   pub holds : ruleHolds r ≡ true
 
