@@ -15,7 +15,7 @@ use Rattle.meaning.specs.Calls.{Lent}
 use Rattle.demands.specs.Demands.{Interpreter, Bytewise, Demand1, Demand2}
 use Rattle.laws.specs.Hosts.{LegalHost}
 use Rattle.laws.specs.Legality.{LegalLedger}
-use Rattle.laws.specs.LegalCommands.{LegalRules, legal-rule, legal-sound}
+use Rattle.laws.specs.LegalCommands.{LegalRules, legal-rule}
 use Rattle.laws.specs.Undoing.{Numbered, base-numbered}
 use Rattle.meaning.specs.declared.Layout.{Layout}
 use Rattle.published.specs.Graphs.{Graph, HostGraph, graphOf, Iso}
@@ -36,11 +36,11 @@ module _ (L : Layout) where
       → (l : List ℕ) (r : Rule) (p : List ℕ) (g g′ : Ledger) → LegalLedger L m n g → FirstCalled rules (g .host) l r p
       → apply (L .atoms) room r p g ≡ applied g′ → Applied (map (ruleAt rules) l) (graphOf (g .host)) (graphOf (g′ .host))
   hit m n few few′ room rules legal l r p g g′ k f a =
-      first-applies rules (legal-sound rules legal) L (L .atoms) room l r p g g′ (k .host) f a
+      first-applies rules legal L (L .atoms) room l r p g g′ (k .host) f a
 
   miss : (rules : List Rule) → LegalRules rules → (l : List ℕ) (h : Host) → LegalHost L h → NoMatch rules h l → (H : Graph)
       → Applied (map (ruleAt rules) l) (graphOf h) H → ⊥
-  miss rules legal l h k n H a = no-call rules (legal-sound rules legal) h l n H a
+  miss rules legal l h k n H a = no-call rules legal L h k l n H a
 
   -- executing the image's program on the graph that the tables hold can come to X
   abbrev pub Comes : Lent → Outcome Graph → Type 0

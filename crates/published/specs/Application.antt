@@ -20,10 +20,11 @@ use Rattle.meaning.specs.Applying.{Ledger, applied, apply}
 use Rattle.meaning.specs.Commands.{State, Chosen, ruleAt, firstRule}
 use Rattle.demands.specs.Inference
 use Rattle.demands.specs.Inference.{NoMatch, FirstCalled, Does}
-use Rattle.laws.specs.Layout.{Words}
 use Rattle.laws.specs.Hosts.{LegalNode, LegalEdge, Attached, OnLive, LegalHost, liveAt-lt}
 use Rattle.laws.specs.Pieces.{getD-map}
 use Rattle.laws.specs.References.{Sound}
+use Rattle.laws.specs.Values.{LegalRule, assigned-words}
+use Rattle.laws.specs.LegalCommands.{LegalRules, legal-rule, legal-sound}
 use Rattle.demands.specs.Laws.Inference.{called-none, none-called, called-some}
 use Rattle.meaning.specs.declared.Layout.{Layout}
 use Rattle.meaning.specs.declared.End.{End}
@@ -48,8 +49,6 @@ host-graph L h k =
       nodeMarks = λ v. nodeMark (getD (h .nodes) v free) (k .nodes v);
       edgeMarks = λ e. edgeMark (getD (h .edges) e free) (k .edges e);
       roots = λ v. root (getD (h .nodes) v free) (k .nodes v);
-      nodeWords = λ v. nodeWord (getD (h .nodes) v free) (k .nodes v);
-      edgeWords = λ e. edgeWord (getD (h .edges) e free) (k .edges e);
     }
   where
     source : (s : Slot Edge) → OnLive (Attached (h .nodes)) s → isLive s ≡ true → liveAt (h .nodes) (edgeIn s .source) ≡ true
@@ -72,31 +71,23 @@ host-graph L h k =
     root free a l = let z : _≡_ {A = ℕ} 0 1 = cc in absurd (omega arith)
     root (live n) a l = a .root
 
-    nodeWord : (s : Slot Node) → OnLive (LegalNode L) s → isLive s ≡ true → Words (nodeIn s .label)
-    nodeWord free a l = let z : _≡_ {A = ℕ} 0 1 = cc in absurd (omega arith)
-    nodeWord (live n) a l = a .words
-
-    edgeWord : (s : Slot Edge) → OnLive (LegalEdge L) s → isLive s ≡ true → Words (edgeIn s .label)
-    edgeWord free a l = let z : _≡_ {A = ℕ} 0 1 = cc in absurd (omega arith)
-    edgeWord (live e) a l = a .words
-
 -- One rule.
 
-module _ (r : Rule) (sound : Sound r) where
+module _ (r : Rule) (rule : LegalRule r) where
   -- what the interpreter applies at a match is a published application
   pub applies : (L : Layout) (most room : ℕ) (p : List ℕ) (g g′ : Ledger) → LegalHost L (g .host) → Match (g .host) r p
       → apply most room r p g ≡ applied g′ → Applies r (graphOf (g .host)) (graphOf (g′ .host))
   applies L most room p g g′ legal m e =
-      match-applies (g .host) r (sound .holds) L legal (sound .types) p m (graphOf (g′ .host))
-      (application-constructs most room r (sound .holds) p g g′ m e)
+      match-applies (g .host) r rule L legal p m (graphOf (g′ .host))
+      (application-constructs most room r rule p g g′ m (assigned-words L (g .host) legal r p) e)
 
   -- a rule has no match exactly where it has no published match
   pub match-exactly : (L : Layout) (h : Host) → LegalHost L h → ((p : List ℕ) → Match h r p → ⊥) ↔ (Matches r (graphOf h) → ⊥)
-  match-exactly L h legal = no-match h r (sound .holds) L legal (sound .types)
+  match-exactly L h legal = no-match h r rule L legal
 
   -- and then it has no published application
-  pub no-application : (h : Host) → ((p : List ℕ) → Match h r p → ⊥) → (H : Graph) → Applies r (graphOf h) H → ⊥
-  no-application h n H a = n (placement r (graphOf h) (a .match .g)) (match-of h r (sound .holds) (a .match))
+  pub no-application : (L : Layout) (h : Host) → LegalHost L h → ((p : List ℕ) → Match h r p → ⊥) → (H : Graph) → Applies r (graphOf h) H → ⊥
+  no-application L h legal n H a = n (placement r (graphOf h) (a .match .g)) (match-of h r rule L legal (a .match))
 
   -- every published application to a host's graph is what the interpreter does at the placement of its premorphism, up to
   -- isomorphism, where nothing hinders that
@@ -104,13 +95,17 @@ module _ (r : Rule) (sound : Sound r) where
       (a : Applies r (graphOf (g .host)) H) → apply most room r (placement r (graphOf (g .host)) (a .match .g)) g ≡ applied g′
       → Iso (graphOf (g′ .host)) H
   every-application L most room g g′ legal H a e =
-      one-result r (sound .holds) (graphOf (g .host)) (host-graph L (g .host) legal) (a .match) (graphOf (g′ .host)) H
-      (constructed-back (g .host) r (sound .holds) L legal (sound .types) (a .match) (graphOf (g′ .host))
-      (application-constructs most room r (sound .holds) _ g g′ (match-of (g .host) r (sound .holds) (a .match)) e)) (a .constructed)
+      one-result r (rule .holds) (graphOf (g .host)) (host-graph L (g .host) legal) (a .match) (graphOf (g′ .host)) H
+      (constructed-back (g .host) r rule L legal (a .match) (graphOf (g′ .host))
+      (application-constructs most room r rule _ g g′ (match-of (g .host) r rule L legal (a .match)) (assigned-words L (g .host) legal r _) e))
+      (a .constructed)
 
 -- Rule sets.
 
-module _ (rules : List Rule) (sound : (i : ℕ) → Sound (ruleAt rules i)) where
+module _ (rules : List Rule) (legalRules : LegalRules rules) where
+  sound : (i : ℕ) → Sound (ruleAt rules i)
+  sound = legal-sound rules legalRules
+
   -- the rules that the numbers of a rule set name
   abbrev pub called : List ℕ → List Rule
   called l = map (ruleAt rules) l
@@ -122,7 +117,7 @@ module _ (rules : List Rule) (sound : (i : ℕ) → Sound (ruleAt rules i)) wher
   pub first-applies : (L : Layout) (most room : ℕ) (l : List ℕ) (r : Rule) (p : List ℕ) (g g′ : Ledger) → LegalHost L (g .host)
       → FirstCalled rules (g .host) l r p → apply most room r p g ≡ applied g′ → Applied (called l) (graphOf (g .host)) (graphOf (g′ .host))
   first-applies L most room l r p g g′ legal f a =
-      let s : Sound r = rw (f .rule) (sound (getD l (f .place) 0)) in
+      let s : LegalRule r = rw (f .rule) (legal-rule rules legalRules (getD l (f .place) 0)) in
       let q : ruleAt (called l) (f .place) ≡ r = called-at l (f .place) (f .listed) ∙ sym (f .rule) in
       record {
         place = f .place;
@@ -141,18 +136,18 @@ module _ (rules : List Rule) (sound : (i : ℕ) → Sound (ruleAt rules i)) wher
   pub set-exactly : (L : Layout) (h : Host) → LegalHost L h → (l : List ℕ)
       → (firstRule rules h l ≡ none) ↔ ((i : ℕ) → i < length l → Matches (ruleAt rules (getD l i 0)) (graphOf h) → ⊥)
   set-exactly L h legal l = (
-    λ e i k. match-exactly _ (sound (getD l i 0)) L h legal .0 (called-none rules sound h l e i k),
-    λ n. none-called rules sound h l (λ i k. match-exactly _ (sound (getD l i 0)) L h legal .1 (n i k)),
+    λ e i k. match-exactly _ (legal-rule rules legalRules (getD l i 0)) L h legal .0 (called-none rules sound h l e i k),
+    λ n. none-called rules sound h l (λ i k. match-exactly _ (legal-rule rules legalRules (getD l i 0)) L h legal .1 (n i k)),
   )
 
   -- and then there is no published application of the rule set
-  pub no-call : (h : Host) (l : List ℕ) → NoMatch rules h l → (H : Graph) → Applied (called l) (graphOf h) H → ⊥
-  no-call h l n H a =
+  pub no-call : (L : Layout) (h : Host) → LegalHost L h → (l : List ℕ) → NoMatch rules h l → (H : Graph) → Applied (called l) (graphOf h) H → ⊥
+  no-call L h legal l n H a =
       let k : a .place < length l = rw (length-map l (ruleAt rules)) at (a .listed) in
-      no-application _ (sound (getD l (a .place) 0)) h (n (a .place) k) H (rw (called-at l (a .place) k) at (a .applies))
+      no-application _ (legal-rule rules legalRules (getD l (a .place) 0)) L h legal (n (a .place) k) H (rw (called-at l (a .place) k) at (a .applies))
 
-  pub no-set-application : (h : Host) (l : List ℕ) → firstRule rules h l ≡ none → (H : Graph) → Applied (called l) (graphOf h) H → ⊥
-  no-set-application h l e = no-call h l (called-none rules sound h l e)
+  pub no-set-application : (L : Layout) (h : Host) → LegalHost L h → (l : List ℕ) → firstRule rules h l ≡ none → (H : Graph) → Applied (called l) (graphOf h) H → ⊥
+  no-set-application L h legal l e = no-call L h legal l (called-none rules sound h l e)
 
   -- The same of the rules of inference: a rule call that succeeds is a published application, and one that fails has none.
 
@@ -163,8 +158,8 @@ module _ (rules : List Rule) (sound : (i : ℕ) → Sound (ruleAt rules i)) wher
       rw v (first-applies L most room l r p (s .ledger) g legal f a)
   call-applies L most room legal (Inference.hinders r p w f a) q = let z : _≡_ {A = ℕ} 0 1 = cc in absurd (omega arith)
 
-  pub call-fails : (most room : ℕ) {l : List ℕ} {s t : State} {e : End}
+  pub call-fails : (L : Layout) (most room : ℕ) {l : List ℕ} {s t : State} {e : End} → LegalHost L (s .ledger .host)
       → Does most room rules (ruleSet l) s e t → e ≡ Failed → (H : Graph) → Applied (called l) (graphOf (s .ledger .host)) H → ⊥
-  call-fails most room (Inference.noMatch {l = l} {s = s} n) q = no-call (s .ledger .host) l n
-  call-fails most room (Inference.applies r p g f a v) q = let z : _≡_ {A = ℕ} 0 1 = cc in absurd (omega arith)
-  call-fails most room (Inference.hinders r p w f a) q = let z : _≡_ {A = ℕ} 0 1 = cc in absurd (omega arith)
+  call-fails L most room legal (Inference.noMatch {l = l} {s = s} n) q = no-call L (s .ledger .host) legal l n
+  call-fails L most room legal (Inference.applies r p g f a v) q = let z : _≡_ {A = ℕ} 0 1 = cc in absurd (omega arith)
+  call-fails L most room legal (Inference.hinders r p w f a) q = let z : _≡_ {A = ℕ} 0 1 = cc in absurd (omega arith)

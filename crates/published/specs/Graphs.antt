@@ -6,12 +6,10 @@ use mathlib.Core.List.{List}
 use Prim.Native.Nat.{ℕ, _<_, _≤_}
 use Rattle.meaning.specs.Layout.{Host, liveAt, isNodeMark, isEdgeMark}
 use Rattle.meaning.specs.Matching.{nodeAt, edgeAt}
-use Rattle.laws.specs.Layout.{Words}
 
 -- Labels. A list of atoms with a mark, and for a node whether it is a root (1) or not (0). Marks are numbered as in document
--- 01: 0 none, 1 red, 2 green, 3 blue, 4 grey (nodes only), 5 dashed (edges only). An atom is an integer of 32 bits, written as
--- its word, the natural number below 2^32 that has the same 32 bits; the laws of meaning's Numbers (`sum-value`,
--- `difference-value`, `less-value`) tie words to integers.
+-- 01: 0 none, 1 red, 2 green, 3 blue, 4 grey (nodes only), 5 dashed (edges only). An atom names an integer of
+-- any size (Integers); one of 32 bits is named by its word, the natural number below 2^32 that has the same 32 bits.
 
 pub record NodeLabel : Type 0 where
   pub mark : ℕ
@@ -49,8 +47,6 @@ pub record HostGraph (G : Graph) : Type 0 where
   pub nodeMarks : (v : ℕ) → Node G v → isNodeMark (G .nodeLabel v .mark) ≡ true
   pub edgeMarks : (e : ℕ) → Edge G e → isEdgeMark (G .edgeLabel e .mark) ≡ true
   pub roots : (v : ℕ) → Node G v → G .nodeLabel v .root ≤ 1
-  pub nodeWords : (v : ℕ) → Node G v → Words (G .nodeLabel v .list)
-  pub edgeWords : (e : ℕ) → Edge G e → Words (G .edgeLabel e .list)
 
 -- The graph of a host: a live node slot is a node, a live edge slot an edge, and each is named by its slot's number. The
 -- reading forgets the free slots and how many there are. What is left of a slot's number is that it is a name: up to

@@ -4,51 +4,32 @@ use Prim.Native.Nat.{ℕ, zero, suc, _+_, _<_, _≤_, max}
 use mathlib.Core.Path.{_≡_, refl, ap}
 use mathlib.Core.Logic.{_⊎_, inl, inr}
 use mathlib.Core.Bool.{true, false}
-use mathlib.Core.List.{List, [], _∷_}
 use native.Mathlib.Omega.{arith}
 use native.Mathlib.Decide.{decLt}
 use lib.Dec.{eqb}
 use lib.ListN.{length}
-use Rattle.meaning.specs.Basics.{either}
 use Rattle.meaning.specs.Layout.{isNodeMark, isEdgeMark}
 use Rattle.meaning.specs.Image.{Rule}
 use Rattle.meaning.specs.Tags.{anyMark}
 use Rattle.meaning.specs.References.{ruleHolds}
 use Rattle.meaning.specs.Laws.Tests.{choose-lt, choose-le, either-not}
-use Rattle.meaning.specs.Laws.Every.{Every, Every-at}
-use Rattle.laws.specs.Numbers.{sum-some, difference-some}
-use Rattle.laws.specs.Layout.{Words}
-use Rattle.laws.specs.Values.{LegalElement, LegalRuleNode, LegalRuleEdge, LegalRule, Words-one, Words-append, interface-left, right-marked, new-marked, node-mark}
-use Rattle.meaning.specs.declared.Element.{Element}
-use Rattle.meaning.specs.declared.Element.the-variants.{Constant, Variable, Sum, Difference}
+use Rattle.meaning.specs.Laws.Every.{Every-at}
+use Rattle.laws.specs.Values.{LegalRule, interface-left, right-marked, new-marked, node-mark}
 use Rattle.published.specs.Graphs.{NodeLabel, EdgeLabel, Graph, Node, Edge, HostGraph}
-use Rattle.published.specs.RuleApplication.{nodeOf, edgeOf, Evaluates, Instance, StaysNode, StaysEdge, NodeInstance, placed, Constructed, Matches, Applies}
+use Rattle.published.specs.RuleApplication.{nodeOf, edgeOf, StaysNode, StaysEdge, NodeInstance, placed, Constructed, Matches, Applies}
+use Rattle.published.specs.Application.Values.{node-formed, edge-formed}
 use Rattle.published.specs.Isomorphism.{interface-stays}
 use Rattle.published.specs.OneResult.{on-union, value-of, source-stays, target-stays, right-end}
 
 -- Labels.
 
-module _ (α : ℕ → List ℕ) (words : (v : ℕ) → Words (α v)) where
-  evaluates-words : (x : Element) (a : List ℕ) → LegalElement x → Evaluates α x a → Words a
-  evaluates-words (Constant c) a h e = rw e (Words-one c h)
-  evaluates-words (Variable v) a h e = rw e (words v)
-  evaluates-words (Sum b c) a h e = rw (e .2) (Words-one (e .0) (sum-some _ _ (e .0) (e .1) .0))
-  evaluates-words (Difference b c) a h e = rw (e .2) (Words-one (e .0) (difference-some _ _ (e .0) (e .1) .0))
-
-  instance-words : (l : List Element) (a : List ℕ) → Every LegalElement l → Instance α l a → Words a
-  instance-words [] a h e = rw e (λ i. omega arith)
-  instance-words (x ∷ l) a h e =
-      rw (e .4) (Words-append (e .0) (e .1) (evaluates-words x (e .0) (h .0) (e .2)) (instance-words l (e .1) (h .1) (e .3)))
-
 -- a label of a host graph
 record HostNodeLabel (l : NodeLabel) : Type 0 where
   mark : isNodeMark (l .mark) ≡ true
   root : l .root ≤ 1
-  words : Words (l .list)
 
 record HostEdgeLabel (l : EdgeLabel) : Type 0 where
   mark : isEdgeMark (l .mark) ≡ true
-  words : Words (l .list)
 
 -- Finitely many.
 
@@ -106,27 +87,18 @@ module _ (r : Rule) (rule : LegalRule r) (G : Graph) (host : HostGraph G) (m : M
 
     -- Labels.
 
-    right-node : (j : ℕ) → LegalRuleNode (nodeOf (r .right) j)
-    unfolding either isNodeMark
-    right-node j = Every-at LegalRuleNode _ (record { mark = refl; root = omega arith; label = tt }) (r .right .nodes) (rule .nodes) j
-
-    right-edge : (k : ℕ) → LegalRuleEdge (edgeOf (r .right) k)
-    unfolding either isEdgeMark
-    right-edge k = Every-at LegalRuleEdge _ (record { mark = refl; label = tt }) (r .right .edges) (rule .edges) k
-
     node-host : (j mark : ℕ) (l : NodeLabel) → isNodeMark mark ≡ true → NodeInstance (m .α .of) (nodeOf (r .right) j) mark l → HostNodeLabel l
     node-host j mark l h i =
         record {
           mark = rw (i .mark) h;
-          root = rw (i .root) (right-node j .root);
-          words = instance-words (m .α .of) (m .α .words) (nodeOf (r .right) j .label) (l .list) (right-node j .label) (i .list);
+          root = rw (i .root) (node-formed r rule j .root);
         }
 
     node-label : (v : ℕ) → Node H v → HostNodeLabel (H .nodeLabel v)
     node-label =
         on-nodes (λ v. HostNodeLabel (H .nodeLabel v)) (λ v s. kept v s (value-of (m .g .node) (r .interface) v))
         (λ j n.
-        node-host j _ _ (either-not _ _ (right-node j .mark) (new-marked r holds j (n .0) (n .1) _)) (c .newLabels j (n .0) (n .1)))
+        node-host j _ _ (either-not _ _ (node-formed r rule j .mark) (new-marked r holds j (n .0) (n .1) _)) (c .newLabels j (n .0) (n .1)))
       where
         kept : (v : ℕ) → StaysNode r G (m .g) v
             → ((i : ℕ) × (i < r .interface) × (m .g .node i ≡ v)) ⊎ ((i : ℕ) → i < r .interface → m .g .node i ≡ v → ⊥)
@@ -135,21 +107,20 @@ module _ (r : Rule) (rule : LegalRule r) (G : Graph) (host : HostGraph G) (m : M
             let a = interface-left r holds in
             rw (← (t .2))
             (node-host (t .0) _ _
-            (node-mark _ _ (right-node (t .0) .mark) (host .nodeMarks _ (m .g .nodes (t .0) (omega (arith, t .1)))))
+            (node-mark _ _ (node-formed r rule (t .0) .mark) (host .nodeMarks _ (m .g .nodes (t .0) (omega (arith, t .1)))))
             (c .interfaceLabels (t .0) (t .1)))
         kept v s (inr f) =
             rw (c .keptLabels v s f)
-            (record { mark = host .nodeMarks v (s .node); root = host .roots v (s .node); words = host .nodeWords v (s .node) })
+            (record { mark = host .nodeMarks v (s .node); root = host .roots v (s .node) })
 
     edge-label : (e : ℕ) → Edge H e → HostEdgeLabel (H .edgeLabel e)
     edge-label =
         on-edges (λ e. HostEdgeLabel (H .edgeLabel e))
-        (λ e s. rw (c .keptEdgeLabels e s) (record { mark = host .edgeMarks e (s .edge); words = host .edgeWords e (s .edge) }))
+        (λ e s. rw (c .keptEdgeLabels e s) (record { mark = host .edgeMarks e (s .edge) }))
         (λ k l.
         let i = c .newEdgeLabels k l in
         record {
-          mark = rw (i .mark) (either-not _ _ (right-edge k .mark) (unmarked k));
-          words = instance-words (m .α .of) (m .α .words) (edgeOf (r .right) k .label) _ (right-edge k .label) (i .list);
+          mark = rw (i .mark) (either-not _ _ (edge-formed r rule k .mark) (unmarked k));
         })
       where
         unmarked : (k : ℕ) → eqb (edgeOf (r .right) k .mark) anyMark ≡ false
@@ -178,8 +149,6 @@ module _ (r : Rule) (rule : LegalRule r) (G : Graph) (host : HostGraph G) (m : M
           nodeMarks = λ v h. node-label v h .mark;
           edgeMarks = λ e h. edge-label e h .mark;
           roots = λ v h. node-label v h .root;
-          nodeWords = λ v h. node-label v h .words;
-          edgeWords = λ e h. edge-label e h .words;
         }
 
 -- what a rule gives from a host graph is a host graph

@@ -1,3 +1,4 @@
+pub mod Integers
 pub mod Graphs
 pub mod RuleApplication
 pub mod Isomorphism
@@ -6,6 +7,7 @@ pub mod SameMatch
 pub mod Application
 pub mod HostResult
 pub mod Semantics
+pub mod Existence
 pub mod Steps
 pub mod Following
 pub mod Results

@@ -11,7 +11,7 @@ use borrow.Author.Tests.{ltb-true}
 use lib.ListN.{length}
 use Rattle.meaning.specs.Image.{Rule, RuleNode, RuleEdge}
 use Rattle.meaning.specs.References.{endsExist, ruleHolds}
-use Rattle.meaning.specs.Laws.Tests.{both-true, choose-lt, choose-le, every-true, some-inj}
+use Rattle.meaning.specs.Laws.Tests.{both-true, choose-lt, choose-le, every-true}
 use Rattle.laws.specs.References.{clauses-true}
 use Rattle.meaning.specs.declared.Element.{Element}
 use Rattle.meaning.specs.declared.Element.the-variants.{Constant, Variable, Sum, Difference}
@@ -25,8 +25,8 @@ module _ (α : ℕ → List ℕ) where
   evaluates-one : (x : Element) (a b : List ℕ) → Evaluates α x a → Evaluates α x b → a ≡ b
   evaluates-one (Constant c) a b e f = e ∙ sym f
   evaluates-one (Variable v) a b e f = e ∙ sym f
-  evaluates-one (Sum c d) a b e f = e .2 ∙ ap (λ (n : ℕ). n ∷ []) (some-inj (e .0) (f .0) (sym (e .1) ∙ f .1)) ∙ sym (f .2)
-  evaluates-one (Difference c d) a b e f = e .2 ∙ ap (λ (n : ℕ). n ∷ []) (some-inj (e .0) (f .0) (sym (e .1) ∙ f .1)) ∙ sym (f .2)
+  evaluates-one (Sum c d) a b e f = e ∙ sym f
+  evaluates-one (Difference c d) a b e f = e ∙ sym f
 
   instance-one : (l : List Element) (a b : List ℕ) → Instance α l a → Instance α l b → a ≡ b
   instance-one [] a b e f = e ∙ sym f

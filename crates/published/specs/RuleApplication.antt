@@ -1,26 +1,30 @@
 -- Rule application as document 000 defines it (Definitions 2.4 to 2.7), over abstract graphs. Nothing here computes: there are
--- no slots, no search and no order. Rests on Graphs, and on meaning's Image for rules and Numbers for arithmetic.
+-- no slots, no search and no order. Rests on Graphs and Integers, and on meaning's Image for rules.
 -- A rule ⟨L ← K → R, c⟩ is a Rule: L is r .left, R is r .right, the nodes of K are the numbers below r .interface, and c asks
 -- for all of r .tests. Nodes and edges of L and R are named by their numbers.
--- Document 01 decides: there are integers of 32 bits and lists of them, and no strings; a sum or difference that leaves 32 bits
--- has no value; the mark any (magenta in document 000) goes with every mark, none included, and on the right keeps the mark; a
--- root goes with a root and no other node; the in-degree counts the edges that come from another node.
+-- As in document 000 integers have no bound: every sum and difference has a value, and no rule fails for its size.
+-- Where document 01 decides otherwise than document 000, this has what document 01 says:
+-- * there are integers and lists of them, and no strings and no characters;
+-- * the mark any (magenta in document 000) goes with every mark, none included, and on the right keeps the mark;
+-- * a root goes with a root, and a node that is none with one that is none;
+-- * the in-degree counts the edges that come from another node, so that it leaves loops out;
+-- * a condition is a list of tests, each negated or not, all of which are to be true: edge between two nodes (of any label), an
+--   in-degree, an out-degree, and = and < on integers.
 use mathlib.Core.Path.{_≡_}
 use mathlib.Core.Logic.{_⊎_}
 use mathlib.Core.Bool.{Bool, true, false}
-use mathlib.Core.Option.{some}
 use mathlib.Core.List.{List, [], _∷_, _++_}
 use Prim.Native.Nat.{ℕ, _<_, _≤_}
 use lib.ListN.{length, getD}
 use lib.Dec.{eqb, ltb}
+use lib.IntN.{ℤ, _+ℤ_, _-ℤ_}
+use lib.Signed.{ltZ}
 use Rattle.meaning.specs.Basics.{choose}
-use Rattle.meaning.specs.Numbers.{sum, difference, less}
 use Rattle.meaning.specs.Image.{RuleNode, RuleEdge, RuleGraph, Rule}
 use Rattle.meaning.specs.Tags.{anyMark}
 use Rattle.meaning.specs.References.{isInt}
 use Rattle.meaning.specs.Commands.{ruleAt}
 use Rattle.meaning.specs.Laws.Every.{Every}
-use Rattle.laws.specs.Layout.{Words}
 use Rattle.meaning.specs.declared.Operand.{Operand}
 use Rattle.meaning.specs.declared.Operand.the-variants.{Constant as constantOperand, Variable as variableOperand}
 use Rattle.meaning.specs.declared.Element.{Element}
@@ -28,6 +32,7 @@ use Rattle.meaning.specs.declared.Element.the-variants.{Constant, Variable, Sum
 use Rattle.meaning.specs.declared.Condition.{Condition}
 use Rattle.meaning.specs.declared.Condition.the-variants.{Edge as edgeBetween, InDegree, OutDegree, Equal, Less}
 use Rattle.meaning.specs.declared.Test.{Test}
+use Rattle.published.specs.Integers.{named, atom}
 use Rattle.published.specs.Graphs.{NodeLabel, EdgeLabel, Graph, Node, Edge}
 
 -- The nodes and edges of a rule's graph, by number.
@@ -55,23 +60,22 @@ pub record Injective (L : RuleGraph) (G : Graph) (g : Premorphism L G) : Type 0 
 pub record Assignment (r : Rule) : Type 0 where
   pub of : ℕ → List ℕ
   pub ints : (v : ℕ) → isInt r v ≡ true → length (of v) ≡ 1
-  pub words : (v : ℕ) → Words (of v)
 
 -- The instance of an expression under α: variables are replaced by their values, and the result is evaluated. No expression
 -- names nodes, so that the instance does not hang on g.
 
 module _ (α : ℕ → List ℕ) where
-  -- the integer that an operand stands for: a constant, or the one atom of an int variable
-  abbrev pub integer : Operand → ℕ
-  integer (constantOperand c) = c
-  integer (variableOperand v) = getD (α v) 0 0
+  -- the integer that an operand stands for: that of a constant, or of the one atom of an int variable
+  abbrev pub integer : Operand → ℤ
+  integer (constantOperand c) = named c
+  integer (variableOperand v) = named (getD (α v) 0 0)
 
-  -- element x evaluates to the list l; n is the sum, or the difference, of two integers where that has 32 bits
+  -- element x evaluates to the list l
   abbrev pub Evaluates : Element → List ℕ → Type 0
   Evaluates (Constant c) l = l ≡ c ∷ []
   Evaluates (Variable v) l = l ≡ α v
-  Evaluates (Sum a b) l = (n : ℕ) × (sum (integer a) (integer b) ≡ some n) × (l ≡ n ∷ [])
-  Evaluates (Difference a b) l = (n : ℕ) × (difference (integer a) (integer b) ≡ some n) × (l ≡ n ∷ [])
+  Evaluates (Sum a b) l = l ≡ atom (integer a +ℤ integer b) ∷ []
+  Evaluates (Difference a b) l = l ≡ atom (integer a -ℤ integer b) ∷ []
 
   -- l is the instance of the expression x₁ : .. : xₙ
   abbrev pub Instance : List Element → List ℕ → Type 0
@@ -123,7 +127,7 @@ module _ (G : Graph) (node : ℕ → ℕ) (α : ℕ → List ℕ) where
   Holds (InDegree a n) = Exactly n (Arrives G (node a))
   Holds (OutDegree a n) = Exactly n (Leaves G (node a))
   Holds (Equal a b) = integer α a ≡ integer α b
-  Holds (Less a b) = less (integer α a) (integer α b) ≡ true
+  Holds (Less a b) = ltZ (integer α a) (integer α b) ≡ true
 
   -- of a test that is negated, and of one that is not
   abbrev pub TestTrue : Bool → Condition → Type 0

@@ -11,12 +11,15 @@ use borrow.Author.Tests.{eq-eqb, eqb-true, eqb-false, ne-eqb, not-true}
 use lib.Dec.{eqb}
 use lib.ListN.{length, getD}
 use Rattle.meaning.specs.Basics.{choose, count, concat}
+use Rattle.meaning.specs.Numbers.{whole}
 use Rattle.meaning.specs.Layout.{Host}
-use Rattle.meaning.specs.References.{conditionNodes, isPlain}
+use Rattle.meaning.specs.References.{operandNames, conditionOperands, conditionNodes, isPlain}
 use Rattle.meaning.specs.Matching.{nodeSlot, Assignment, atomsOf, instance, atomOf, runs, leaves, arrives, outDegree, inDegree, conditionHolds, testHolds}
 use Rattle.meaning.specs.Laws.Tests.{both-true, both-of, any-of, any-true}
 use Rattle.meaning.specs.Laws.Every.{Every}
 use Rattle.laws.specs.Counting.{count-from}
+use Rattle.laws.specs.Layout.{Words}
+use Rattle.laws.specs.Values.{LegalOperand}
 use Rattle.laws.specs.Hosts.{liveAt-lt}
 use Rattle.meaning.specs.declared.Operand.{Operand}
 use Rattle.meaning.specs.declared.Operand.the-variants.{Constant as constantOperand, Variable as variableOperand}
@@ -26,13 +29,20 @@ use Rattle.meaning.specs.declared.Condition.{Condition}
 use Rattle.meaning.specs.declared.Condition.the-variants.{Edge as edgeBetween, InDegree, OutDegree, Equal, Less}
 use Rattle.meaning.specs.declared.Test.{Test}
 use Rattle.published.specs.Graphs.{graphOf}
+use Rattle.published.specs.Integers.{named, named-apart, less-named}
 use Rattle.published.specs.RuleApplication.{integer, Instance, Exactly, Leaves, Arrives, Holds, TestTrue}
 
--- an operand's integer is its atom
-pub integer-is : (α : Assignment) (o : Operand) → integer α o ≡ atomOf α o
+-- an operand's integer is that of its atom
+pub integer-is : (α : Assignment) (o : Operand) → integer α o ≡ named (atomOf α o)
 unfolding atomOf
 integer-is α (constantOperand c) = refl
 integer-is α (variableOperand v) = refl
+
+-- the atom is a word where a constant is one and a variable has words
+pub atom-word : (α : Assignment) (o : Operand) → LegalOperand o → Every (λ v. Words (α v)) (operandNames o) → atomOf α o < whole
+unfolding atomOf operandNames
+atom-word α (constantOperand c) h w = h
+atom-word α (variableOperand v) h w = w .0 0
 
 -- Left labels.
 
@@ -206,9 +216,10 @@ module _ (h : Host) where
   module _ (p : List ℕ) (node : ℕ → ℕ) (α : Assignment) where
     -- a condition holds in the host's graph exactly where matching says so
     pub condition-holds : (c : Condition) → Every (λ a. node a ≡ nodeSlot p a) (conditionNodes c)
+        → Every (λ o. atomOf α o < whole) (conditionOperands c)
         → (conditionHolds h p α c ≡ true) ↔ Holds (graphOf h) node α c
-    unfolding conditionNodes conditionHolds runs outDegree inDegree
-    condition-holds (edgeBetween a b) n = (
+    unfolding conditionNodes conditionOperands conditionHolds runs outDegree inDegree
+    condition-holds (edgeBetween a b) n o = (
       λ e.
           let t = any-true _ _ e in
           let u = both-true _ _ (t .2) in
@@ -218,16 +229,20 @@ module _ (h : Host) where
           any-of _ _ (t .0) (liveAt-lt (h .edges) (t .0) (t .1))
           (both-of _ _ (t .1) (both-of _ _ (eq-eqb _ _ (t .2 ∙ n .0)) (eq-eqb _ _ (t .3 ∙ n .1 .0)))),
     )
-    condition-holds (InDegree a m) n = rw (n .0) (counted _ _ _ (arrives-tested (nodeSlot p a)) m)
-    condition-holds (OutDegree a m) n = rw (n .0) (counted _ _ _ (leaves-tested (nodeSlot p a)) m)
-    condition-holds (Equal a b) n = rw (integer-is α a, integer-is α b) (λ e. eqb-true _ _ e, λ e. eq-eqb _ _ e)
-    condition-holds (Less a b) n = rw (integer-is α a, integer-is α b) (λ e. e, λ e. e)
+    condition-holds (InDegree a m) n o = rw (n .0) (counted _ _ _ (arrives-tested (nodeSlot p a)) m)
+    condition-holds (OutDegree a m) n o = rw (n .0) (counted _ _ _ (leaves-tested (nodeSlot p a)) m)
+    condition-holds (Equal a b) n o =
+        rw (integer-is α a, integer-is α b) (λ e. ap named (eqb-true _ _ e), λ e. eq-eqb _ _ (named-apart _ _ e))
+    condition-holds (Less a b) n o =
+        let q = less-named (atomOf α a) (atomOf α b) (o .0) (o .1 .0) in
+        rw (integer-is α a, integer-is α b) (λ e. sym q ∙ e, λ e. q ∙ e)
 
     -- so a test is true exactly where matching says so
     pub test-holds : (t : Test) → Every (λ a. node a ≡ nodeSlot p a) (conditionNodes (t .condition))
+        → Every (λ o. atomOf α o < whole) (conditionOperands (t .condition))
         → (testHolds h p α t ≡ true) ↔ TestTrue (graphOf h) node α (t .negated) (t .condition)
     unfolding testHolds choose
-    test-holds t n = at (t .negated) (conditionHolds h p α (t .condition)) refl (condition-holds (t .condition) n)
+    test-holds t n o = at (t .negated) (conditionHolds h p α (t .condition)) refl (condition-holds (t .condition) n o)
       where
         at : (s b : Bool) → conditionHolds h p α (t .condition) ≡ b → (b ≡ true) ↔ Holds (graphOf h) node α (t .condition)
             → (choose s (not b) b ≡ true) ↔ TestTrue (graphOf h) node α s (t .condition)

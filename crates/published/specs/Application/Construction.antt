@@ -14,7 +14,6 @@ use lib.Seq.{getD-take, getD-drop, getD-append-add, length-take-le}
 use Rattle.meaning.specs.Layout.{Slot, free, live, Node, Edge, Host, isLive, liveAt}
 use Rattle.meaning.specs.Image.{Rule}
 use Rattle.meaning.specs.Tags.{anyMark}
-use Rattle.meaning.specs.References.{ruleHolds}
 use Rattle.meaning.specs.Matching.{nodeIn, edgeIn, nodeAt, leftNodes, leftEdges, nodeSlot, edgeSlot, Match}
 use Rattle.meaning.specs.Assigned.{assigned}
 use Rattle.meaning.specs.Applying.{Right, rightSide, Ledger, stores, freeSlots, edgesGo, between, changed, applied, apply}
@@ -23,7 +22,8 @@ use Rattle.laws.specs.Pieces.{getD-map}
 use Rattle.laws.specs.FirstMatch.{node-inside, edge-inside}
 use Rattle.laws.specs.Applying.{stores-append, rightSide-some, apply-applied}
 use Rattle.laws.specs.Room.{edgesGo-nodes, nodesChange-edges, afterLeft, afterNew, changed-is, addNodes-edges, addEdges-nodes, nodes-room, edges-room}
-use Rattle.laws.specs.Values.{interface-left, interface-right, new-marked}
+use Rattle.laws.specs.Layout.{Words}
+use Rattle.laws.specs.Values.{LegalRule, interface-left, interface-right, new-marked}
 use Rattle.published.specs.Graphs.{graphOf}
 use Rattle.published.specs.RuleApplication.{nodeOf, edgeOf, Premorphism, StaysNode, StaysEdge, Union, placed, Constructed}
 use Rattle.published.specs.Application.Matching.{premorphism}
@@ -121,8 +121,8 @@ slot-gone (suc k) [] i h = refl
 slot-gone (suc k) (n ∷ ns) zero h = absurd (omega arith)
 slot-gone (suc k) (n ∷ ns) (suc i) h = slot-gone k ns i (omega arith)
 
-module _ (most : ℕ) (r : Rule) (holds : ruleHolds r ≡ true) (p : List ℕ) (h : Host) (m : Match h r p) (right : Right)
-    (values : rightSide most h r p ≡ some right)
+module _ (most : ℕ) (r : Rule) (rule : LegalRule r) (p : List ℕ) (h : Host) (m : Match h r p)
+    (words : (v : ℕ) → Words (assigned h r p v)) (right : Right) (values : rightSide most h r p ≡ some right)
     (roomN : length (drop (r .interface) (right .nodes)) ≤ freeSlots (midNodes r p right h))
     (roomE : length (newEdges r p right h) ≤ freeSlots (midEdges r p h))
   where
@@ -170,8 +170,8 @@ module _ (most : ℕ) (r : Rule) (holds : ruleHolds r ≡ true) (p : List ℕ) (
 
     mid-interface : (i : ℕ) → i < r .interface → getD (midNodes r p right h) (nodeSlot p i) free ≡ live (getD (right .nodes) i noNode)
     mid-interface i k =
-        let a = interface-left r holds in
-        let b = interface-right r holds in
+        let a = interface-left r (rule .holds) in
+        let b = interface-right r (rule .holds) in
         mid-at i (omega arith) ∙ slot-kept (r .interface) (right .nodes) i k (omega (arith, sizes .0))
 
     -- what is live then is what stays
@@ -352,7 +352,7 @@ module _ (most : ℕ) (r : Rule) (holds : ruleHolds r ≡ true) (p : List ℕ) (
     slot-placed j = at (decLt j (r .interface))
       where
         size : length (take (r .interface) p) ≡ r .interface
-        size = let s = m .size in let a = interface-left r holds in length-take-le (r .interface) p (omega arith)
+        size = let s = m .size in let a = interface-left r (rule .holds) in length-take-le (r .interface) p (omega arith)
 
         at : Dec (j < r .interface)
             → getD (take (r .interface) p ++ newSlots r p right h) j 0 ≡ placed r (nodeSlot p) (λ x. x) newNode j
@@ -379,22 +379,22 @@ module _ (most : ℕ) (r : Rule) (holds : ruleHolds r ≡ true) (p : List ℕ) (
           keptSources = λ e s. rw (edges-at e s);
           keptTargets = λ e s. rw (edges-at e s);
           newSources = λ k l.
-              let v = edge-value-at most h r p right values k l in
+              let v = edge-value-at most h r rule p words right values k l in
               rw (new-edge-at k l, v .source) (slot-placed (edgeOf (r .right) k .source));
           newTargets = λ k l.
-              let v = edge-value-at most h r p right values k l in
+              let v = edge-value-at most h r rule p words right values k l in
               rw (new-edge-at k l, v .target) (slot-placed (edgeOf (r .right) k .target));
           keptLabels = λ v s n. rw (nodes-at v s, mid-other v (other v s n));
           interfaceLabels = λ i k.
-              let a = interface-left r holds in
-              let b = interface-right r holds in
-              rw (nodes-at (nodeSlot p i) (stays i k), mid-interface i k) (node-value most h r p right values i (omega arith));
+              let a = interface-left r (rule .holds) in
+              let b = interface-right r (rule .holds) in
+              rw (nodes-at (nodeSlot p i) (stays i k), mid-interface i k) (node-value most h r rule p words right values i (omega arith));
           newLabels = λ j k l.
-              let v = node-value most h r p right values j l in
-              let e = choose-false (eqb (nodeOf (r .right) j .mark) anyMark) (nodeAt h (nodeSlot p j) .mark) (nodeOf (r .right) j .mark) (new-marked r holds j k l _) in
+              let v = node-value most h r rule p words right values j l in
+              let e = choose-false (eqb (nodeOf (r .right) j .mark) anyMark) (nodeAt h (nodeSlot p j) .mark) (nodeOf (r .right) j .mark) (new-marked r (rule .holds) j k l _) in
               rw (new-at j k l) (record { list = v .list; root = v .root; mark = v .mark ∙ e });
           keptEdgeLabels = λ e s. rw (edges-at e s);
-          newEdgeLabels = λ k l. rw (new-edge-at k l) (edge-value-at most h r p right values k l .label);
+          newEdgeLabels = λ k l. rw (new-edge-at k l) (edge-value-at most h r rule p words right values k l .label);
         }
       where
         other : (v : ℕ) → StaysNode r (graphOf h) g v → ((i : ℕ) → i < r .interface → nodeSlot p i ≡ v → ⊥)
@@ -407,18 +407,18 @@ module _ (most : ℕ) (r : Rule) (holds : ruleHolds r ≡ true) (p : List ℕ) (
 
         stays : (i : ℕ) → i < r .interface → StaysNode r (graphOf h) g (nodeSlot p i)
         stays i k =
-            let a = interface-left r holds in
+            let a = interface-left r (rule .holds) in
             record {
               node = m .nodesLive i (omega arith);
               kept = λ j l u e. m .nodesApart i j (omega arith) u (sym e);
             }
 
 -- where the interpreter applies a rule at a match, the graph after it is constructed from the graph before it
-pub application-constructs : (most room : ℕ) (r : Rule) → ruleHolds r ≡ true → (p : List ℕ) (g g′ : Ledger) (m : Match (g .host) r p)
-    → apply most room r p g ≡ applied g′
+pub application-constructs : (most room : ℕ) (r : Rule) → LegalRule r → (p : List ℕ) (g g′ : Ledger) (m : Match (g .host) r p)
+    → ((v : ℕ) → Words (assigned (g .host) r p v)) → apply most room r p g ≡ applied g′
     → Constructed r (graphOf (g .host)) (premorphism (g .host) r p m) (assigned (g .host) r p) (graphOf (g′ .host))
-application-constructs most room r holds p g g′ m e =
+application-constructs most room r rule p g g′ m words e =
     let a = apply-applied most room r p g g′ e in
     rw (a .changes, changed-after r p (a .right) g)
-    (constructed most r holds p (g .host) m (a .right) (a .values)
+    (constructed most r rule p (g .host) m words (a .right) (a .values)
     (room-nodes r p (a .right) g (nodes-room most room r p g g′ m a)) (room-edges r p (a .right) g (edges-room most room r p g g′ m a)))

@@ -1,34 +1,42 @@
 -- Matches in a host's graph: a match of meaning's is a published match, and a published match gives a match of meaning's.
--- It holds of a rule that has the form and whose references hold. Rests on Application/Conditions and SameMatch.
-use Prim.Native.Nat.{ℕ, zero, suc, _+_, _<_}
+-- It holds of a legal rule and a legal host: their atoms are words, and so are those of each test's operands.
+-- Rests on Application/Conditions and SameMatch.
+use Prim.Native.Nat.{ℕ, zero, suc, _+_, _-_, _<_}
 use mathlib.Core.Path.{_≡_, refl, sym, _∙_, ap}
 use mathlib.Core.Logic.{_⊎_, inl, inr, _↔_}
-use mathlib.Core.Bool.{true}
+use mathlib.Core.Bool.{true, false}
 use mathlib.Core.List.{List, [], _∷_, _++_}
 use native.Mathlib.Omega.{arith}
-use native.Mathlib.Decide.{ℕ-discrete}
+use native.Mathlib.Decide.{decLt, ℕ-discrete}
 use borrow.Author.Tests.{ltb-true, eqb-true, eq-eqb}
+use lib.Dec.{eqb}
 use lib.ListN.{length, getD, length-append, List·getD-append}
 use lib.Seq.{getD-append-add}
-use Rattle.meaning.specs.Basics.{every}
-use Rattle.meaning.specs.Layout.{Host}
-use Rattle.meaning.specs.Image.{Rule, isType}
+use Rattle.meaning.specs.Basics.{every, either, absent, concat}
+use Rattle.meaning.specs.Numbers.{whole}
+use Rattle.meaning.specs.Layout.{Slot, free, live, Node, Edge, Host, isLive}
+use Rattle.meaning.specs.Image.{Rule}
 use Rattle.meaning.specs.Tags.{anyMark}
-use Rattle.meaning.specs.References.{conditionNodes, isPlain, testNodesExist, ruleHolds}
-use Rattle.meaning.specs.Matching.{edgeAt, leftNode, leftEdge, leftNodes, leftEdges, nodeSlot, edgeSlot, testHolds, MarksAgree, Match}
-use Rattle.meaning.specs.Assigned.{assigned}
+use Rattle.meaning.specs.References.{operandNames, conditionOperands, labels, names, conditionNodes, isPlain, testNodesExist, ruleHolds}
+use Rattle.meaning.specs.Matching.{nodeIn, edgeIn, Assignment, atomsOf, instance, atomOf, edgeAt, leftNode, leftEdge, leftNodes, leftEdges, nodeSlot, edgeSlot, testHolds, MarksAgree, Match}
+use Rattle.meaning.specs.Assigned.{isVariable, assigned}
+use Rattle.meaning.specs.FirstMatch.{has, firstWith}
+use Rattle.meaning.specs.Laws.Tests.{either-true}
 use Rattle.meaning.specs.Laws.Every.{Every, Every-true, Every-of, Every-all, Every-then, Every-with}
-use Rattle.laws.specs.References.{clauses-true, label-plain, ends}
-use Rattle.laws.specs.Assignment.{label-node, label-edge, Labelled, labelled, agreed}
-use Rattle.laws.specs.Decided.{tests-same}
+use Rattle.laws.specs.References.{OfVariables, variables-then, left-plain, tests-left, clauses-true, label-plain, ends}
+use Rattle.laws.specs.Assignment.{labels-length, label-node, label-edge, Labelled, labelled, agreed}
+use Rattle.laws.specs.Decided.{first-with, tests-same}
 use Rattle.laws.specs.Levels.{apart-same}
-use Rattle.laws.specs.Hosts.{LegalHost}
-use Rattle.laws.specs.Values.{assigned-words}
+use Rattle.laws.specs.Hosts.{LegalNode, LegalEdge, OnLive, LegalHost}
+use Rattle.laws.specs.Layout.{Words}
+use Rattle.laws.specs.Values.{LegalRule, assigned-words}
 use Rattle.meaning.specs.declared.Layout.{Layout}
+use Rattle.meaning.specs.declared.Element.{Element}
+use Rattle.meaning.specs.declared.Element.the-variants.{Constant, Variable, Sum, Difference}
 use Rattle.published.specs.Graphs.{Graph, graphOf}
 use Rattle.published.specs.RuleApplication.{Premorphism, Constructed, Matches, Applies}
 use Rattle.published.specs.SameMatch.{constructed-same}
-use Rattle.published.specs.Application.Conditions.{plain-instance, instance-plain, test-holds}
+use Rattle.published.specs.Application.Conditions.{atom-word, plain-instance, instance-plain, test-holds}
 
 -- What the references say.
 
@@ -96,9 +104,87 @@ premorphism h r p m =
       targets = m .targets;
     }
 
-module _ (h : Host) (r : Rule) (holds : ruleHolds r ≡ true) where
+-- A variable of L has words where the labels that L goes to have.
+
+Words-front : (a b : List ℕ) → Words (a ++ b) → Words a
+Words-front [] b h i = omega arith
+Words-front (x ∷ a) b h zero = h 0
+Words-front (x ∷ a) b h (suc i) = Words-front a b (λ j. h (suc j)) i
+
+Words-behind : (a b : List ℕ) → Words (a ++ b) → Words b
+Words-behind [] b h = h
+Words-behind (x ∷ a) b h = Words-behind a b (λ j. h (suc j))
+
+variable-words : (α : Assignment) (v : ℕ) (l : List Element) → Words (instance α l) → has v l ≡ true → Words (α v)
+unfolding has isVariable either atomsOf concat
+variable-words α v [] w e = let z : _≡_ {A = ℕ} 0 1 = cc in absurd (omega arith)
+variable-words α v (Constant c ∷ l) w e = variable-words α v l (λ i. w (suc i)) e
+variable-words α v (Variable u ∷ l) w e = at (either-true (eqb u v) (has v l) e) (variable-words α v l (Words-behind (α u) (instance α l) w))
+  where
+    at : (eqb u v ≡ true) ⊎ (has v l ≡ true) → (has v l ≡ true → Words (α v)) → Words (α v)
+    at (inl q) f = rw (eqb-true u v q) at (Words-front (α u) (instance α l) w)
+    at (inr q) f = f q
+variable-words α v (Sum a b ∷ l) w e = variable-words α v l w e
+variable-words α v (Difference a b ∷ l) w e = variable-words α v l w e
+
+module _ (L : Layout) where
+  node-words : (s : Slot Node) → OnLive (LegalNode L) s → isLive s ≡ true → Words (nodeIn s .label)
+  unfolding isLive nodeIn
+  node-words free a l = let z : _≡_ {A = ℕ} 0 1 = cc in absurd (omega arith)
+  node-words (live n) a l = a .words
+
+  edge-words : (s : Slot Edge) → OnLive (LegalEdge L) s → isLive s ≡ true → Words (edgeIn s .label)
+  unfolding isLive edgeIn
+  edge-words free a l = let z : _≡_ {A = ℕ} 0 1 = cc in absurd (omega arith)
+  edge-words (live e) a l = a .words
+
+module _ (h : Host) (r : Rule) (rule : LegalRule r) (L : Layout) (legal : LegalHost L h) where
+  abbrev holds : ruleHolds r ≡ true
+  holds = rule .holds
+
+  -- the atoms of a test's operands are words where the variables have words
+  operand-words : (α : Assignment) → Every (λ t. OfVariables (λ v. Words (α v)) t) (r .tests)
+      → Every (λ t. Every (λ o. atomOf α o < whole) (conditionOperands (t .condition))) (r .tests)
+  operand-words α =
+      Every-with _ _ _ (λ t l w. Every-with _ _ _ (λ o m v. atom-word α o m v) (conditionOperands (t .condition)) l w) (r .tests) (rule .tests)
+
   -- a published match gives a match
   module _ (m : Matches r (graphOf h)) where
+    abbrev α : Assignment
+    α = m .α .of
+
+    label-words : (i : ℕ) → i < length (labels (r .left)) → Words (instance α (getD (labels (r .left)) i []))
+    label-words i k = at (decLt i (leftNodes r))
+      where
+        on-node : (i : ℕ) → i < leftNodes r → Words (instance α (getD (labels (r .left)) i []))
+        on-node i j =
+            rw (label-node r i j, ← (instance-plain α (leftNode r i .label) _ (node-plain r holds i j) (m .compatible .nodes i j)))
+            (node-words L (getD (h .nodes) (m .g .node i) free) (legal .nodes (m .g .node i)) (m .g .nodes i j))
+
+        on-edge : (k : ℕ) → k < leftEdges r → Words (instance α (getD (labels (r .left)) (leftNodes r + k) []))
+        on-edge k j =
+            rw (label-edge r k j, ← (instance-plain α (leftEdge r k .label) _ (edge-plain r holds k j) (m .compatible .edges k j)))
+            (edge-words L (getD (h .edges) (m .g .edge k) free) (legal .edges (m .g .edge k)) (m .g .edges k j))
+
+        at : Dec (i < leftNodes r) → Words (instance α (getD (labels (r .left)) i []))
+        at (yes j) = on-node i j
+        at (no j) =
+            let f : leftNodes r + (i - leftNodes r) ≡ i = omega arith in
+            rw f at (on-edge (i - leftNodes r) (omega (arith, labels-length r)))
+
+    left-words : (v : ℕ) → absent v (names (r .left)) ≡ false → Words (α v)
+    left-words v e =
+        let t = first-with v (labels (r .left)) (left-plain r holds) e in
+        variable-words α v (getD (labels (r .left)) (firstWith v (labels (r .left))) []) (label-words (firstWith v (labels (r .left))) (t .0)) (t .1)
+
+    test-words : Every (λ t. OfVariables (λ v. Words (α v)) t) (r .tests)
+    test-words = Every-then _ _ (λ t o. variables-then _ _ left-words t o) (r .tests) (tests-left r holds)
+
+    -- a test names left nodes, and operands whose atoms are words
+    test-known : Every (λ t. Every (λ a. a < leftNodes r) (conditionNodes (t .condition)) × Every (λ o. atomOf α o < whole) (conditionOperands (t .condition)))
+        (r .tests)
+    test-known = Every-with _ _ _ (λ t n o. (n, o)) (r .tests) (test-nodes r holds) (operand-words α test-words)
+
     abbrev p : List ℕ
     p = placement r (graphOf h) (m .g)
 
@@ -146,23 +232,27 @@ module _ (h : Host) (r : Rule) (holds : ruleHolds r ≡ true) where
               Every-of _ (r .tests)
               (Every-with _ _ _ (λ t n s.
               test-holds h p (m .g .node) (m .α .of) t
-              (Every-then _ _ (λ a l. sym (node a l)) (conditionNodes (t .condition)) n) .1 s) (r .tests) (test-nodes r holds) (m .condition));
+              (Every-then _ _ (λ a l. sym (node a l)) (conditionNodes (t .condition)) (n .0)) (n .1) .1 s) (r .tests) test-known (m .condition));
         }
 
   -- a match is a published match, with the assignment that its placement gives
-  module _ (L : Layout) (legal : LegalHost L h) (types : every isType (r .variables) ≡ true) (p : List ℕ) (m : Match h r p) where
-    labels : Labelled h r p (assigned h r p)
-    labels =
+  module _ (p : List ℕ) (m : Match h r p) where
+    labels-are : Labelled h r p (assigned h r p)
+    labels-are =
         labelled h r p (m .size) holds
-        (agreed h r p (m .size) holds types (m .assignment) (record { ints = m .ints; nodes = m .nodeLabels; edges = m .edgeLabels }))
+        (agreed h r p (m .size) holds (rule .types) (m .assignment) (record { ints = m .ints; nodes = m .nodeLabels; edges = m .edgeLabels }))
 
     tests : every (testHolds h p (assigned h r p)) (r .tests) ≡ true
     tests =
-        tests-same h r p (m .size) holds types (m .assignment) (record { ints = m .ints; nodes = m .nodeLabels; edges = m .edgeLabels }) (m .tests)
+        tests-same h r p (m .size) holds (rule .types) (m .assignment) (record { ints = m .ints; nodes = m .nodeLabels; edges = m .edgeLabels }) (m .tests)
 
     unmarked : (left mark : ℕ) → MarksAgree left mark → (left ≡ anyMark → ⊥) → left ≡ mark
     unmarked left mark (inl e) n = absurd (n e)
     unmarked left mark (inr e) n = e
+
+    known : Every (λ t. OfVariables (λ v. Words (assigned h r p v)) t) (r .tests)
+    known =
+        Every-all _ (λ t. Every-all _ (λ o. Every-all _ (assigned-words L h legal r p) (operandNames o)) (conditionOperands (t .condition))) (r .tests)
 
     match-published : Matches r (graphOf h)
     match-published =
@@ -172,18 +262,19 @@ module _ (h : Host) (r : Rule) (holds : ruleHolds r ≡ true) where
             nodes = λ i j. apart-same (nodeSlot p) (leftNodes r) i j (m .nodesApart);
             edges = λ i j. apart-same (edgeSlot r p) (leftEdges r) i j (m .edgesApart);
           };
-          α = record { of = assigned h r p; ints = labels .ints; words = assigned-words L h legal r p };
+          α = record { of = assigned h r p; ints = labels-are .ints };
           compatible = record {
-            nodes = λ i k. rw (labels .nodes i k) (plain-instance (assigned h r p) (leftNode r i .label) (node-plain r holds i k));
-            edges = λ k j. rw (labels .edges k j) (plain-instance (assigned h r p) (leftEdge r k .label) (edge-plain r holds k j));
+            nodes = λ i k. rw (labels-are .nodes i k) (plain-instance (assigned h r p) (leftNode r i .label) (node-plain r holds i k));
+            edges = λ k j. rw (labels-are .edges k j) (plain-instance (assigned h r p) (leftEdge r k .label) (edge-plain r holds k j));
             nodeMarks = λ i k. unmarked _ _ (m .nodeMarks i k);
             edgeMarks = λ k j. unmarked _ _ (m .edgeMarks k j);
             roots = λ i k. eqb-true _ _ (m .roots i k);
           };
           dangling = m .dangling;
           condition =
-              Every-true _ _ (λ t e.
-              test-holds h p (nodeSlot p) (assigned h r p) t (Every-all _ (λ a. refl) (conditionNodes (t .condition))) .0 e) (r .tests) tests;
+              Every-with _ _ _ (λ t o e.
+              test-holds h p (nodeSlot p) (assigned h r p) t (Every-all _ (λ a. refl) (conditionNodes (t .condition))) o .0 e) (r .tests)
+              (operand-words (assigned h r p) known) (Every-true _ _ (λ t e. e) (r .tests) tests);
         }
 
     -- and what is constructed with it is what the rule gives
@@ -192,14 +283,13 @@ module _ (h : Host) (r : Rule) (holds : ruleHolds r ≡ true) where
     match-applies H c = record { match = match-published; constructed = c }
 
   -- so a rule has a match in a host exactly where it has a published one in the host's graph
-  module _ (L : Layout) (legal : LegalHost L h) (types : every isType (r .variables) ≡ true) where
-    pub no-match : ((p : List ℕ) → Match h r p → ⊥) ↔ (Matches r (graphOf h) → ⊥)
-    no-match = (λ n m. n (p m) (match-of m), λ n p m. n (match-published L legal types p m))
+  pub no-match : ((p : List ℕ) → Match h r p → ⊥) ↔ (Matches r (graphOf h) → ⊥)
+  no-match = (λ n m. n (p m) (match-of m), λ n p m. n (match-published p m))
 
-    -- the placement of a published match m has m's premorphism, so what is constructed with the one is constructed with the other
-    pub constructed-back : (m : Matches r (graphOf h)) (H : Graph)
-        → Constructed r (graphOf h) (premorphism h r (p m) (match-of m)) (assigned h r (p m)) H → Constructed r (graphOf h) (m .g) (m .α .of) H
-    unfolding match-published
-    constructed-back m H c =
-        constructed-same r (record { holds = holds; types = types }) (graphOf h) (match-published L legal types (p m) (match-of m)) m
-        (record { nodes = node m; edges = edge m }) H c
+  -- the placement of a published match m has m's premorphism, so what is constructed with the one is constructed with the other
+  pub constructed-back : (m : Matches r (graphOf h)) (H : Graph)
+      → Constructed r (graphOf h) (premorphism h r (p m) (match-of m)) (assigned h r (p m)) H → Constructed r (graphOf h) (m .g) (m .α .of) H
+  unfolding match-published
+  constructed-back m H c =
+      constructed-same r (record { holds = holds; types = rule .types }) (graphOf h) (match-published (p m) (match-of m)) m
+      (record { nodes = node m; edges = edge m }) H c
