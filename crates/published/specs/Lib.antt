@@ -15,4 +15,5 @@ pub mod Alike
 pub mod Unique
 pub mod Answers
 pub mod Conformance
+pub mod Steady
 pub mod OnlyOutcome

@@ -1,0 +1,135 @@
+-- Programs that can come to one thing only. A rule set is steady relative to an invariant of graphs if it keeps it and gives one
+-- graph up to isomorphism, if any, on the host graphs that have it. Where all rule sets that a program calls are steady, a graph
+-- that has the invariant and that the program can bring to a result, or to fail, it can bring to nothing else: it can neither
+-- diverge nor get stuck besides. The invariant is put into the likeness of graphs that Unique speaks of. Rests on Unique, Answers
+-- and SameMatch.
+use mathlib.Core.Path.{_≡_, subst}
+use mathlib.Core.List.{List, [], _∷_}
+use Prim.Native.Nat.{ℕ, zero, suc, _<_}
+use native.Mathlib.Omega.{arith}
+use lib.ListN.{length}
+use Rattle.meaning.specs.Image.{Rule}
+use Rattle.meaning.specs.Commands.{ruleAt}
+use Rattle.laws.specs.Values.{LegalRule}
+use Rattle.laws.specs.LegalCommands.{LegalRules, legal-rule, legal-sound}
+use Rattle.published.specs.Graphs.{Graph, HostGraph, Iso}
+use Rattle.published.specs.RuleApplication.{Matches, Applies, Applied}
+use Rattle.published.specs.Isomorphism.{iso-same, applied-iso}
+use Rattle.published.specs.SameMatch.{Agree, same-match}
+use Rattle.published.specs.HostResult.{applies-host}
+use Rattle.published.specs.Semantics.{ComSeq, call, _⨟_, if_then_else_, try_then_else_, _!, break, skip, fail, Outcome, graph, fails, ⟦_⟧}
+use Rattle.published.specs.Answers.{Alike, alike-back, carry}
+use Rattle.published.specs.Alike.{Calls, Same, sameGraph, sameFail, sameBottom}
+use Rattle.published.specs.Unique.{one-result, one-fail}
+
+-- the same outcome up to isomorphism
+abbrev pub SameOutcome : Outcome Graph → Outcome Graph → Type 0
+SameOutcome X Y = Same Graph Alike X Y
+
+module _ (Inv : Graph → Type 0) where
+  -- the rule set R keeps the invariant, and where it holds gives one graph up to isomorphism, if it gives any
+  pub record Steady (R : List Rule) : Type 0 where
+    pub keeps : (G H : Graph) → HostGraph G → Inv G → Applied R G H → Inv H
+    pub one : (G H H′ : Graph) → HostGraph G → Inv G → Applied R G H → Applied R G H′ → Iso H H′
+
+  -- so is one whose rules keep the invariant and that has one match at most where it holds: of one of its rules, and in one way
+  pub one-match : (R : List Rule) → LegalRules R
+      → ((i : ℕ) → i < length R → (G H : Graph) → HostGraph G → Inv G → Applies (ruleAt R i) G H → Inv H)
+      → ((i j : ℕ) → i < length R → j < length R → (G : Graph) → HostGraph G → Inv G → Matches (ruleAt R i) G → Matches (ruleAt R j) G → i ≡ j)
+      → ((i : ℕ) → i < length R → (G : Graph) → HostGraph G → Inv G → (m n : Matches (ruleAt R i) G) → Agree (ruleAt R i) G (m .g) (n .g))
+      → Steady R
+  one-match R legal kept apart agree =
+      record {
+        keeps = λ G H host inv a. kept (a .place) (a .listed) G H host inv (a .applies);
+        one = λ G H H′ host inv a b.
+            let e = apart (a .place) (b .place) (a .listed) (b .listed) G host inv (a .applies .match) (b .applies .match) in
+            let c = subst (λ k. Applies (ruleAt R k) G H) e (a .applies) in
+            same-match (ruleAt R (b .place)) (legal-sound R legal (b .place)) G H H′ host c (b .applies)
+            (agree (b .place) (b .listed) G host inv (c .match) (b .applies .match));
+      }
+
+  -- one rule alone
+  pub one-rule : (r : Rule) → LegalRule r → ((G H : Graph) → HostGraph G → Inv G → Applies r G H → Inv H)
+      → ((G : Graph) → HostGraph G → Inv G → (m n : Matches r G) → Agree r G (m .g) (n .g)) → Steady (r ∷ [])
+  one-rule r legal kept agree = one-match (r ∷ []) (legal, tt) kept′ apart agree′
+    where
+      kept′ : (i : ℕ) → i < length (r ∷ []) → (G H : Graph) → HostGraph G → Inv G → Applies (ruleAt (r ∷ []) i) G H → Inv H
+      kept′ zero k = kept
+      kept′ (suc i) k = absurd (omega arith)
+
+      apart : (i j : ℕ) → i < length (r ∷ []) → j < length (r ∷ []) → (G : Graph) → HostGraph G → Inv G → Matches (ruleAt (r ∷ []) i) G
+          → Matches (ruleAt (r ∷ []) j) G → i ≡ j
+      apart i j k l G host inv m n = omega arith
+
+      agree′ : (i : ℕ) → i < length (r ∷ []) → (G : Graph) → HostGraph G → Inv G → (m n : Matches (ruleAt (r ∷ []) i) G)
+          → Agree (ruleAt (r ∷ []) i) G (m .g) (n .g)
+      agree′ zero k = agree
+      agree′ (suc i) k = absurd (omega arith)
+
+  -- The theorem.
+
+  abbrev Sure : List Rule → Type 0
+  Sure R = LegalRules R × Steady R
+
+  -- isomorphic host graphs that have the invariant
+  record Both (G H : Graph) : Type 0 where
+    alike : Alike G H
+    this : Inv G
+    that : Inv H
+
+  both-back : (G H : Graph) → Both G H → Both H G
+  both-back G H b = record { alike = alike-back G H (b .alike); this = b .that; that = b .this }
+
+  sure-carry : (R : List Rule) → Sure R → (G G′ H : Graph) → Both G G′ → Applied R G H → (H′ : Graph) × Both H H′ × Applied R G′ H′
+  sure-carry R u G G′ H b a =
+      let c = carry R (u .0) G G′ H (b .alike) a in
+      let this = u .1 .keeps G H (b .alike .this) (b .this) a in
+      let that = u .1 .keeps G′ (c .0) (b .alike .that) (b .that) (c .2) in
+      (c .0, record { alike = c .1; this = this; that = that }, c .2)
+
+  host-result : (R : List Rule) → LegalRules R → (G H : Graph) → HostGraph G → Applied R G H → HostGraph H
+  host-result R legal G H host a = applies-host (ruleAt R (a .place)) (legal-rule R legal (a .place)) G H host (a .applies)
+
+  sure-unique : (R : List Rule) → Sure R → (G G′ H H′ : Graph) → Both G G′ → Applied R G H → Applied R G′ H′ → Both H H′
+  sure-unique R u G G′ H H′ b a c =
+      let i = b .alike in
+      let back = applied-iso R (λ k. legal-rule R (u .0) k .holds) G′ G H′ H′ (i .that) (alike-back G G′ i .iso) (iso-same H′) c in
+      record {
+        alike =
+            record {
+              this = host-result R (u .0) G H (i .this) a;
+              that = host-result R (u .0) G′ H′ (i .that) c;
+              iso = u .1 .one G H H′ (i .this) (b .this) a back;
+            };
+        this = u .1 .keeps G H (i .this) (b .this) a;
+        that = u .1 .keeps G′ H′ (i .that) (b .that) c;
+      }
+
+  sure-calls : (P : ComSeq) → Calls LegalRules P → Calls Steady P → Calls Sure P
+  sure-calls (call R) u v = (u, v)
+  sure-calls (P ⨟ Q) u v = (sure-calls P (u .0) (v .0), sure-calls Q (u .1) (v .1))
+  sure-calls (if C then P else Q) u v = (sure-calls C (u .0) (v .0), sure-calls P (u .1) (v .1), sure-calls Q (u .2) (v .2))
+  sure-calls (try C then P else Q) u v = (sure-calls C (u .0) (v .0), sure-calls P (u .1) (v .1), sure-calls Q (u .2) (v .2))
+  sure-calls (P !) u v = sure-calls P u v
+  sure-calls break u v = tt
+  sure-calls skip u v = tt
+  sure-calls fail u v = tt
+
+  forget : {X Y : Outcome Graph} → Same Graph Both X Y → SameOutcome X Y
+  forget (sameGraph b) = sameGraph (b .alike)
+  forget sameFail = sameFail
+  forget sameBottom = sameBottom
+
+  module _ (P : ComSeq) (legal : Calls LegalRules P) (steady : Calls Steady P) (G : Graph) (host : HostGraph G) (inv : Inv G) where
+    sure : Calls Sure P
+    sure = sure-calls P legal steady
+
+    same : Both G G
+    same = record { alike = record { this = host; that = host; iso = iso-same G }; this = inv; that = inv }
+
+    pub only-result : (H : Graph) → ⟦_⟧ Graph Applied P G (graph H) → (X : Outcome Graph) → ⟦_⟧ Graph Applied P G X
+        → SameOutcome (graph H) X
+    only-result H p X q = forget (one-result Graph Applied Sure Both both-back sure-carry sure-unique P sure G same H p X q)
+
+    pub only-fail : ⟦_⟧ Graph Applied P G fails → (X : Outcome Graph) → ⟦_⟧ Graph Applied P G X → SameOutcome fails X
+    only-fail p X q = forget (one-fail Graph Applied Sure Both both-back sure-carry sure-unique P sure G same p X q)
