@@ -16,4 +16,6 @@ pub mod Unique
 pub mod Answers
 pub mod Conformance
 pub mod Steady
+pub mod Determined
+pub mod OneRoot
 pub mod OnlyOutcome
