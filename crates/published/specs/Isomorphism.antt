@@ -420,3 +420,14 @@ applied-iso R holds G G′ H H′ host i j a =
       listed = a .listed;
       applies = applies-iso (ruleAt R (a .place)) (holds (a .place)) G G′ H H′ host i j (a .applies);
     }
+
+-- the match of the application that an isomorphism of G takes over
+pub applies-iso-nodes : (r : Rule) (holds : ruleHolds r ≡ true) (G G′ H H′ : Graph) (host : HostGraph G) (i : Iso G G′) (j : Iso H H′)
+    (a : Applies r G H) (k : ℕ) → applies-iso r holds G G′ H H′ host i j a .match .g .node k ≡ i .node (a .match .g .node k)
+unfolding applies-iso match-over
+applies-iso-nodes r holds G G′ H H′ host i j a k = refl
+
+pub applies-iso-edges : (r : Rule) (holds : ruleHolds r ≡ true) (G G′ H H′ : Graph) (host : HostGraph G) (i : Iso G G′) (j : Iso H H′)
+    (a : Applies r G H) (k : ℕ) → applies-iso r holds G G′ H H′ host i j a .match .g .edge k ≡ i .edge (a .match .g .edge k)
+unfolding applies-iso match-over
+applies-iso-edges r holds G G′ H H′ host i j a k = refl

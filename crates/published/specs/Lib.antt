@@ -18,4 +18,6 @@ pub mod Conformance
 pub mod Steady
 pub mod Determined
 pub mod OneRoot
+pub mod Unchanged
+pub mod Symmetric
 pub mod OnlyOutcome
