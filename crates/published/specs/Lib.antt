@@ -21,3 +21,4 @@ pub mod OneRoot
 pub mod Unchanged
 pub mod Symmetric
 pub mod OnlyOutcome
+pub mod Instances

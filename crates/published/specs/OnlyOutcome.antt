@@ -5,8 +5,11 @@ use mathlib.Core.Path.{_≡_, sym, _∙_, ap}
 use mathlib.Core.Bool.{true, false}
 use mathlib.Core.Option.{some}
 use mathlib.Core.List.{List, [], _∷_, map}
-use Prim.Native.Nat.{ℕ, _≤_}
+use Prim.Native.Nat.{ℕ, zero, suc, _≤_}
 use native.Mathlib.Omega.{arith}
+use borrow.Author.Tests.{ltb-true}
+use lib.Dec.{ltb}
+use Rattle.meaning.specs.Basics.{every}
 use Rattle.meaning.specs.Layout.{base}
 use Rattle.meaning.specs.Image
 use Rattle.meaning.specs.Image.{Rule, Command, Commands, Program, program}
@@ -14,7 +17,7 @@ use Rattle.meaning.specs.Commands.{ruleAt}
 use Rattle.meaning.specs.Calls.{Left, answerNumber, run, lending, Lent}
 use Rattle.demands.specs.Ours.{ours, good}
 use Rattle.demands.specs.First.{run-settled}
-use Rattle.meaning.specs.Laws.Tests.{some-inj}
+use Rattle.meaning.specs.Laws.Tests.{both-true, some-inj}
 use Rattle.laws.specs.Numbers.{Bytes}
 use Rattle.laws.specs.LegalCommands.{LegalRules, legal-rule}
 use Rattle.laws.specs.LegalImage.{program-legal}
@@ -98,3 +101,29 @@ module _ (nodes edges journal image : List ℕ) (fuel : ℕ) (report : List ℕ)
         let z : ours base .run lent .answer ≡ 1 = ap answerNumber e in
         let c = run-fail nodes edges journal image fuel report hn he hi e in
         only-fail Inv (comSeq (p .rules) (p .main)) (legal (omega arith)) steady (held nodes edges) (c .came) inv (comes _ c)
+
+-- The same of an image: on all tables that hold a graph with the invariant. X is what its program can come to there.
+pub record OneOutcome (image : List ℕ) (p : Program) (Inv : Graph → Type 0) : Type 0 where
+  pub result : (nodes edges journal : List ℕ) (fuel : ℕ) (report : List ℕ) → Bytes nodes → Bytes edges → Inv (held nodes edges)
+      → run base (lending nodes edges journal image fuel report) .answer ≡ Result → (X : Outcome Graph)
+      → ⟦_⟧ Graph Applied (comSeq (p .rules) (p .main)) (held nodes edges) X
+      → let left : Left = run base (lending nodes edges journal image fuel report) in
+      SameOutcome (graph (held (left .nodes) (left .edges))) X
+  pub fail : (nodes edges journal : List ℕ) (fuel : ℕ) (report : List ℕ) → Bytes nodes → Bytes edges → Inv (held nodes edges)
+      → run base (lending nodes edges journal image fuel report) .answer ≡ Fail → (X : Outcome Graph)
+      → ⟦_⟧ Graph Applied (comSeq (p .rules) (p .main)) (held nodes edges) X → SameOutcome fails X
+
+pub one-outcome : (image : List ℕ) → Bytes image → (p : Program) → program image ≡ some p → (Inv : Graph → Type 0)
+    → Calls (Steady Inv) (comSeq (p .rules) (p .main)) → OneOutcome image p Inv
+one-outcome image hi p form Inv steady =
+    record {
+      result = λ nodes edges journal fuel report hn he inv. run-only nodes edges journal image fuel report hn he hi p form Inv inv steady;
+      fail = λ nodes edges journal fuel report hn he inv. run-fail-only nodes edges journal image fuel report hn he hi p form Inv inv steady;
+    }
+
+-- a list of bytes, by computing
+pub bytes-by : (bs : List ℕ) → every (λ b. ltb b 256) bs ≡ true → Bytes bs
+unfolding every
+bytes-by [] e i = omega arith
+bytes-by (b ∷ bs) e zero = ltb-true b 256 (both-true _ _ e .0)
+bytes-by (b ∷ bs) e (suc i) = bytes-by bs (both-true _ _ e .1) i

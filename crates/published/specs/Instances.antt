@@ -1,0 +1,4 @@
+-- Programs whose rule sets are steady, each relative to an invariant of its own, from the bytes of their images; and why an invariant
+-- is needed. Rests on OnlyOutcome.
+pub mod RedRoot
+pub mod TwoRoots
