@@ -1,6 +1,6 @@
 -- What shows that an interpreter does not meet a demand: the cases of document 01 as what run is lent, what ours leaves of
 -- them, and interpreters that differ from ours in one thing. Rests on Second, Third and the meaning's ProvedSet.
-use Prim.Native.Nat.{ℕ, zero, suc, _*_, _^_, _≤_}
+use Prim.Native.Nat.{ℕ, _*_, _^_, _≤_}
 use mathlib.Core.Path.{_≡_, sym, _∙_, ap, subst}
 use mathlib.Core.Bool.{Bool, true}
 use mathlib.Core.Option.{Option, some, none}
@@ -22,7 +22,7 @@ use Rattle.laws.specs.Undoing.{base-numbered}
 use Rattle.demands.specs.Second.{one-outcome}
 use Rattle.demands.specs.Third.{one-count}
 use Rattle.meaning.specs.Laws.Tests.{both-true}
-use Rattle.laws.specs.Numbers.{Bytes}
+use Rattle.laws.specs.Numbers.{bytes-by}
 use Rattle.meaning.specs.declared.Refusal.{Refusal}
 use Rattle.meaning.specs.declared.Refusal.the-variants.{BadForm}
 
@@ -60,17 +60,11 @@ proved n =
     ∙ ap (getD (map (λ c. c .expected) cases) n) first
     ∙ List·getD-map (λ (c : Case). c .expected) cases n noCase)
 
-byteList : (bs : List ℕ) → every (λ b. ltb b 256) bs ≡ true → Bytes bs
-unfolding every
-byteList [] e i = omega arith
-byteList (a ∷ bs) e zero = ltb-true a 256 (both-true _ _ e .0)
-byteList (a ∷ bs) e (suc i) = byteList bs (both-true _ _ e .1) i
-
 abbrev isBuffer : List ℕ → Bool
 isBuffer bs = both (every (λ b. ltb b 256) bs) (ltb (length bs) (2 ^ 64))
 
 buffer : (bs : List ℕ) → isBuffer bs ≡ true → Buffer bs
-buffer bs e = let t = both-true _ _ e in record { bytes = byteList bs (t .0); fits = ltb-true _ _ (t .1) }
+buffer bs e = let t = both-true _ _ e in record { bytes = bytes-by bs (t .0); fits = ltb-true _ _ (t .1) }
 
 -- all of it can be lent
 abbrev pub canBeLent : Lent → Bool

@@ -3,6 +3,7 @@
 use Prim.Native.Nat.{ℕ, zero, suc, _+_, _-_, _*_, _/_, _%_, _^_, _<_, _≤_}
 use mathlib.Core.Path.{_≡_, refl, sym, _∙_, ap}
 use mathlib.Core.List.{List, [], _∷_}
+use mathlib.Core.Bool.{true}
 use mathlib.Core.Option.{Option, some, none}
 use native.Mathlib.Nat.{mod-one, mod-eq-of-lt, pow-succ', one-le-pow, mul-add-div-right, mul-add-mod-self-right, mul-assoc, pow-le-pow-right, lt-of-lt-of-le}
 use mathlib.Core.Logic.{_↔_}
@@ -15,7 +16,7 @@ use lib.Signed.{ltZ}
 use lib.Arith.{mod-mul, digits-lt, digits-div}
 use lib.ListN.{length, getD, take, drop, length-take, length-drop}
 use lib.Seq.{getD-drop, drop-cons, length-take-le}
-use Rattle.meaning.specs.Basics.{choose, both, ensure, _>>_}
+use Rattle.meaning.specs.Basics.{choose, both, every, ensure, _>>_}
 use Rattle.meaning.specs.Numbers.{number, bytes, half, whole, height, less, sum, difference}
 use Rattle.meaning.specs.Laws.Tests.{choose-lt, choose-le, both-true, both-of, ensure-some, ensure-yes, some-inj}
 
@@ -24,6 +25,13 @@ use Rattle.meaning.specs.Laws.Tests.{choose-lt, choose-le, both-true, both-of, 
 -- each byte is below 256: what a slice of bytes gives
 abbrev pub Bytes : List ℕ → Type 0
 Bytes bs = (i : ℕ) → getD bs i 0 < 256
+
+-- by computing
+pub bytes-by : (bs : List ℕ) → every (λ b. ltb b 256) bs ≡ true → Bytes bs
+unfolding every
+bytes-by [] e i = omega arith
+bytes-by (b ∷ bs) e zero = ltb-true b 256 (both-true _ _ e .0)
+bytes-by (b ∷ bs) e (suc i) = bytes-by bs (both-true _ _ e .1) i
 
 pub length-bytes : (w n : ℕ) → length (bytes w n) ≡ w
 unfolding bytes

@@ -4,19 +4,17 @@
 use Prim.Native.Nat.{ℕ, _^_, _≤_}
 use mathlib.Core.Path.{_≡_}
 use mathlib.Core.List.{List, map}
-use Rattle.meaning.specs.Layout.{Host, base}
+use Rattle.meaning.specs.Layout.{Host}
 use Rattle.meaning.specs.Image.{Rule}
 use Rattle.meaning.specs.Applying.{Ledger, applied, apply}
 use Rattle.meaning.specs.Commands.{ruleAt}
 use Rattle.demands.specs.Inference.{NoMatch, FirstCalled}
-use Rattle.demands.specs.Met.{met}
-use Rattle.demands.specs.Ours.{ours}
 use Rattle.meaning.specs.Calls.{Lent}
-use Rattle.demands.specs.Demands.{Interpreter, Bytewise, Demand1, Demand2}
+use Rattle.demands.specs.Demands.{Interpreter, Lendable, Demand1, Demand2}
 use Rattle.laws.specs.Hosts.{LegalHost}
 use Rattle.laws.specs.Legality.{LegalLedger}
 use Rattle.laws.specs.LegalCommands.{LegalRules, legal-rule}
-use Rattle.laws.specs.Undoing.{Numbered, base-numbered}
+use Rattle.laws.specs.Undoing.{Numbered}
 use Rattle.meaning.specs.declared.Layout.{Layout}
 use Rattle.published.specs.Graphs.{Graph, HostGraph, graphOf, Iso}
 use Rattle.published.specs.RuleApplication.{Applied}
@@ -46,7 +44,7 @@ module _ (L : Layout) where
   abbrev pub Comes : Lent → Outcome Graph → Type 0
   Comes x X = CanComeTo L Graph Applied graphOf (x .nodes) (x .edges) (x .image) X
 
-  module _ (numbered : Numbered L) (I : Interpreter) (first : Demand1 L I) (second : Demand2 L I) (x : Lent) (b : Bytewise x) where
+  module _ (numbered : Numbered L) (I : Interpreter) (first : Demand1 L I) (second : Demand2 L I) (x : Lent) (b : Lendable x) where
     -- where it answers 0, the graph that it leaves is a possible result
     pub result-published : I .run x .answer ≡ 0 → Comes x (graph (held L graphOf (I .run x .nodes) (I .run x .edges)))
     result-published z = Results.result-published L Graph Applied graphOf hit miss numbered I first second x b z
@@ -61,14 +59,6 @@ module _ (L : Layout) where
 
     pub left-host : I .run x .answer ≡ 0 → HostGraph (held L graphOf (I .run x .nodes) (I .run x .edges))
     left-host z = host-graph L _ (Results.left-legal L Graph Applied graphOf hit miss numbered I first second x b z)
-
--- so do the answers of this interpreter, with document 01's layout
-pub our-result : (x : Lent) → Bytewise x → ours base .run x .answer ≡ 0
-    → Comes base x (graph (held base graphOf (ours base .run x .nodes) (ours base .run x .edges)))
-our-result = result-published base base-numbered (ours base) (met .0) (met .1)
-
-pub our-fail : (x : Lent) → Bytewise x → ours base .run x .answer ≡ 1 → Comes base x fails
-our-fail = fail-published base base-numbered (ours base) (met .0) (met .1)
 
 -- Names do not matter.
 

@@ -1,26 +1,23 @@
--- The call `run` conforms to the published semantics of GP 2, and nothing is assumed: where it answers Result, the graph that it
--- leaves is a possible result of the program on the graph that came in, and where it answers Fail, the program can fail on it; by
--- the inference rules of document 000's Appendix B, over its host graphs and its rule application (Definition 2.7).
--- Rests on Answers.
-use mathlib.Core.Path.{_≡_, ap}
+-- The exported call `run` conforms to the published semantics of GP 2: of every interpreter that keeps the promises of the exported
+-- calls, and of all that can be lent, where it answers 0, the graph that it leaves is a possible result of the program on the graph
+-- that came in, and where it answers 1, the program can fail on it; by the inference rules of document 000's Appendix B, over its
+-- host graphs and its rule application (Definition 2.7). Rests on Answers and demands' Exported.
+use mathlib.Core.Path.{_≡_}
 use mathlib.Core.Option.{some}
 use mathlib.Core.List.{List}
 use Prim.Native.Nat.{ℕ}
 use native.Mathlib.Omega.{arith}
 use Rattle.meaning.specs.Layout.{base}
 use Rattle.meaning.specs.Image.{Program, program}
-use Rattle.meaning.specs.Calls.{Left, answerNumber, run, lending, Lent}
-use Rattle.demands.specs.Demands.{Bytewise}
-use Rattle.demands.specs.Ours.{ours}
-use Rattle.demands.specs.Met.{met}
-use Rattle.laws.specs.Numbers.{Bytes}
+use Rattle.meaning.specs.Calls.{Lent}
+use Rattle.demands.specs.Demands.{Lendable, Interpreter, Demand1, Demand2}
+use Rattle.demands.specs.Exported.{Exported, exported-met}
 use Rattle.laws.specs.Undoing.{base-numbered}
-use Rattle.meaning.specs.declared.Answer.the-variants.{Result, Fail}
 use Rattle.published.specs.Graphs.{Graph, HostGraph, graphOf}
 use Rattle.published.specs.RuleApplication.{Applied}
 use Rattle.published.specs.Semantics.{Outcome, graph, fails, bottom, ⟦_⟧, comSeq}
 use Rattle.published.specs.Results
-use Rattle.published.specs.Answers.{our-result, our-fail, came-host, left-host}
+use Rattle.published.specs.Answers.{result-published, fail-published, came-host, left-host}
 
 -- the graph that two tables hold
 abbrev pub held : List ℕ → List ℕ → Graph
@@ -40,38 +37,31 @@ pub record CanComeTo (nodes edges image : List ℕ) (X : Outcome Graph) : Type 0
   pub outcome : ⟦_⟧ Graph Applied (comSeq (tree .rules) (tree .main)) (held nodes edges) X
   pub host : HostOutcome X
 
-module _ (nodes edges journal image : List ℕ) (fuel : ℕ) (report : List ℕ) (hn : Bytes nodes) (he : Bytes edges) (hi : Bytes image) where
-  abbrev lent : Lent
-  lent = record { nodes = nodes; edges = edges; journal = journal; image = image; fuel = fuel; report = report }
+module _ (I : Interpreter) (exported : Exported I) (x : Lent) (b : Lendable x) where
+  first : Demand1 base I
+  first = exported-met I exported .0
 
-  bytewise : Bytewise lent
-  bytewise = record { nodes = hn; edges = he; image = hi }
+  second : Demand2 base I
+  second = exported-met I exported .1
 
-  abbrev left : Left
-  left = run base (lending nodes edges journal image fuel report)
-
-  pub run-result : left .answer ≡ Result → CanComeTo nodes edges image (graph (held (left .nodes) (left .edges)))
-  unfolding answerNumber
-  run-result e =
-      let z : ours base .run lent .answer ≡ 0 = ap answerNumber e in
-      let c = our-result lent bytewise z in
+  pub run-result : I .run x .answer ≡ 0 → CanComeTo (x .nodes) (x .edges) (x .image) (graph (held (I .run x .nodes) (I .run x .edges)))
+  run-result z =
+      let c = result-published base base-numbered I first second x b z in
       record {
         tree = c .tree;
         form = c .form;
-        came = came-host base base-numbered (ours base) (met .0) (met .1) lent bytewise (omega arith);
+        came = came-host base base-numbered I first second x b (omega arith);
         outcome = c .outcome;
-        host = left-host base base-numbered (ours base) (met .0) (met .1) lent bytewise z;
+        host = left-host base base-numbered I first second x b z;
       }
 
-  pub run-fail : left .answer ≡ Fail → CanComeTo nodes edges image fails
-  unfolding answerNumber
-  run-fail e =
-      let z : ours base .run lent .answer ≡ 1 = ap answerNumber e in
-      let c = our-fail lent bytewise z in
+  pub run-fail : I .run x .answer ≡ 1 → CanComeTo (x .nodes) (x .edges) (x .image) fails
+  run-fail z =
+      let c = fail-published base base-numbered I first second x b z in
       record {
         tree = c .tree;
         form = c .form;
-        came = came-host base base-numbered (ours base) (met .0) (met .1) lent bytewise (omega arith);
+        came = came-host base base-numbered I first second x b (omega arith);
         outcome = c .outcome;
         host = tt;
       }

@@ -1,27 +1,24 @@
--- What Steady says of our run: where the rule sets that an image's program calls are steady relative to an invariant that the
--- graph which came in has, the graph that our run leaves, or its fail, is all that the published semantics has. Before that: on
+-- What Steady says of the exported call `run`: where the rule sets that an image's program calls are steady relative to an invariant
+-- that the graph which came in has, the graph that it leaves, or its fail, is all that the published semantics has. Before that: on
 -- isomorphic host graphs a program of an image comes to isomorphic outcomes. Rests on Steady, Answers and Conformance.
 use mathlib.Core.Path.{_≡_, sym, _∙_, ap}
 use mathlib.Core.Bool.{true, false}
 use mathlib.Core.Option.{some}
 use mathlib.Core.List.{List, [], _∷_, map}
-use Prim.Native.Nat.{ℕ, zero, suc, _≤_}
+use Prim.Native.Nat.{ℕ, _≤_}
 use native.Mathlib.Omega.{arith}
-use borrow.Author.Tests.{ltb-true}
-use lib.Dec.{ltb}
-use Rattle.meaning.specs.Basics.{every}
 use Rattle.meaning.specs.Layout.{base}
 use Rattle.meaning.specs.Image
 use Rattle.meaning.specs.Image.{Rule, Command, Commands, Program, program}
 use Rattle.meaning.specs.Commands.{ruleAt}
-use Rattle.meaning.specs.Calls.{Left, answerNumber, run, lending, Lent}
-use Rattle.demands.specs.Ours.{ours, good}
+use Rattle.meaning.specs.Calls.{Lent}
+use Rattle.demands.specs.Demands.{Lendable, Interpreter, Outcome as Answered}
+use Rattle.demands.specs.Ours.{good}
 use Rattle.demands.specs.First.{run-settled}
-use Rattle.meaning.specs.Laws.Tests.{both-true, some-inj}
-use Rattle.laws.specs.Numbers.{Bytes}
+use Rattle.demands.specs.Exported.{Exported, exported-run}
+use Rattle.meaning.specs.Laws.Tests.{some-inj}
 use Rattle.laws.specs.LegalCommands.{LegalRules, legal-rule}
 use Rattle.laws.specs.LegalImage.{program-legal}
-use Rattle.meaning.specs.declared.Answer.the-variants.{Result, Fail}
 use Rattle.published.specs.Graphs.{Graph}
 use Rattle.published.specs.RuleApplication.{Applied}
 use Rattle.published.specs.Semantics.{ComSeq, Outcome, graph, fails, ⟦_⟧, comSeq, inOrder, followed}
@@ -64,66 +61,47 @@ module _ (rules : List Rule) (legal : LegalRules rules) where
   names-free c G G′ i X p =
       alike-outcomes (comSeq rules c) (legal-calls c) G G′ i X p
 
--- Our run, on a program whose rule sets are steady and on a graph that has their invariant: its answer is all that the program can
--- come to.
-module _ (nodes edges journal image : List ℕ) (fuel : ℕ) (report : List ℕ) (hn : Bytes nodes) (he : Bytes edges) (hi : Bytes image)
-    (p : Program) (form : program image ≡ some p) (Inv : Graph → Type 0) (inv : Inv (held nodes edges))
-    (steady : Calls (Steady Inv) (comSeq (p .rules) (p .main)))
+-- An exported run, on a program whose rule sets are steady and on a graph that has their invariant: its answer is all that the
+-- program can come to.
+module _ (I : Interpreter) (exported : Exported I) (x : Lent) (b : Lendable x) (p : Program) (form : program (x .image) ≡ some p)
+    (Inv : Graph → Type 0) (inv : Inv (held (x .nodes) (x .edges))) (steady : Calls (Steady Inv) (comSeq (p .rules) (p .main)))
   where
-    abbrev lent : Lent
-    lent = record { nodes = nodes; edges = edges; journal = journal; image = image; fuel = fuel; report = report }
-
-    abbrev left : Left
-    left = run base (lending nodes edges journal image fuel report)
-
     abbrev Comes : Outcome Graph → Type 0
-    Comes X = ⟦_⟧ Graph Applied (comSeq (p .rules) (p .main)) (held nodes edges) X
+    Comes X = ⟦_⟧ Graph Applied (comSeq (p .rules) (p .main)) (held (x .nodes) (x .edges)) X
 
-    legal : ours base .run lent .answer ≤ 7 → Calls LegalRules (comSeq (p .rules) (p .main))
+    legal : I .run x .answer ≤ 7 → Calls LegalRules (comSeq (p .rules) (p .main))
     legal k =
-        let a = good base lent (run-settled base lent k) in
+        let q = ap (λ (o : Answered). o .answer) (exported-run I exported x b) in
+        let a = good base x (run-settled base x (omega arith)) in
         let e : a .tree ≡ p = some-inj (a .tree) p (sym (a .form) ∙ form) in
-        legal-calls (p .rules) (program-legal image p hi form (rw e at (a .references))) (p .main)
+        legal-calls (p .rules) (program-legal (x .image) p (b .image .bytes) form (rw e at (a .references))) (p .main)
 
-    comes : (X : Outcome Graph) → CanComeTo nodes edges image X → Comes X
+    comes : (X : Outcome Graph) → CanComeTo (x .nodes) (x .edges) (x .image) X → Comes X
     comes X c = let e : c .tree ≡ p = some-inj (c .tree) p (sym (c .form) ∙ form) in rw e at (c .outcome)
 
-    pub run-only : left .answer ≡ Result → (X : Outcome Graph) → Comes X → SameOutcome (graph (held (left .nodes) (left .edges))) X
-    unfolding answerNumber
-    run-only e =
-        let z : ours base .run lent .answer ≡ 0 = ap answerNumber e in
-        let c = run-result nodes edges journal image fuel report hn he hi e in
-        only-result Inv (comSeq (p .rules) (p .main)) (legal (omega arith)) steady (held nodes edges) (c .came) inv _ (comes _ c)
+    pub run-only : I .run x .answer ≡ 0 → (X : Outcome Graph) → Comes X → SameOutcome (graph (held (I .run x .nodes) (I .run x .edges))) X
+    run-only z =
+        let c = run-result I exported x b z in
+        only-result Inv (comSeq (p .rules) (p .main)) (legal (omega arith)) steady (held (x .nodes) (x .edges)) (c .came) inv _ (comes _ c)
 
-    pub run-fail-only : left .answer ≡ Fail → (X : Outcome Graph) → Comes X → SameOutcome fails X
-    unfolding answerNumber
-    run-fail-only e =
-        let z : ours base .run lent .answer ≡ 1 = ap answerNumber e in
-        let c = run-fail nodes edges journal image fuel report hn he hi e in
-        only-fail Inv (comSeq (p .rules) (p .main)) (legal (omega arith)) steady (held nodes edges) (c .came) inv (comes _ c)
+    pub run-fail-only : I .run x .answer ≡ 1 → (X : Outcome Graph) → Comes X → SameOutcome fails X
+    run-fail-only z =
+        let c = run-fail I exported x b z in
+        only-fail Inv (comSeq (p .rules) (p .main)) (legal (omega arith)) steady (held (x .nodes) (x .edges)) (c .came) inv (comes _ c)
 
 -- The same of an image: on all tables that hold a graph with the invariant. X is what its program can come to there.
 pub record OneOutcome (image : List ℕ) (p : Program) (Inv : Graph → Type 0) : Type 0 where
-  pub result : (nodes edges journal : List ℕ) (fuel : ℕ) (report : List ℕ) → Bytes nodes → Bytes edges → Inv (held nodes edges)
-      → run base (lending nodes edges journal image fuel report) .answer ≡ Result → (X : Outcome Graph)
-      → ⟦_⟧ Graph Applied (comSeq (p .rules) (p .main)) (held nodes edges) X
-      → let left : Left = run base (lending nodes edges journal image fuel report) in
-      SameOutcome (graph (held (left .nodes) (left .edges))) X
-  pub fail : (nodes edges journal : List ℕ) (fuel : ℕ) (report : List ℕ) → Bytes nodes → Bytes edges → Inv (held nodes edges)
-      → run base (lending nodes edges journal image fuel report) .answer ≡ Fail → (X : Outcome Graph)
-      → ⟦_⟧ Graph Applied (comSeq (p .rules) (p .main)) (held nodes edges) X → SameOutcome fails X
+  pub result : (I : Interpreter) → Exported I → (x : Lent) → Lendable x → x .image ≡ image → Inv (held (x .nodes) (x .edges))
+      → I .run x .answer ≡ 0 → (X : Outcome Graph) → ⟦_⟧ Graph Applied (comSeq (p .rules) (p .main)) (held (x .nodes) (x .edges)) X
+      → SameOutcome (graph (held (I .run x .nodes) (I .run x .edges))) X
+  pub fail : (I : Interpreter) → Exported I → (x : Lent) → Lendable x → x .image ≡ image → Inv (held (x .nodes) (x .edges))
+      → I .run x .answer ≡ 1 → (X : Outcome Graph) → ⟦_⟧ Graph Applied (comSeq (p .rules) (p .main)) (held (x .nodes) (x .edges)) X
+      → SameOutcome fails X
 
-pub one-outcome : (image : List ℕ) → Bytes image → (p : Program) → program image ≡ some p → (Inv : Graph → Type 0)
+pub one-outcome : (image : List ℕ) (p : Program) → program image ≡ some p → (Inv : Graph → Type 0)
     → Calls (Steady Inv) (comSeq (p .rules) (p .main)) → OneOutcome image p Inv
-one-outcome image hi p form Inv steady =
+one-outcome image p form Inv steady =
     record {
-      result = λ nodes edges journal fuel report hn he inv. run-only nodes edges journal image fuel report hn he hi p form Inv inv steady;
-      fail = λ nodes edges journal fuel report hn he inv. run-fail-only nodes edges journal image fuel report hn he hi p form Inv inv steady;
+      result = λ I e x b q inv. run-only I e x b p (ap program q ∙ form) Inv inv steady;
+      fail = λ I e x b q inv. run-fail-only I e x b p (ap program q ∙ form) Inv inv steady;
     }
-
--- a list of bytes, by computing
-pub bytes-by : (bs : List ℕ) → every (λ b. ltb b 256) bs ≡ true → Bytes bs
-unfolding every
-bytes-by [] e i = omega arith
-bytes-by (b ∷ bs) e zero = ltb-true b 256 (both-true _ _ e .0)
-bytes-by (b ∷ bs) e (suc i) = bytes-by bs (both-true _ _ e .1) i

@@ -15,7 +15,7 @@ use Rattle.meaning.specs.Applying.{Ledger, applied, apply}
 use Rattle.meaning.specs.Commands.{State, Out, ruleAt, exec}
 use Rattle.demands.specs.Inference.{NoMatch, FirstCalled, Runs}
 use Rattle.meaning.specs.Calls.{Lent}
-use Rattle.demands.specs.Demands.{Outcome, Interpreter, Bytewise, stopAnswer, refusal, start, Means, leaves, Demand1, Demand2}
+use Rattle.demands.specs.Demands.{Outcome, Interpreter, Lendable, stopAnswer, refusal, start, Means, leaves, Demand1, Demand2}
 use Rattle.demands.specs.Ours.{Good, good}
 use Rattle.demands.specs.First.{refusal-answer}
 use Rattle.laws.specs.Pieces.{fits-length}
@@ -98,7 +98,7 @@ module _ {ℓ κ} (L : Layout) (Graph : Type ℓ) (Applied : List Rule → Graph
 
     -- Every interpreter that meets demands 1 and 2.
 
-    module _ (numbered : Numbered L) (I : Interpreter) (first : Demand1 L I) (second : Demand2 L I) (x : Lent) (b : Bytewise x) where
+    module _ (numbered : Numbered L) (I : Interpreter) (first : Demand1 L I) (second : Demand2 L I) (x : Lent) (b : Lendable x) where
       abbrev Comes : Semantics.Outcome Graph → Type (ℓ ⊔ κ)
       Comes X = CanComeTo L Graph Applied read (x .nodes) (x .edges) (x .image) X
 
@@ -110,7 +110,7 @@ module _ {ℓ κ} (L : Layout) (Graph : Type ℓ) (Applied : List Rule → Graph
         where
           at : (o : Option ℕ) → refusal L x ≡ o → I .run x .answer ≤ 7 → refusal L x ≡ none
           at none e k = e
-          at (some n) e k = absurd (omega (arith, first .refuses x n e, refusal-answer L x n e .1))
+          at (some n) e k = absurd (omega (arith, first .refuses x b n e, refusal-answer L x n e .1))
 
       module _ (a : Good L x) where
         abbrev nodeSlots : ℕ
@@ -129,11 +129,11 @@ module _ {ℓ κ} (L : Layout) (Graph : Type ℓ) (Applied : List Rule → Graph
         fewEdges = omega (arith, numbered .edges, fits-length (edgeLength L) (L .edges) (x .edges) (a .edgesFit) .1)
 
         legal : LegalRules (a .tree .rules)
-        legal = program-legal (x .image) (a .tree) (b .image) (a .form) (a .references)
+        legal = program-legal (x .image) (a .tree) (b .image .bytes) (a .form) (a .references)
 
         start-good : LegalLedger L nodeSlots edgeSlots (start L x .ledger)
         start-good =
-            start-legal L numbered (x .nodes) (x .edges) (x .journal) (b .nodes) (b .edges) (a .nodesFit) (a .edgesFit) (a .journalFits)
+            start-legal L numbered (x .nodes) (x .edges) (x .journal) (b .nodes .bytes) (b .edges .bytes) (a .nodesFit) (a .edgesFit) (a .journalFits)
             (a .layout) (a .tree) legal (x .fuel)
 
         whole : (e : End) (t : State) → Means L x (a .tree) e t
@@ -176,7 +176,7 @@ module _ {ℓ κ} (L : Layout) (Graph : Type ℓ) (Applied : List Rule → Graph
       result-published z =
           let e = starts (omega arith) in
           let a = good L x e in
-          let m = second .means x (a .tree) b e (a .form) in
+          let m = second .means x b (a .tree) e (a .form) in
           result-at a (m .0) (m .1) (m .2) (m .3) z
 
       -- what a started run is lent is legal, and what it leaves where it answers 0
@@ -187,7 +187,7 @@ module _ {ℓ κ} (L : Layout) (Graph : Type ℓ) (Applied : List Rule → Graph
       left-legal z =
           let e = starts (omega arith) in
           let a = good L x e in
-          let m = second .means x (a .tree) b e (a .form) in
+          let m = second .means x b (a .tree) e (a .form) in
           legal-at a (m .0) (m .1) (m .2) (m .3) z
 
       -- where it answers 1, the program can fail on the graph that came in
@@ -195,5 +195,5 @@ module _ {ℓ κ} (L : Layout) (Graph : Type ℓ) (Applied : List Rule → Graph
       fail-published z =
           let e = starts (omega arith) in
           let a = good L x e in
-          let m = second .means x (a .tree) b e (a .form) in
+          let m = second .means x b (a .tree) e (a .form) in
           fail-at a (m .0) (m .1) (m .2) (m .3) z

@@ -9,14 +9,14 @@ use Rattle.meaning.specs.Image.{Rule, Program, program, ruleSet, loop}
 use Rattle.meaning.specs.References.{references}
 use Rattle.meaning.specs.Computing.{computing}
 use Rattle.meaning.specs.ProvedSet.{field, ruleField, calls}
-use Rattle.laws.specs.Numbers.{Bytes}
+use Rattle.laws.specs.Numbers.{Bytes, bytes-by}
 use Rattle.laws.specs.LegalCommands.{LegalRules}
 use Rattle.laws.specs.LegalImage.{program-legal}
 use Rattle.published.specs.Alike.{Calls}
 use Rattle.published.specs.Semantics.{comSeq}
 use Rattle.published.specs.Steady.{Steady}
 use Rattle.published.specs.OneRoot.{OneRoot, root-alone}
-use Rattle.published.specs.OnlyOutcome.{OneOutcome, one-outcome, bytes-by}
+use Rattle.published.specs.OnlyOutcome.{OneOutcome, one-outcome}
 
 abbrev pub image : List ℕ
 image = ruleField [] (field 0x20 (0 ∷ 1 ∷ [])) (field 0x20 (1 ∷ 1 ∷ [])) 1 ++ field 0x54 (calls 0)
@@ -51,4 +51,4 @@ unfolding comSeq
 steady = root-alone redden (legal .0) (record { most = omega arith; old = omega arith }) (record { one = refl; edgeless = refl; root = refl })
 
 pub red-root-only : OneOutcome image tree OneRoot
-red-root-only = one-outcome image bytes tree red-root-is OneRoot steady
+red-root-only = one-outcome image tree red-root-is OneRoot steady
