@@ -1,5 +1,6 @@
 -- The theorem about applying rules: what the interpreter does to a host is, on the host's graph, the published rule application,
--- and where it finds no match there is no published application. Rests on Application/Construction and OneResult.
+-- and where it finds no match there is no published application. Ours may have a match and no result, where a sum leaves 32 bits
+-- or there is no room; the published application has one there. Rests on Application/Construction and OneResult.
 pub mod Conditions
 pub mod Matching
 pub mod Tables
@@ -110,7 +111,7 @@ module _ (rules : List Rule) (legalRules : LegalRules rules) where
   abbrev pub called : List ℕ → List Rule
   called l = map (ruleAt rules) l
 
-  called-at : (l : List ℕ) (i : ℕ) → i < length l → ruleAt (called l) i ≡ ruleAt rules (getD l i 0)
+  pub called-at : (l : List ℕ) (i : ℕ) → i < length l → ruleAt (called l) i ≡ ruleAt rules (getD l i 0)
   called-at l i h = getD-map (ruleAt rules) l i 0 _ h
 
   -- the first listed rule that has a match, applied at its first match

@@ -25,7 +25,7 @@ use Rattle.published.specs.Integers.{atom}
 use Rattle.published.specs.Graphs.{NodeLabel, Graph}
 use Rattle.published.specs.RuleApplication.{nodeOf, edgeOf, Premorphism, integer, Instance, StaysNode, StaysEdge, Union, markFrom, placed, Constructed, Matches, Applies, Applied}
 use Rattle.published.specs.OneResult.{value-of}
-use Rattle.published.specs.Semantics.{⟦_⟧, Configuration, call, result, fails, [call₁], [call₂], last, next}
+use Rattle.published.specs.Semantics.{⟦_⟧, Configuration, call, result, failure, graph, fails, [call₁], [call₂], last, next}
 use Rattle.published.specs.Semantics
 
 -- Every label has an instance.
@@ -236,7 +236,7 @@ module _ (r : Rule) (holds : ruleHolds r ≡ true) (G : Graph) (m : Matches r G)
 
 -- A rule set fails exactly where none of its rules has a match.
 
--- no step leads on from a graph
+-- no step leads on from a graph, or from a failure
 result-step : {K : Graph} {b : Configuration Graph} → Semantics._⟶_ Graph Applied (result K) b → ⊥
 result-step s = elim s [ ]
 
@@ -244,19 +244,35 @@ result-stays : {K : Graph} {b : Configuration Graph} → Semantics._⟶⁺_ Grap
 result-stays (last s) = result-step s
 result-stays (next s p) = result-step s
 
-module _ (R : List Rule) (holds : (i : ℕ) → ruleHolds (ruleAt R i) ≡ true) (G : Graph) where
-  abbrev NoMatches : Type 0
-  NoMatches = (i : ℕ) → i < length R → Matches (ruleAt R i) G → ⊥
+failure-step : {b : Configuration Graph} → Semantics._⟶_ Graph Applied failure b → ⊥
+failure-step s = elim s [ ]
+
+failure-stays : {b : Configuration Graph} → Semantics._⟶⁺_ Graph Applied failure b → ⊥
+failure-stays (last s) = failure-step s
+failure-stays (next s p) = failure-step s
+
+-- a graph that a rule set comes to is what one of its rules gives
+pub set-applied : (R : List Rule) (G H : Graph) → ⟦_⟧ Graph Applied (call R) G (graph H) → Applied R G H
+set-applied R G H (last ([call₁] a)) = a
+set-applied R G H (next ([call₁] a) p) = absurd (result-stays p)
+set-applied R G H (next ([call₂] n) p) = absurd (failure-stays p)
+
+module _ (R : List Rule) (holds : (i : ℕ) → i < length R → ruleHolds (ruleAt R i) ≡ true) (G : Graph) where
+  -- a rule of the set that has a match gives a graph
+  pub set-result : (i : ℕ) → i < length R → Matches (ruleAt R i) G → (H : Graph) × ⟦_⟧ Graph Applied (call R) G (graph H)
+  set-result i k m =
+      let t = applies-somewhere (ruleAt R i) (holds i k) G m in
+      (t .0, last ([call₁] (record { place = i; listed = k; applies = t .1 })))
 
   failed-none : ⟦_⟧ Graph Applied (call R) G fails → (H : Graph) → Applied R G H → ⊥
   failed-none (last ([call₂] n)) = n
   failed-none (next ([call₁] a) p) = absurd (result-stays p)
   failed-none (next ([call₂] n) p) = n
 
-  pub set-fails-exactly : ⟦_⟧ Graph Applied (call R) G fails ↔ NoMatches
+  pub set-fails-exactly : ⟦_⟧ Graph Applied (call R) G fails ↔ ((i : ℕ) → i < length R → Matches (ruleAt R i) G → ⊥)
   set-fails-exactly = (
     λ p i k m.
-        let t = applies-somewhere (ruleAt R i) (holds i) G m in
+        let t = applies-somewhere (ruleAt R i) (holds i k) G m in
         failed-none p (t .0) (record { place = i; listed = k; applies = t .1 }),
     λ n. last ([call₂] (λ H a. n (a .place) (a .listed) (a .applies .match))),
   )

@@ -1,6 +1,7 @@
 pub mod Integers
 pub mod Graphs
 pub mod RuleApplication
+pub mod Constants
 pub mod Isomorphism
 pub mod OneResult
 pub mod SameMatch
@@ -14,6 +15,8 @@ pub mod Results
 pub mod Alike
 pub mod Unique
 pub mod Answers
+pub mod OneCall
+pub mod CaseFourteen
 pub mod Conformance
 pub mod Steady
 pub mod Determined

@@ -2,14 +2,15 @@
 -- no slots, no search and no order. Rests on Graphs and Integers, and on meaning's Image for rules.
 -- A rule ⟨L ← K → R, c⟩ is a Rule: L is r .left, R is r .right, the nodes of K are the numbers below r .interface, and c asks
 -- for all of r .tests. Nodes and edges of L and R are named by their numbers.
--- As in document 000 integers have no bound: every sum and difference has a value, and no rule fails for its size.
--- Where document 01 decides otherwise than document 000, this has what document 01 says:
--- * there are integers and lists of them, and no strings and no characters;
--- * the mark any (magenta in document 000) goes with every mark, none included, and on the right keeps the mark;
--- * a root goes with a root, and a node that is none with one that is none;
--- * the in-degree counts the edges that come from another node, so that it leaves loops out;
--- * a condition is a list of tests, each negated or not, all of which are to be true: edge between two nodes (of any label), an
---   in-degree, an out-degree, and = and < on integers.
+-- As in document 000, integers have no bound and labels no greatest length, so that every sum and difference has a value and
+-- every label an instance; and roots go with roots, other nodes with other nodes (its 2.3: morphisms reflect rootedness).
+-- What differs, as document 01 decides:
+-- * the in-degree counts the edges that come from another node alone, so that it leaves loops out;
+-- * the mark any (magenta in document 000's 2.1) goes with every mark, none included, and on the right keeps the mark; document
+--   000 has it match arbitrary marks, and does not speak of items without one.
+-- What of document 000 is not modelled: strings and characters with their types and the type atom; products, quotients, and
+-- degrees and lengths in labels; of conditions all but a list of tests, each negated or not, that are all to be true: an edge
+-- between two nodes, of any label and mark, an in-degree or out-degree, = and < of two integers.
 use mathlib.Core.Path.{_≡_}
 use mathlib.Core.Logic.{_⊎_}
 use mathlib.Core.Bool.{Bool, true, false}

@@ -254,7 +254,7 @@ module _ (h : Host) (r : Rule) (rule : LegalRule r) (L : Layout) (legal : LegalH
     known =
         Every-all _ (λ t. Every-all _ (λ o. Every-all _ (assigned-words L h legal r p) (operandNames o)) (conditionOperands (t .condition))) (r .tests)
 
-    match-published : Matches r (graphOf h)
+    pub match-published : Matches r (graphOf h)
     match-published =
         record {
           g = premorphism h r p m;

@@ -1,4 +1,5 @@
--- The right side's values are instances of its labels. Rests on RuleApplication and meaning's Applying.
+-- The right side's values are instances of its labels: where ours has a sum or difference, it is that of the integers.
+-- Rests on RuleApplication and meaning's Applying.
 use Prim.Native.Nat.{ℕ, _+_, _<_}
 use mathlib.Core.Path.{_≡_, refl, sym, _∙_, ap}
 use mathlib.Core.Option.{Option, some}
