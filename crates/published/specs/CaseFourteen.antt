@@ -19,10 +19,10 @@ use Rattle.meaning.specs.Calls.{Lent}
 use Rattle.meaning.specs.Computing.{computing}
 use Rattle.meaning.specs.ProvedSet.{field, ruleField, nodeField, variable, calls, nodeSlot}
 use Rattle.laws.specs.Numbers.{value}
-use Rattle.demands.specs.Demands.{Bytewise, refusal}
+use Rattle.demands.specs.Demands.{Lendable, refusal}
 use Rattle.demands.specs.Ours.{ours}
 use Rattle.demands.specs.Met.{met}
-use Rattle.demands.specs.Cases.{lentBytes}
+use Rattle.demands.specs.Cases.{lendable}
 use Rattle.demands.specs.Fails.{host}
 use Rattle.meaning.specs.declared.Operand.the-variants.{Constant as constantOperand, Variable as variableOperand}
 use Rattle.meaning.specs.declared.Element.the-variants.{Variable, Sum}
@@ -70,9 +70,9 @@ pub answers-6 : ours base .run case14 .answer ≡ 6
 unfolding computing
 answers-6 = refl
 
-lent14 : Bytewise case14
+lent14 : Lendable case14
 unfolding computing
-lent14 = lentBytes case14 refl
+lent14 = lendable case14 refl
 
 accepted14 : refusal base case14 ≡ none
 unfolding computing
