@@ -1,5 +1,6 @@
 -- Host tables and journal: slots and records, the bytes that they are laid out in, and the test that a host keeps the layout.
--- Nothing outside this file knows the size of a slot in bytes. Rests on Basics, Numbers and, for marks, Tags.
+-- Nothing outside this file knows the size of a slot in bytes. Rests on Basics, Numbers and, for marks, Tags, and on the code's
+-- struct Layout. Where a definition goes by a layout L, a comment that begins `base:` gives the places of document 01's layout.
 use mathlib.Core.Bool.{Bool, true, false}
 use mathlib.Core.List.{List, [], _∷_, _++_, map}
 use mathlib.Core.Path.{_≡_}
@@ -105,7 +106,7 @@ abbrev pub base : Layout
 base = record { atoms = 4; width = 2; node = 20; edge = 24; change = 28; nodes = 512; edges = 1024; records = 1024 }
 
 module _ (L : Layout) where
-  -- where an edge's source, its target and its atoms begin
+  -- where an edge's source, its target and its atoms begin; base: 4, 6, 8
   abbrev pub sourcePlace : ℕ
   sourcePlace = headLength
 
@@ -115,15 +116,15 @@ module _ (L : Layout) where
   abbrev pub edgeAtoms : ℕ
   edgeAtoms = headLength + 2 * L .width
 
-  -- state, mark, root, label length, the atoms
+  -- state, mark, root, label length, the atoms; base: 20
   abbrev pub nodeLength : ℕ
   nodeLength = headLength + atomLength * L .atoms
 
-  -- state, mark, zero, label length, source, target, the atoms
+  -- state, mark, zero, label length, source, target, the atoms; base: 24
   abbrev pub edgeLength : ℕ
   edgeLength = edgeAtoms + atomLength * L .atoms
 
-  -- kind (filled with zeros to the width), slot number, the bytes before
+  -- kind (filled with zeros to the width), slot number, the bytes before; base: 28
   abbrev pub recordLength : ℕ
   recordLength = 2 * L .width + edgeLength
 
@@ -155,12 +156,14 @@ cut w bs = pieces w (length bs / w) bs
 abbrev pub atoms : ℕ → List ℕ → List ℕ
 atoms n bs = map number (pieces atomLength n bs)
 
+-- base: byte 0 state, 1 mark, 2 root, 3 label length, 4 to 19 four atoms of four bytes
 unfoldable pub readNode : List ℕ → Slot Node
 readNode b =
     choose (eqb (getD b statePlace 0) 0) free
     (live (record { mark = getD b markPlace 0; root = getD b rootPlace 0; label = atoms (getD b lengthPlace 0) (drop headLength b) }))
 
 module _ (L : Layout) where
+  -- base: byte 0 state, 1 mark, 2 zero, 3 label length, 4 and 5 source, 6 and 7 target, 8 to 23 four atoms of four bytes
   unfoldable pub readEdge : List ℕ → Slot Edge
   readEdge b =
       choose (eqb (getD b statePlace 0) 0) free
@@ -171,6 +174,7 @@ module _ (L : Layout) where
         label = atoms (getD b lengthPlace 0) (drop (edgeAtoms L) b);
       }))
 
+  -- base: slots of 20 bytes; of 24
   abbrev pub readNodes : List ℕ → List (Slot Node)
   readNodes bs = map readNode (cut (nodeLength L) bs)
 
@@ -186,16 +190,19 @@ module _ (L : Layout) where
 abbrev pub atomBytes : List ℕ → List ℕ
 atomBytes l = concat (map (bytes atomLength) l)
 
+-- state, mark, root, label length, the atoms that there are
 unfoldable pub nodeBytes : Slot Node → List ℕ
 nodeBytes free = []
 nodeBytes (live n) = 1 ∷ n .mark ∷ n .root ∷ length (n .label) ∷ atomBytes (n .label)
 
 module _ (L : Layout) where
+  -- state, mark, zero, label length, source, target, the atoms that there are; base: two bytes to source and to target
   unfoldable pub edgeBytes : Slot Edge → List ℕ
   edgeBytes free = []
   edgeBytes (live e) =
       1 ∷ e .mark ∷ 0 ∷ length (e .label) ∷ bytes (L .width) (e .source) ++ bytes (L .width) (e .target) ++ atomBytes (e .label)
 
+  -- base: filled with zeros to 20 bytes; to 24
   abbrev pub writeNode : Slot Node → List ℕ
   writeNode s = padded (nodeLength L) (nodeBytes s)
 
@@ -209,6 +216,7 @@ module _ (L : Layout) where
   writeEdges l = concat (map writeEdge l)
 
   -- kind 1 is a node, 2 an edge; a node's bytes are followed by zeros
+  -- base: byte 0 kind, 1 zero, 2 and 3 slot number, 4 to 27 the bytes before; of a node 4 to 23, with zeros in 24 to 27
   abbrev pub recordBytes : ℕ → ℕ → List ℕ → List ℕ
   recordBytes kind i before = padded (L .width) (kind ∷ []) ++ bytes (L .width) i ++ padded (edgeLength L) before
 
@@ -219,15 +227,18 @@ module _ (L : Layout) where
 -- Reading a record back. Undo looks at kind, filling and slot number alone, and takes the bytes before as they are.
 
 module _ (L : Layout) where
+  -- the slot number; base: bytes 2 and 3
   abbrev pub slotOf : List ℕ → ℕ
   slotOf b = number (take (L .width) (drop (L .width) b))
 
+  -- base: byte 0 kind; the bytes before from byte 4 on, 20 of a node, 24 of an edge
   unfoldable pub readRecord : List ℕ → Change (List ℕ) (List ℕ)
   readRecord b =
       choose (eqb (getD b kindPlace 0) 1) (ofNode (slotOf b) (take (nodeLength L) (drop (2 * L .width) b)))
       (ofEdge (slotOf b) (take (edgeLength L) (drop (2 * L .width) b)))
 
-  -- the record names a slot of a table of so many nodes and edges
+  -- the record names a slot of a table of so many nodes and edges, and the filling is zero
+  -- base: byte 0 is 1 and bytes 2 and 3 name a node slot, or 2 and an edge slot; byte 1 is 0
   unfoldable pub keepsRecord : ℕ → ℕ → List ℕ → Bool
   keepsRecord nodeSlots edgeSlots b =
       clauses
@@ -238,6 +249,7 @@ module _ (L : Layout) where
 -- The test that a host keeps the layout (answer 15), clause by clause.
 
 module _ (L : Layout) where
+  -- base: byte 0 is 0 and all are, or it is 1; byte 1 is 0 to 4, 2 is 0 or 1, 3 is 0 to 4; zeros from byte 4 + 4 * label length
   unfoldable pub keepsNode : List ℕ → Bool
   keepsNode b =
       choose (eqb (getD b statePlace 0) 0) (zeros b)
@@ -249,6 +261,8 @@ module _ (L : Layout) where
       ∷ zeros (drop (headLength + atomLength * getD b lengthPlace 0) b)
       ∷ []))
 
+  -- base: byte 0 is 0 and all are, or it is 1; byte 1 is 0 to 3 or 5, 2 is 0, 3 is 0 to 4; 4 and 5, and 6 and 7, are live node
+  -- slots; zeros from byte 8 + 4 * label length
   unfoldable pub keepsEdge : List (Slot Node) → List ℕ → Bool
   keepsEdge nodes b =
       choose (eqb (getD b statePlace 0) 0) (zeros b)
@@ -262,6 +276,7 @@ module _ (L : Layout) where
       ∷ zeros (drop (edgeAtoms L + atomLength * getD b lengthPlace 0) b)
       ∷ []))
 
+  -- base: each 20 bytes of the node table, each 24 of the edge table
   unfoldable pub keepsLayout : List ℕ → List ℕ → Bool
   keepsLayout nodes edges =
       both (every keepsNode (cut (nodeLength L) nodes)) (every (keepsEdge (readNodes L nodes)) (cut (edgeLength L) edges))
