@@ -1,5 +1,6 @@
 -- Applying a rule at a match: the values of the right side, the checks before any change, the changes with one record each,
--- and the test after them. Rests on Matching and Assigned.
+-- and the test after them. Rests on Basics, Numbers, Tags, Layout, Image, Matching and Assigned, and on the code's Element and
+-- Stop.
 use mathlib.Core.Bool.{Bool, not}
 use mathlib.Core.Option.{Option, some, none}
 use mathlib.Core.List.{List, [], _∷_, _++_, map}

@@ -1,5 +1,5 @@
 -- The assignment that a placement gives: a variable has the value that it takes at the first left item that has it. The values
--- of a right side are by it. Rests on Matching and References.
+-- of a right side are by it. Rests on Basics, Layout, Image, References and Matching, and on the code's Element.
 use mathlib.Core.Bool.{Bool, false}
 use mathlib.Core.Option.{Option, some, none}
 use mathlib.Core.List.{List, [], _∷_, _++_, map}

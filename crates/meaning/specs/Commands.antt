@@ -1,5 +1,6 @@
 -- Commands: what each does to the host, the journal, the fuel and the steps, and what each end does to a sequence, a guard
--- and a loop body. Rests on FirstMatch and Applying.
+-- and a loop body. Rests on Basics, Layout, Image, Applying and, for the first match alone, FirstMatch, and on the code's Stop
+-- and End.
 use mathlib.Core.Bool.{Bool}
 use mathlib.Core.Option.{Option, some, none}
 use mathlib.Core.List.{List, [], _∷_}

@@ -1,5 +1,5 @@
 -- Further worked cases, computed from bytes to bytes: at each of them a likely mistake in the definitions would give another
--- outcome. Rests on Calls and ProvedSet.
+-- outcome. Rests on Tags, Layout, Calls, ProvedSet and Computing, and on the code's Answer.
 use mathlib.Core.Path.{_≡_, refl}
 use mathlib.Core.List.{List, [], _∷_, _++_, map}
 use Prim.Native.Nat.{ℕ, _*_}

@@ -1,6 +1,7 @@
 -- The first match of a rule in a host, executable. A candidate is dropped as soon as the placement so far breaks a matching
 -- rule, and a node also where a left edge to an earlier node or to itself has no host edge, or where it must go and has edges
--- that must dangle. Rests on Matching, Assigned and Search.
+-- that must dangle. Rests on Basics, Tags, Layout, Image, References, Matching, Assigned and Search, and on the code's Element
+-- and Test.
 use mathlib.Core.Bool.{Bool, true, false, not}
 use mathlib.Core.Option.{Option, some}
 use mathlib.Core.List.{List, [], _∷_, _++_, map}

@@ -1,5 +1,6 @@
 -- What a match is: document 01's six matching rules, one or two fields each, with one assignment of the variables.
--- Rests on Basics, Numbers, Layout, Image and References.
+-- Rests on Basics, Numbers, Tags, Layout, Image and References (for the types of variables), and on the code's Operand, Element,
+-- Condition and Test.
 use mathlib.Core.Path.{_≡_}
 use mathlib.Core.Logic.{_⊎_}
 use mathlib.Core.Bool.{Bool, true, not}

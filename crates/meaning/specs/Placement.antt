@@ -1,4 +1,5 @@
--- Placement (answer 18): each break lies in a loop body with no guard between them. Rests on Image.
+-- Placement (answer 18): each break lies in a loop body with no guard between them.
+-- Rests on Basics and Image.
 use mathlib.Core.Bool.{Bool, true, false}
 use Rattle.meaning.specs.Basics.{both}
 use Rattle.meaning.specs.Image.{Program, Command, ruleSet, sequence, guarded, loop, skip, fail, break, Commands, stop, then}

@@ -1,5 +1,5 @@
 -- The proved set: cases 1 to 12 and P of document 01, from bytes to bytes, and one claim that the call `run` gives what the
--- paper says. Rests on Calls.
+-- paper says. Rests on Basics, Numbers, Layout, Calls and Computing.
 use mathlib.Core.Path.{_≡_, refl}
 use mathlib.Core.List.{List, [], _∷_, _++_, map}
 use Prim.Native.Nat.{ℕ, _*_}

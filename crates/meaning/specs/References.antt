@@ -1,5 +1,5 @@
 -- References (answer 17): one test for each thing that document 01's paragraph asks of an image that has the form.
--- Rests on Basics and Image.
+-- Rests on Basics, Tags and Image, and on the code's Operand, Element and Condition.
 use mathlib.Core.Bool.{Bool, true, false, not}
 use mathlib.Core.List.{List, [], _∷_, _++_, map}
 use Prim.Native.Nat.{ℕ, suc}

@@ -1,4 +1,5 @@
 -- A search for the first list of slots in document 01's order, level by level, over any test of a slot behind a prefix.
+-- Rests on the libraries alone.
 use Prim.Native.Nat.{ℕ, zero, suc, _-_, _<_}
 use mathlib.Core.Path.{_≡_}
 use mathlib.Core.Bool.{Bool, true, false}

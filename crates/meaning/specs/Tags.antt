@@ -1,4 +1,5 @@
 -- The tags of an image's fields, and the other bytes that stand for a word of document 01; marks stand in tables too.
+-- Rests on the libraries alone.
 use Prim.Native.Nat.{ℕ}
 
 -- A rule, and its parts.
