@@ -1,8 +1,9 @@
 -- The user's three demands, each of an arbitrary interpreter: a function from all that the calls `run` and `undo` are lent to
 -- all that they leave. Which input is bad, what the bytes of a table stand for and what commands mean is document 01's; how an
--- interpreter works is left open. Rests on the meaning's Layout, Image, Commands and Calls, on laws' Numbers (for `Bytes` alone)
--- and on Inference. Elsewhere in this crate: our calls meet all three (Met), demands 1 and 2 leave one outcome of run
--- (OneOutcome), and who does not meet which (Worthless).
+-- interpreter works is left open. Rests on the meaning's Basics, Numbers, Layout and Image, on Commands for its states and on Calls
+-- for what is lent and what is checked, on laws' Numbers (for `Bytes` alone), on Inference, and on the code's Layout, Stop and End.
+-- At document 01's layout a node has 20 bytes, an edge 24, a record 28. Elsewhere in this crate: our calls meet all three (Met),
+-- demands 1 and 2 leave one outcome of run (OneOutcome), and who does not meet which (Worthless).
 use mathlib.Core.Path.{_≡_}
 use mathlib.Core.Bool.{Bool, true, false}
 use mathlib.Core.Option.{Option, some, none}

@@ -1,6 +1,6 @@
 -- What commands mean, as rules of inference over command trees: `Runs c s e t` says that command c, met at s, ends in e at t.
--- A rule call goes by what a match is, and not by a search; nothing here computes. Rests on the meaning's Matching, Applying
--- and Commands.
+-- A rule call goes by what a match is, and not by a search; nothing here computes. Rests on the meaning's Layout, Image, Matching
+-- and Applying, on Commands for its states alone (`State`, `stateAt`, `back`, `ruleAt`), and on the code's Stop and End.
 use mathlib.Core.Path.{_≡_}
 use mathlib.Core.Bool.{Bool, true, false}
 use mathlib.Core.List.{List}

@@ -1,5 +1,6 @@
 -- The two calls, each a function from all its inputs to all its outputs, refusals in their order included.
--- Rests on Layout, Image, References, Placement and Commands.
+-- Rests on Basics, Numbers, Layout, Image, References, Placement and Commands, and on the code's Layout, Stop, Refusal, Answer and
+-- End. At document 01's layout (`base`) a node has 20 bytes, an edge 24, a record 28; tables have at most 512, 1,024 and 1,024.
 use mathlib.Core.Path.{_≡_}
 use mathlib.Core.Bool.{Bool, false}
 use mathlib.Core.Option.{Option, some, none}
