@@ -7,7 +7,7 @@ use lib.ListN.{replicate}
 use Rattle.meaning.specs.Layout.{base, edgeLength, recordLength}
 use Rattle.meaning.specs.Tags.{ruleTag, variablesTag, leftTag, rightTag, interfaceTag, testsTag, constantTag, sumTag, outDegreeTag, ifTag, loopTag}
 use Rattle.meaning.specs.Calls.{Left, run, undo, reportOf, lending, lendingBack}
-use Rattle.meaning.specs.ProvedSet.{Case, given, nodeSlot, freeNode, edgeSlot, nodeRecord, edgeRecord, plainNode, redNode, field, ruleField, nodeField, edgeField, variable, calls, skipField, breakField, results, onPlainNode}
+use Rattle.meaning.specs.ProvedSet.{Case, given, nodeSlot, freeNode, edgeSlot, nodeRecord, edgeRecord, plainNode, redNode, field, ruleField, nodeField, edgeField, variable, calls, marks, skipField, breakField, ends, results, onPlainNode}
 use Rattle.meaning.specs.Computing.{computing}
 use Rattle.meaning.specs.declared.Answer.the-variants.{Result}
 
@@ -34,6 +34,14 @@ adds =
     ruleField (1 ∷ []) (nodeField 0 (variable 0))
     (nodeField 0 (field sumTag (variable 0 ++ field constantTag (0 ∷ 0 ∷ 0 ∷ 1 ∷ []))))
     1
+
+-- a node comes
+abbrev addsNode : List ℕ
+addsNode = ruleField [] [] (nodeField 0 []) 0
+
+-- a root without mark and label
+abbrev rootNode : List ℕ
+rootNode = nodeSlot 0 1 (0 ∷ [])
 
 -- the largest atom
 abbrev largest : List ℕ
@@ -71,6 +79,12 @@ examples =
       fuel = 100;
       expected = results 1 2 freeNode freeEdge (edgeRecord 0 (edgeSlot 0 0) ++ nodeRecord 0 plainNode);
     }
+    -- document 01's case 13: a node comes, and the table is full
+    ∷ onPlainNode 100 (addsNode ++ calls 0) (ends 3 1 plainNode [])
+    -- case 14: the largest atom and 1
+    ∷ record { nodes = largest; edges = []; records = 8; image = adds ++ calls 0; fuel = 100; expected = ends 6 1 largest [] }
+    -- case 15: M, and the node is a root
+    ∷ record { nodes = rootNode; edges = []; records = 8; image = marks ++ calls 0; fuel = 100; expected = ends 1 1 rootNode [] }
     ∷ []
 
 pub as-expected : map given examples ≡ map (λ c. c .expected) examples
