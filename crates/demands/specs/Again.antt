@@ -34,12 +34,12 @@ again-lendable x k n u r =
       nodes = rw (r .nodes) (k .nodes);
       edges = rw (r .edges) (k .edges);
       journal =
-          rw (r .journal) (record { bytes = Bytes-zeros (length (x .journal)); fits = rw (length-replicate {A = ℕ} (length (x .journal)) 0) (k .journal .fits) });
+          rw (r .journal) (record { bytewise = Bytes-zeros (length (x .journal)); fits = rw (length-replicate {A = ℕ} (length (x .journal)) 0) (k .journal .fits) });
       image = k .image;
       fuel = k .fuel;
       report =
           rw (r .report)
-          (record { bytes = Bytes-append (bytes 4 0) (bytes 4 n) (Bytes-bytes 4 0) (Bytes-bytes 4 n); fits = simp (length-append, length-bytes) (omega arith) });
+          (record { bytewise = Bytes-append (bytes 4 0) (bytes 4 n) (Bytes-bytes 4 0) (Bytes-bytes 4 n); fits = simp (length-append, length-bytes) (omega arith) });
     }
 
 module _ (L : Layout) (x : Lent) (js rs : List ℕ) (size : length js ≡ length (x .journal)) (eight : length rs ≡ 8) where

@@ -64,7 +64,7 @@ abbrev isBuffer : List ℕ → Bool
 isBuffer bs = both (every (λ b. ltb b 256) bs) (ltb (length bs) (2 ^ 64))
 
 buffer : (bs : List ℕ) → isBuffer bs ≡ true → Buffer bs
-buffer bs e = let t = both-true _ _ e in record { bytes = bytes-by bs (t .0); fits = ltb-true _ _ (t .1) }
+buffer bs e = let t = both-true _ _ e in record { bytewise = bytes-by bs (t .0); fits = ltb-true _ _ (t .1) }
 
 -- all of it can be lent
 abbrev pub canBeLent : Lent → Bool

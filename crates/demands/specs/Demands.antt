@@ -2,8 +2,9 @@
 -- all that they leave. Which input is bad, what the bytes of a table stand for and what commands mean is document 01's; how an
 -- interpreter works is left open. Rests on the meaning's Basics, Numbers, Layout and Image, on Commands for its states and on Calls
 -- for what is lent and what is checked, on laws' Numbers (for `Bytes` alone), on Inference, and on the code's Layout, Stop and End.
--- At document 01's layout a node has 20 bytes, an edge 24, a record 28. Elsewhere in this crate: our calls meet all three (Met),
--- demands 1 and 2 leave one outcome of run (OneOutcome), and who does not meet which (Worthless).
+-- At document 01's layout a node has 20 bytes, an edge 24, a record 28. Elsewhere in this crate: ours meets all three (Met), and so
+-- does all that keeps the contracts of the exported calls (Exported); demands 1 and 2 leave one outcome of each call (OneOutcome);
+-- and who does not meet which (Worthless, WorthlessUndo).
 use mathlib.Core.Path.{_≡_}
 use mathlib.Core.Bool.{Bool, true, false}
 use mathlib.Core.Option.{Option, some, none}
@@ -29,7 +30,7 @@ use Rattle.meaning.specs.declared.End.the-variants.{Done, Failed, Broke, Stoppe
 -- call, and the demands speak of nothing else.
 
 pub record Buffer (bs : List ℕ) : Type 0 where
-  pub bytes : Bytes bs
+  pub bytewise : Bytes bs
   pub fits : length bs < 2 ^ 64
 
 pub record Lendable (x : Lent) : Type 0 where

@@ -39,8 +39,8 @@ module _ (x : Lent) (k : Lendable x) (a : Good base x) where
 
   legal : LegalLedger base (length (x .nodes) / nodeLength base) (length (x .edges) / edgeLength base) (out .state .ledger)
   legal =
-      out-legal base base-numbered (x .nodes) (x .edges) (x .journal) (k .nodes .bytes) (k .edges .bytes) (a .nodesFit) (a .edgesFit)
-      (a .journalFits) (a .layout) (a .tree) (program-legal (x .image) (a .tree) (k .image .bytes) (a .form) (a .references)) (x .fuel)
+      out-legal base base-numbered (x .nodes) (x .edges) (x .journal) (k .nodes .bytewise) (k .edges .bytewise) (a .nodesFit) (a .edgesFit)
+      (a .journalFits) (a .layout) (a .tree) (program-legal (x .image) (a .tree) (k .image .bytewise) (a .form) (a .references)) (x .fuel)
 
   abbrev left : Outcome
   left = leaves base x Done (out .state)
@@ -51,7 +51,7 @@ module _ (x : Lent) (k : Lendable x) (a : Good base x) where
       let t = fits-length (nodeLength base) (base .nodes) (x .nodes) (a .nodesFit) in
       let n = legal .nodes in
       record {
-        bytes = Bytes-write (writeNode base) (h .nodes) free (λ i. Bytes-writeNode base (omega arith) (getD (h .nodes) i free) (legal .host .nodes i));
+        bytewise = Bytes-write (writeNode base) (h .nodes) free (λ i. Bytes-writeNode base (omega arith) (getD (h .nodes) i free) (legal .host .nodes i));
         fits = rw (length-writeNodes base h (legal .host)) (omega (arith, t .1, n));
       }
 
@@ -61,7 +61,7 @@ module _ (x : Lent) (k : Lendable x) (a : Good base x) where
       let t = fits-length (edgeLength base) (base .edges) (x .edges) (a .edgesFit) in
       let n = legal .edges in
       record {
-        bytes = Bytes-write (writeEdge base) (h .edges) free (λ i. Bytes-writeEdge base (omega arith) (getD (h .edges) i free) (legal .host .edges i));
+        bytewise = Bytes-write (writeEdge base) (h .edges) free (λ i. Bytes-writeEdge base (omega arith) (getD (h .edges) i free) (legal .host .edges i));
         fits = rw (length-writeEdges base h (legal .host)) (omega (arith, t .1, n));
       }
 
@@ -69,7 +69,7 @@ module _ (x : Lent) (k : Lendable x) (a : Good base x) where
   journal-left =
       let js : List (Change (Slot Node) (Slot Edge)) = out .state .ledger .journal in
       record {
-        bytes = Bytes-padded (length (x .journal)) (concat (map (writeRecord base) (reverse js))) (Bytes-records base (omega arith) (reverse js) (Every-reverse (LegalChange base) js (legal .records)));
+        bytewise = Bytes-padded (length (x .journal)) (concat (map (writeRecord base) (reverse js))) (Bytes-records base (omega arith) (reverse js) (Every-reverse (LegalChange base) js (legal .records)));
         fits = rw (length-padded (length (x .journal)) (concat (map (writeRecord base) (reverse js))) (written-fits base base-numbered x k a))
             (k .journal .fits);
       }

@@ -57,7 +57,7 @@ module _ (L : Layout) (k : Numbered L) (x : Lent) (b : Lendable x) where
   restored report e q =
       let r = answers-result q in
       let u =
-      run-undo L k (x .nodes) (x .edges) (x .journal) (x .image) (x .fuel) (x .report) (b .nodes .bytes) (b .edges .bytes) (b .image .bytes) report e r in
+      run-undo L k (x .nodes) (x .edges) (x .journal) (x .image) (x .fuel) (x .report) (b .nodes .bytewise) (b .edges .bytewise) (b .image .bytewise) report e r in
       record {
         answer = ap (λ (l : Left). answerNumber (l .answer)) u;
         nodes = ap (λ (l : Left). l .nodes) u;

@@ -24,7 +24,7 @@ use Rattle.meaning.specs.declared.Layout.{Layout}
 
 module _ (L : Layout) (k : Numbered L) (x : Lent) (b : Lendable x) (a : Good L x) where
   rules-legal : LegalRules (a .tree .rules)
-  rules-legal = program-legal (x .image) (a .tree) (b .image .bytes) (a .form) (a .references)
+  rules-legal = program-legal (x .image) (a .tree) (b .image .bytewise) (a .form) (a .references)
 
   pub rules-sound : (i : ℕ) → Sound (ruleAt (a .tree .rules) i)
   rules-sound = legal-sound (a .tree .rules) rules-legal
@@ -34,7 +34,7 @@ module _ (L : Layout) (k : Numbered L) (x : Lent) (b : Lendable x) (a : Good L x
 
   last-legal : LegalLedger L (length (x .nodes) / nodeLength L) (length (x .edges) / edgeLength L) (last .state .ledger)
   last-legal =
-      out-legal L k (x .nodes) (x .edges) (x .journal) (b .nodes .bytes) (b .edges .bytes) (a .nodesFit) (a .edgesFit) (a .journalFits) (a .layout)
+      out-legal L k (x .nodes) (x .edges) (x .journal) (b .nodes .bytewise) (b .edges .bytewise) (a .nodesFit) (a .edgesFit) (a .journalFits) (a .layout)
       (a .tree) rules-legal (x .fuel)
 
   -- as many records as the journal has room for, and so as many bytes

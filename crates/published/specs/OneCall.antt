@@ -67,10 +67,10 @@ module _ (L : Layout) (I : Interpreter) (second : Demand2 L I) (x : Lent) (b : L
     legal =
         let a = good L x accepted in
         let q : p ≡ a .tree = some-inj p (a .tree) (sym form ∙ a .form) in
-        program-legal (x .image) p (b .image .bytes) form (rw q (a .references))
+        program-legal (x .image) p (b .image .bytewise) form (rw q (a .references))
 
     lent-legal : LegalHost L (host L x)
-    lent-legal = legal-host L (x .nodes) (x .edges) (b .nodes .bytes) (b .edges .bytes) (good L x accepted .layout)
+    lent-legal = legal-host L (x .nodes) (x .edges) (b .nodes .bytewise) (b .edges .bytewise) (good L x accepted .layout)
 
     -- what the image's program can come to, and what the call can
 

@@ -74,7 +74,7 @@ module _ (I : Interpreter) (exported : Exported I) (x : Lent) (b : Lendable x) (
         let q = ap (λ (o : Answered). o .answer) (exported-run I exported x b) in
         let a = good base x (run-settled base x (omega arith)) in
         let e : a .tree ≡ p = some-inj (a .tree) p (sym (a .form) ∙ form) in
-        legal-calls (p .rules) (program-legal (x .image) p (b .image .bytes) form (rw e at (a .references))) (p .main)
+        legal-calls (p .rules) (program-legal (x .image) p (b .image .bytewise) form (rw e at (a .references))) (p .main)
 
     comes : (X : Outcome Graph) → CanComeTo (x .nodes) (x .edges) (x .image) X → Comes X
     comes X c = let e : c .tree ≡ p = some-inj (c .tree) p (sym (c .form) ∙ form) in rw e at (c .outcome)

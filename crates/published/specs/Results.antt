@@ -129,11 +129,11 @@ module _ {ℓ κ} (L : Layout) (Graph : Type ℓ) (Applied : List Rule → Graph
         fewEdges = omega (arith, numbered .edges, fits-length (edgeLength L) (L .edges) (x .edges) (a .edgesFit) .1)
 
         legal : LegalRules (a .tree .rules)
-        legal = program-legal (x .image) (a .tree) (b .image .bytes) (a .form) (a .references)
+        legal = program-legal (x .image) (a .tree) (b .image .bytewise) (a .form) (a .references)
 
         start-good : LegalLedger L nodeSlots edgeSlots (start L x .ledger)
         start-good =
-            start-legal L numbered (x .nodes) (x .edges) (x .journal) (b .nodes .bytes) (b .edges .bytes) (a .nodesFit) (a .edgesFit) (a .journalFits)
+            start-legal L numbered (x .nodes) (x .edges) (x .journal) (b .nodes .bytewise) (b .edges .bytewise) (a .nodesFit) (a .edgesFit) (a .journalFits)
             (a .layout) (a .tree) legal (x .fuel)
 
         whole : (e : End) (t : State) → Means L x (a .tree) e t
