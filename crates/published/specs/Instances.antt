@@ -2,3 +2,4 @@
 -- is needed. Rests on OnlyOutcome.
 pub mod RedRoot
 pub mod TwoRoots
+pub mod IsDiscrete

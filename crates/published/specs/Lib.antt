@@ -20,6 +20,7 @@ pub mod CaseFourteen
 pub mod Conformance
 pub mod Steady
 pub mod Determined
+pub mod Whence
 pub mod OneRoot
 pub mod Unchanged
 pub mod Symmetric

@@ -1,7 +1,7 @@
 -- The invariant 'at most one root'. A rule keeps it if its right side has at most one root, and has none where its left side has none;
 -- so roots may move, go, and come back under a new name. A left root is determined: two matches agree on it. With Determined that
 -- decides whether a rule has one match at most; the simplest such rules have one root and nothing else on their left side.
--- Rests on Steady and OneResult.
+-- Rests on Steady and Whence.
 use mathlib.Core.Path.{_≡_, refl, sym, _∙_, ap}
 use mathlib.Core.Logic.{_⊎_, inl, inr}
 use mathlib.Core.List.{List, [], _∷_}
@@ -10,12 +10,10 @@ use native.Mathlib.Omega.{arith}
 use native.Mathlib.Decide.{decLt}
 use lib.ListN.{length, getD}
 use Rattle.meaning.specs.Image.{RuleNode, Rule}
-use Rattle.meaning.specs.Laws.Tests.{choose-lt, choose-le}
-use Rattle.laws.specs.Values.{LegalRule, interface-right}
+use Rattle.laws.specs.Values.{LegalRule}
 use Rattle.published.specs.Graphs.{NodeLabel, Graph, Node, HostGraph, Iso}
-use Rattle.published.specs.RuleApplication.{nodeOf, StaysNode, placed, Matches, Applies}
-use Rattle.published.specs.SameMatch.{Agree}
-use Rattle.published.specs.OneResult.{value-of}
+use Rattle.published.specs.RuleApplication.{nodeOf, Matches, Applies}
+use Rattle.published.specs.Whence.{Matched, place, Other, Right, whence}
 use Rattle.published.specs.Steady.{Steady, one-rule}
 
 -- there is at most one root
@@ -71,76 +69,43 @@ pub record RootsKept (r : Rule) : Type 0 where
   pub most : roots (r .right .nodes) ≤ 1
   pub old : roots (r .right .nodes) ≤ roots (r .left .nodes)
 
-module _ (r : Rule) (legal : LegalRule r) (kept : RootsKept r) (G H : Graph) (host : HostGraph G) (inv : OneRoot G) (a : Applies r G H) where
-  abbrev g : ℕ → ℕ
-  g = a .match .g .node
-
-  abbrev place : ℕ → ℕ
-  place = placed r g (a .constructed .keepNode) (a .constructed .newNode)
-
-  -- z is where a root of the right side stands
-  abbrev Right : ℕ → Type 0
-  Right z = (j : ℕ) × (j < length (r .right .nodes)) × (nodeOf (r .right) j .root ≡ 1) × (place j ≡ z)
-
-  -- z is where a root of G stands that is not matched
-  abbrev Other : ℕ → Type 0
-  Other z =
-      (v : ℕ) × Node G v × (G .nodeLabel v .root ≡ 1) × ((i : ℕ) → i < length (r .left .nodes) → g i ≡ v → ⊥)
-      × (a .constructed .keepNode v ≡ z)
-
-  stays : (z v : ℕ) → StaysNode r G (a .match .g) v → a .constructed .keepNode v ≡ z → H .nodeLabel z .root ≡ 1 → Right z ⊎ Other z
-  stays z v s q e = at (value-of g (r .interface) v)
-    where
-      there : H .nodeLabel (a .constructed .keepNode v) .root ≡ 1
-      there = ap (λ (u : ℕ). H .nodeLabel u .root) q ∙ e
-
-      free : ((i : ℕ) → i < r .interface → g i ≡ v → ⊥) → (i : ℕ) → Dec (i < r .interface) → i < length (r .left .nodes) → g i ≡ v → ⊥
-      free f i (yes k) l p = f i k p
-      free f i (no k) l p = s .kept i (omega arith) l p
-
-      at : ((i : ℕ) × (i < r .interface) × (g i ≡ v)) ⊎ ((i : ℕ) → i < r .interface → g i ≡ v → ⊥) → Right z ⊎ Other z
-      at (inl t) =
-          let b = interface-right r (legal .holds) in
-          let new = a .constructed .interfaceLabels (t .0) (t .1) .root in
-          let here = ap (λ (u : ℕ). H .nodeLabel (a .constructed .keepNode u) .root) (t .2) in
-          inl (t .0, omega (arith, t .1), sym new ∙ here ∙ there, choose-lt _ _ _ _ (t .1) ∙ ap (a .constructed .keepNode) (t .2) ∙ q)
-      at (inr f) =
-          let same = ap (λ (l : NodeLabel). l .root) (sym (a .constructed .keptLabels v s f)) in
-          inr (v, s .node, same ∙ there, λ i. free f i (decLt i (r .interface)), q)
-
-  whence : (z : ℕ) → Node H z → H .nodeLabel z .root ≡ 1 → Right z ⊎ Other z
-  whence z k e = from (a .constructed .nodes .all z k)
-    where
-      from : ((v : ℕ) × StaysNode r G (a .match .g) v × (a .constructed .keepNode v ≡ z))
-          ⊎ ((j : ℕ) × ((r .interface ≤ j) × (j < length (r .right .nodes))) × (a .constructed .newNode j ≡ z)) → Right z ⊎ Other z
-      from (inl t) = stays z (t .0) (t .1) (t .2) e
-      from (inr t) =
-          let new = a .constructed .newLabels (t .0) (t .1 .0) (t .1 .1) .root in
-          inl (t .0, t .1 .1, sym new ∙ ap (λ (u : ℕ). H .nodeLabel u .root) (t .2) ∙ e, choose-le _ _ _ _ (t .1 .0) ∙ t .2)
-
-  -- not both: where the right side has a root, the left has one, which is the root of G
-  not-both : (z y : ℕ) → Right z → Other y → ⊥
-  not-both z y s t =
-      let few = roots-least (r .right .nodes) (s .0) (s .1) in
-      let u = roots-some (r .left .nodes) (omega (arith, few, s .2, kept .old)) in
-      let there = a .match .compatible .roots (u .0) (u .1) in
-      let most = host .roots (g (u .0)) (a .match .g .nodes (u .0) (u .1)) in
-      t .3 (u .0) (u .1) (inv _ _ (a .match .g .nodes (u .0) (u .1)) (t .1) (omega (arith, u .2, there, most)) (t .2))
-
-  pub keeps-one-root : OneRoot H
-  keeps-one-root z y k l e f = at (whence z k e) (whence y l f)
-    where
-      at : Right z ⊎ Other z → Right y ⊎ Other y → z ≡ y
-      at (inl s) (inl t) = sym (s .3) ∙ ap place (roots-one (r .right .nodes) (kept .most) _ _ (s .1) (t .1) (s .2) (t .2)) ∙ t .3
-      at (inl s) (inr t) = absurd (not-both z y s t)
-      at (inr s) (inl t) = absurd (not-both y z t s)
-      at (inr s) (inr t) = sym (s .4) ∙ ap (a .constructed .keepNode) (inv _ _ (s .1) (t .1) (s .2) (t .2)) ∙ t .4
-
 -- two matches agree on a left root
 pub root-agrees : (r : Rule) (G : Graph) → OneRoot G → (m n : Matches r G) (i : ℕ) → i < length (r .left .nodes)
     → nodeOf (r .left) i .root ≡ 1 → m .g .node i ≡ n .g .node i
 root-agrees r G inv m n i k e =
     inv _ _ (m .g .nodes i k) (n .g .nodes i k) (sym (m .compatible .roots i k) ∙ e) (sym (n .compatible .roots i k) ∙ e)
+
+-- the result has one root at most where the right side has, and, if it has one, all roots of the graph are matched
+pub one-root-made : (r : Rule) → LegalRule r → roots (r .right .nodes) ≤ 1 → (G H : Graph) → OneRoot G → (a : Applies r G H)
+    → (1 ≤ roots (r .right .nodes) → (v : ℕ) → Node G v → G .nodeLabel v .root ≡ 1 → Matched r G H a v) → OneRoot H
+one-root-made r legal most G H inv a all z y k l e f = at (whence r G H a (legal .holds) z k) (whence r G H a (legal .holds) y l)
+  where
+    root : (x : ℕ) → H .nodeLabel x .root ≡ 1 → (t : Other r G H a x) → G .nodeLabel (t .was) .root ≡ 1
+    root x q t = ap (λ (n : NodeLabel). n .root) (sym (t .label)) ∙ q
+
+    not-both : (x w : ℕ) → H .nodeLabel x .root ≡ 1 → H .nodeLabel w .root ≡ 1 → Right r G H a x → Other r G H a w → ⊥
+    not-both x w p q s t =
+        let some = roots-least (r .right .nodes) (s .node) (s .listed) in
+        t .free (all (omega (arith, some, s .root, p)) (t .was) (t .stays .node) (root w q t))
+
+    at : Right r G H a z ⊎ Other r G H a z → Right r G H a y ⊎ Other r G H a y → z ≡ y
+    at (inl s) (inl t) =
+        let same = roots-one (r .right .nodes) most _ _ (s .listed) (t .listed) (sym (s .root) ∙ e) (sym (t .root) ∙ f) in
+        sym (s .here) ∙ ap (place r G H a) same ∙ t .here
+    at (inl s) (inr t) = absurd (not-both z y e f s t)
+    at (inr s) (inl t) = absurd (not-both y z f e t s)
+    at (inr s) (inr t) =
+        let same = inv _ _ (s .stays .node) (t .stays .node) (root z e s) (root y f t) in
+        sym (s .here) ∙ ap (a .constructed .keepNode) same ∙ t .here
+
+-- so a rule that has RootsKept keeps the invariant: a left root is all of the graph's
+pub keeps-one-root : (r : Rule) → LegalRule r → RootsKept r → (G H : Graph) → HostGraph G → OneRoot G → Applies r G H → OneRoot H
+keeps-one-root r legal kept G H host inv a =
+    one-root-made r legal (kept .most) G H inv a (λ some v k e.
+    let u = roots-some (r .left .nodes) (omega (arith, kept .old)) in
+    let n = a .match .g .nodes (u .0) (u .1) in
+    let one : G .nodeLabel (a .match .g .node (u .0)) .root ≡ 1 = omega (arith, u .2, a .match .compatible .roots (u .0) (u .1), host .roots _ n) in
+    (u .0, u .1, inv _ _ n k one e))
 
 -- The left side is one root and nothing else.
 pub record RootAlone (r : Rule) : Type 0 where

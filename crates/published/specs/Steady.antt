@@ -26,6 +26,14 @@ use Rattle.published.specs.Unique.{one-result, one-fail}
 abbrev pub SameOutcome : Outcome Graph → Outcome Graph → Type 0
 SameOutcome X Y = Same Graph Alike X Y
 
+-- a set of one rule
+pub sole : (r : Rule) (G H : Graph) → Applied (r ∷ []) G H → Applies r G H
+sole r G H a = at (a .place) (a .listed) (a .applies)
+  where
+    at : (i : ℕ) → i < length (r ∷ []) → Applies (ruleAt (r ∷ []) i) G H → Applies r G H
+    at zero k a = a
+    at (suc i) k a = absurd (omega arith)
+
 module _ (Inv : Graph → Type 0) where
   -- the rule set R keeps the invariant, and where it holds gives one graph up to isomorphism, if it gives any
   pub record Steady (R : List Rule) : Type 0 where
@@ -51,20 +59,14 @@ module _ (Inv : Graph → Type 0) where
   -- one rule alone
   pub one-rule : (r : Rule) → LegalRule r → ((G H : Graph) → HostGraph G → Inv G → Applies r G H → Inv H)
       → ((G : Graph) → HostGraph G → Inv G → (m n : Matches r G) → Agree r G (m .g) (n .g)) → Steady (r ∷ [])
-  one-rule r legal kept agree = one-match (r ∷ []) (legal, tt) kept′ apart agree′
-    where
-      kept′ : (i : ℕ) → i < length (r ∷ []) → (G H : Graph) → HostGraph G → Inv G → Applies (ruleAt (r ∷ []) i) G H → Inv H
-      kept′ zero k = kept
-      kept′ (suc i) k = absurd (omega arith)
-
-      apart : (i j : ℕ) → i < length (r ∷ []) → j < length (r ∷ []) → (G : Graph) → HostGraph G → Inv G → Matches (ruleAt (r ∷ []) i) G
-          → Matches (ruleAt (r ∷ []) j) G → i ≡ j
-      apart i j k l G host inv m n = omega arith
-
-      agree′ : (i : ℕ) → i < length (r ∷ []) → (G : Graph) → HostGraph G → Inv G → (m n : Matches (ruleAt (r ∷ []) i) G)
-          → Agree (ruleAt (r ∷ []) i) G (m .g) (n .g)
-      agree′ zero k = agree
-      agree′ (suc i) k = absurd (omega arith)
+  one-rule r legal kept agree =
+      record {
+        keeps = λ G H host inv a. kept G H host inv (sole r G H a);
+        one = λ G H H′ host inv a b.
+            let x = sole r G H a in
+            let y = sole r G H′ b in
+            same-match r (legal-sound (r ∷ []) (legal, tt) 0) G H H′ host x y (agree G host inv (x .match) (y .match));
+      }
 
   -- The theorem.
 
