@@ -3,3 +3,4 @@
 pub mod RedRoot
 pub mod TwoRoots
 pub mod IsDiscrete
+pub mod CaseP

@@ -80,13 +80,13 @@ pub one-root-made : (r : Rule) → LegalRule r → roots (r .right .nodes) ≤ 1
     → (1 ≤ roots (r .right .nodes) → (v : ℕ) → Node G v → G .nodeLabel v .root ≡ 1 → Matched r G H a v) → OneRoot H
 one-root-made r legal most G H inv a all z y k l e f = at (whence r G H a (legal .holds) z k) (whence r G H a (legal .holds) y l)
   where
-    root : (x : ℕ) → H .nodeLabel x .root ≡ 1 → (t : Other r G H a x) → G .nodeLabel (t .was) .root ≡ 1
-    root x q t = ap (λ (n : NodeLabel). n .root) (sym (t .label)) ∙ q
+    root : (x : ℕ) → H .nodeLabel x .root ≡ 1 → (t : Other r G H a x) → G .nodeLabel (t .0) .root ≡ 1
+    root x q t = ap (λ (n : NodeLabel). n .root) (sym (t .1 .label)) ∙ q
 
     not-both : (x w : ℕ) → H .nodeLabel x .root ≡ 1 → H .nodeLabel w .root ≡ 1 → Right r G H a x → Other r G H a w → ⊥
     not-both x w p q s t =
         let some = roots-least (r .right .nodes) (s .node) (s .listed) in
-        t .free (all (omega (arith, some, s .root, p)) (t .was) (t .stays .node) (root w q t))
+        t .1 .free (all (omega (arith, some, s .root, p)) (t .0) (t .1 .stays .node) (root w q t))
 
     at : Right r G H a z ⊎ Other r G H a z → Right r G H a y ⊎ Other r G H a y → z ≡ y
     at (inl s) (inl t) =
@@ -95,8 +95,8 @@ one-root-made r legal most G H inv a all z y k l e f = at (whence r G H a (legal
     at (inl s) (inr t) = absurd (not-both z y e f s t)
     at (inr s) (inl t) = absurd (not-both y z f e t s)
     at (inr s) (inr t) =
-        let same = inv _ _ (s .stays .node) (t .stays .node) (root z e s) (root y f t) in
-        sym (s .here) ∙ ap (a .constructed .keepNode) same ∙ t .here
+        let same = inv _ _ (s .1 .stays .node) (t .1 .stays .node) (root z e s) (root y f t) in
+        sym (s .1 .here) ∙ ap (a .constructed .keepNode) same ∙ t .1 .here
 
 -- so a rule that has RootsKept keeps the invariant: a left root is all of the graph's
 pub keeps-one-root : (r : Rule) → LegalRule r → RootsKept r → (G H : Graph) → HostGraph G → OneRoot G → Applies r G H → OneRoot H

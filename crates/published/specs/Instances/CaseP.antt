@@ -1,0 +1,174 @@
+-- Case P of document 01 (programs/case-p) on graphs in which at most one edge joins two grey nodes: its rule turns that edge and leaves
+-- none. Its own graph is such a graph, so that what document 01 says of case P is all that can come of it.
+-- Rests on Determined and Whence.
+use mathlib.Core.Path.{_≡_, refl, sym, _∙_, ap}
+use mathlib.Core.Logic.{_⊎_, inl, inr}
+use mathlib.Core.Option.{some}
+use mathlib.Core.List.{List, [], _∷_, _++_}
+use Prim.Native.Nat.{ℕ, zero, suc, _*_, _<_}
+use native.Mathlib.Omega.{arith}
+use lib.ListN.{replicate}
+use Rattle.meaning.specs.Layout.{base, recordLength, readEdges}
+use Rattle.meaning.specs.Image.{Rule, Program, program, ruleSet, loop}
+use Rattle.meaning.specs.Computing.{computing}
+use Rattle.meaning.specs.ProvedSet.{field, calls, turns, nodeSlot, edgeSlot}
+use Rattle.meaning.specs.Tags.{anyMark}
+use Rattle.meaning.specs.Laws.Every.{Every}
+use Rattle.laws.specs.Numbers.{Bytes}
+use Rattle.laws.specs.Hosts.{liveAt-lt}
+use Rattle.laws.specs.LegalCommands.{LegalRules}
+use Rattle.laws.specs.LegalImage.{program-legal}
+use Rattle.meaning.specs.declared.Operand.the-variants.{Variable as variableOperand}
+use Rattle.meaning.specs.declared.Element.the-variants.{Variable, Sum}
+use Rattle.published.specs.Graphs.{NodeLabel, Graph, Edge, HostGraph}
+use Rattle.published.specs.RuleApplication.{StaysNode, StaysEdge, Applied, Matches, Applies}
+use Rattle.published.specs.OneResult.{source-stays, target-stays, right-end}
+use Rattle.published.specs.Semantics.{Outcome, graph, ⟦_⟧, comSeq}
+use Rattle.published.specs.Alike.{Calls}
+use Rattle.published.specs.Conformance.{held}
+use Rattle.published.specs.SameMatch.{Agree}
+use Rattle.published.specs.Steady.{SameOutcome, Steady, one-rule}
+use Rattle.published.specs.Determined.{source-agrees, target-agrees}
+use Rattle.published.specs.Whence.{right-placed, not-made, marked-stays}
+use Rattle.published.specs.OnlyOutcome.{OneOutcome, one-outcome, bytes-by}
+
+abbrev pub image : List ℕ
+image = turns ++ field 0x54 (calls 0)
+
+abbrev pub turn : Rule
+turn =
+    record {
+      variables = 1 ∷ 1 ∷ [];
+      left = record {
+        nodes = record { mark = 4; root = 0; label = Variable 0 ∷ [] } ∷ record { mark = 4; root = 0; label = Variable 1 ∷ [] } ∷ [];
+        edges = record { mark = 0; source = 0; target = 1; label = [] } ∷ [];
+      };
+      right = record {
+        nodes =
+            record { mark = 1; root = 0; label = Variable 0 ∷ [] }
+            ∷ record { mark = 3; root = 0; label = Sum (variableOperand 0) (variableOperand 1) ∷ [] }
+            ∷ [];
+        edges = record { mark = 0; source = 1; target = 0; label = [] } ∷ [];
+      };
+      interface = 2;
+      tests = [];
+    }
+
+abbrev pub tree : Program
+tree = record { rules = turn ∷ []; main = loop (ruleSet (0 ∷ [])) }
+
+pub case-p-is : program image ≡ some tree
+unfolding computing
+case-p-is = refl
+
+bytes : Bytes image
+unfolding computing
+bytes = bytes-by image refl
+
+legal : LegalRules (tree .rules)
+unfolding computing
+legal = program-legal image tree bytes case-p-is refl
+
+-- e joins two grey nodes
+pub record Grey (G : Graph) (e : ℕ) : Type 0 where
+  pub edge : Edge G e
+  pub source : G .nodeLabel (G .source e) .mark ≡ 4
+  pub target : G .nodeLabel (G .target e) .mark ≡ 4
+
+abbrev pub OneGreyEdge : Graph → Type 0
+OneGreyEdge G = (e f : ℕ) → Grey G e → Grey G f → e ≡ f
+
+module _ (G H : Graph) (host : HostGraph G) (a : Applies turn G H) where
+  -- the right side has no grey node, so that a grey node that stays was grey
+  no-grey : Every (λ n. (n .mark ≡ anyMark → ⊥) × (n .mark ≡ 4 → ⊥)) (turn .right .nodes)
+  no-grey = ((λ e. omega arith, λ e. omega arith), ((λ e. omega arith, λ e. omega arith), tt))
+
+  was-grey : (v : ℕ) → StaysNode turn G (a .match .g) v → H .nodeLabel (a .constructed .keepNode v) .mark ≡ 4 → G .nodeLabel v .mark ≡ 4
+  was-grey v s e =
+      let t = marked-stays turn G H a (legal .0 .holds) 4 no-grey v s e in ap (λ (l : NodeLabel). l .mark) (sym (t .label)) ∙ e
+
+  -- an edge that joins grey nodes did so
+  abbrev Was : ℕ → Type 0
+  Was z = (e : ℕ) × Grey G e × (a .constructed .keepEdge e ≡ z)
+
+  was : (z : ℕ) → Grey H z → Was z
+  was z k = from (a .constructed .edges .all z (k .edge))
+    where
+      mark : (x y : ℕ) → x ≡ y → H .nodeLabel x .mark ≡ 4 → H .nodeLabel y .mark ≡ 4
+      mark x y p e = ap (λ (u : ℕ). H .nodeLabel u .mark) (sym p) ∙ e
+
+      from : ((e : ℕ) × StaysEdge turn G (a .match .g) e × (a .constructed .keepEdge e ≡ z))
+          ⊎ ((j : ℕ) × (j < 1) × (a .constructed .newEdge j ≡ z)) → Was z
+      from (inl t) =
+          let s = source-stays turn (legal .0 .holds) G host (a .match) (t .0) (t .1) in
+          let u = target-stays turn (legal .0 .holds) G host (a .match) (t .0) (t .1) in
+          let p = ap (H .source) (sym (t .2)) ∙ a .constructed .keptSources (t .0) (t .1) in
+          let q = ap (H .target) (sym (t .2)) ∙ a .constructed .keptTargets (t .0) (t .1) in
+          let grey : Grey G (t .0)
+          = record { edge = t .1 .edge; source = was-grey _ s (mark _ _ p (k .source)); target = was-grey _ u (mark _ _ q (k .target)) } in
+          (t .0, grey, t .2)
+      from (inr t) =
+          let b = right-end turn (legal .0 .holds) G host (a .match) (t .0) (t .1) .0 in
+          let p = ap (H .source) (sym (t .2)) ∙ a .constructed .newSources (t .0) (t .1) in
+          absurd (not-made turn G H a (legal .0 .holds) 4 no-grey _ (mark _ _ p (k .source)) (right-placed turn G H a (legal .0 .holds) _ b))
+
+  turn-keeps : OneGreyEdge G → OneGreyEdge H
+  turn-keeps inv z y k l =
+      let s = was z k in
+      let t = was y l in
+      sym (s .2) ∙ ap (a .constructed .keepEdge) (inv _ _ (s .1) (t .1)) ∙ t .2
+
+-- the edge is determined, and with it its ends
+module _ (G : Graph) (inv : OneGreyEdge G) (m n : Matches turn G) where
+  grey : (m : Matches turn G) → Grey G (m .g .edge 0)
+  grey m =
+      record {
+        edge = m .g .edges 0 (omega arith);
+        source = rw (m .g .sources 0 (omega arith)) (sym (m .compatible .nodeMarks 0 (omega arith) (λ e. omega arith)));
+        target = rw (m .g .targets 0 (omega arith)) (sym (m .compatible .nodeMarks 1 (omega arith) (λ e. omega arith)));
+      }
+
+  same-edge : m .g .edge 0 ≡ n .g .edge 0
+  same-edge = inv _ _ (grey m) (grey n)
+
+  same-nodes : (i : ℕ) → i < 2 → m .g .node i ≡ n .g .node i
+  same-nodes zero k = source-agrees turn (legal .0 .holds) G m n 0 (omega arith) same-edge
+  same-nodes (suc zero) k = target-agrees turn (legal .0 .holds) G m n 0 (omega arith) same-edge
+  same-nodes (suc (suc i)) k = absurd (omega arith)
+
+  same-edges : (k : ℕ) → k < 1 → m .g .edge k ≡ n .g .edge k
+  same-edges zero l = same-edge
+  same-edges (suc k) l = absurd (omega arith)
+
+  agree : Agree turn G (m .g) (n .g)
+  agree = record { nodes = same-nodes; edges = same-edges }
+
+steady : Calls (Steady OneGreyEdge) (comSeq (tree .rules) (tree .main))
+unfolding comSeq
+steady =
+    one-rule OneGreyEdge turn (legal .0) (λ G H host inv a. turn-keeps G H host a inv) (λ G host inv m n. agree G inv m n)
+
+pub case-p-only : OneOutcome image tree OneGreyEdge
+case-p-only = one-outcome image bytes tree case-p-is OneGreyEdge steady
+
+-- Document 01's graph: nodes 0 and 1, grey and labelled 5 and 7, and an edge from 0 to 1.
+
+abbrev nodes : List ℕ
+nodes = nodeSlot 4 0 (1 ∷ 0 ∷ 0 ∷ 0 ∷ 5 ∷ []) ++ nodeSlot 4 0 (1 ∷ 0 ∷ 0 ∷ 0 ∷ 7 ∷ [])
+
+abbrev edges : List ℕ
+edges = edgeSlot 0 1
+
+one-grey : OneGreyEdge (held nodes edges)
+unfolding computing
+one-grey e f k l =
+    let g = liveAt-lt (readEdges base edges) e (k .edge) in
+    let h = liveAt-lt (readEdges base edges) f (l .edge) in
+    omega arith
+
+-- nothing but the red 5, the blue 12 and the edge from 1 to 0 can come of it
+pub case-p-one : (X : Outcome Graph) → ⟦_⟧ Graph Applied (comSeq (tree .rules) (tree .main)) (held nodes edges) X
+    → SameOutcome (graph (held (nodeSlot 1 0 (1 ∷ 0 ∷ 0 ∷ 0 ∷ 5 ∷ []) ++ nodeSlot 3 0 (1 ∷ 0 ∷ 0 ∷ 0 ∷ 12 ∷ [])) (edgeSlot 1 0))) X
+unfolding computing
+case-p-one =
+    case-p-only .result nodes edges (replicate (8 * recordLength base) 1) 10 (replicate 8 7) (bytes-by nodes refl) (bytes-by edges refl) one-grey refl
