@@ -34,12 +34,14 @@ given c =
 
 -- Bytes of slots and of records.
 
+-- a live node; `label` is the byte of its length and its atoms
 abbrev pub nodeSlot : ℕ → ℕ → List ℕ → List ℕ
-nodeSlot mark root atoms = padded (nodeLength base) (1 ∷ mark ∷ root ∷ atoms)
+nodeSlot mark root label = padded (nodeLength base) (1 ∷ mark ∷ root ∷ label)
 
 abbrev pub freeNode : List ℕ
 freeNode = replicate (nodeLength base) 0
 
+-- a live edge, unmarked and unlabelled, between slots below 256
 abbrev pub edgeSlot : ℕ → ℕ → List ℕ
 edgeSlot source target = padded (edgeLength base) (1 ∷ 0 ∷ 0 ∷ 0 ∷ 0 ∷ source ∷ 0 ∷ target ∷ [])
 
