@@ -10,14 +10,18 @@ use native.Mathlib.Omega.{arith}
 use lib.ListN.{replicate}
 use Rattle.meaning.specs.Layout.{base, recordLength, readEdges}
 use Rattle.meaning.specs.Image.{Rule, Program, program, ruleSet, loop}
+use Rattle.meaning.specs.Calls.{Lent}
 use Rattle.meaning.specs.Computing.{computing}
 use Rattle.meaning.specs.ProvedSet.{field, calls, turns, nodeSlot, edgeSlot}
 use Rattle.meaning.specs.Tags.{anyMark}
 use Rattle.meaning.specs.Laws.Every.{Every}
-use Rattle.laws.specs.Numbers.{Bytes}
+use Rattle.laws.specs.Numbers.{Bytes, bytes-by}
 use Rattle.laws.specs.Hosts.{liveAt-lt}
 use Rattle.laws.specs.LegalCommands.{LegalRules}
 use Rattle.laws.specs.LegalImage.{program-legal}
+use Rattle.demands.specs.Ours.{ours}
+use Rattle.demands.specs.Exported.{ours-exported}
+use Rattle.demands.specs.Cases.{lendable}
 use Rattle.meaning.specs.declared.Operand.the-variants.{Variable as variableOperand}
 use Rattle.meaning.specs.declared.Element.the-variants.{Variable, Sum}
 use Rattle.published.specs.Graphs.{NodeLabel, Graph, Edge, HostGraph}
@@ -30,7 +34,7 @@ use Rattle.published.specs.SameMatch.{Agree}
 use Rattle.published.specs.Steady.{SameOutcome, Steady, one-rule}
 use Rattle.published.specs.Determined.{source-agrees, target-agrees}
 use Rattle.published.specs.Whence.{right-placed, not-made, marked-stays}
-use Rattle.published.specs.OnlyOutcome.{OneOutcome, one-outcome, bytes-by}
+use Rattle.published.specs.OnlyOutcome.{OneOutcome, one-outcome}
 
 abbrev pub image : List ℕ
 image = turns ++ field 0x54 (calls 0)
@@ -149,7 +153,7 @@ steady =
     one-rule OneGreyEdge turn (legal .0) (λ G H host inv a. turn-keeps G H host a inv) (λ G host inv m n. agree G inv m n)
 
 pub case-p-only : OneOutcome image tree OneGreyEdge
-case-p-only = one-outcome image bytes tree case-p-is OneGreyEdge steady
+case-p-only = one-outcome image tree case-p-is OneGreyEdge steady
 
 -- Document 01's graph: nodes 0 and 1, grey and labelled 5 and 7, and an edge from 0 to 1.
 
@@ -166,9 +170,12 @@ one-grey e f k l =
     let h = liveAt-lt (readEdges base edges) f (l .edge) in
     omega arith
 
+abbrev caseP : Lent
+caseP =
+    record { nodes = nodes; edges = edges; journal = replicate (8 * recordLength base) 1; image = image; fuel = 10; report = replicate 8 7 }
+
 -- nothing but the red 5, the blue 12 and the edge from 1 to 0 can come of it
 pub case-p-one : (X : Outcome Graph) → ⟦_⟧ Graph Applied (comSeq (tree .rules) (tree .main)) (held nodes edges) X
     → SameOutcome (graph (held (nodeSlot 1 0 (1 ∷ 0 ∷ 0 ∷ 0 ∷ 5 ∷ []) ++ nodeSlot 3 0 (1 ∷ 0 ∷ 0 ∷ 0 ∷ 12 ∷ [])) (edgeSlot 1 0))) X
 unfolding computing
-case-p-one =
-    case-p-only .result nodes edges (replicate (8 * recordLength base) 1) 10 (replicate 8 7) (bytes-by nodes refl) (bytes-by edges refl) one-grey refl
+case-p-one = case-p-only .result (ours base) ours-exported caseP (lendable caseP refl) refl one-grey refl

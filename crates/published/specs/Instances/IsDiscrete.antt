@@ -9,7 +9,7 @@ use Prim.Native.Nat.{ℕ, zero, suc, _<_, _≤_}
 use native.Mathlib.Omega.{arith}
 use Rattle.meaning.specs.Image.{Rule, Program, program, ruleSet, sequence, guarded, loop, skip, fail, stop, then}
 use Rattle.meaning.specs.Computing.{computing}
-use Rattle.laws.specs.Numbers.{Bytes}
+use Rattle.laws.specs.Numbers.{Bytes, bytes-by}
 use Rattle.laws.specs.LegalCommands.{LegalRules}
 use Rattle.laws.specs.LegalImage.{program-legal}
 use Rattle.meaning.specs.declared.Element.the-variants.{Variable}
@@ -20,7 +20,7 @@ use Rattle.published.specs.Semantics.{comSeq, inOrder, followed}
 use Rattle.published.specs.Steady.{Steady, sole}
 use Rattle.published.specs.Symmetric.{Lone, symmetric, swapped, swapped-first}
 use Rattle.published.specs.Unchanged.{Unchanged, tests-steady}
-use Rattle.published.specs.OnlyOutcome.{OneOutcome, one-outcome, bytes-by}
+use Rattle.published.specs.OnlyOutcome.{OneOutcome, one-outcome}
 
 -- programs/is-discrete/is-discrete.gp2, assembled
 abbrev pub image : List ℕ
@@ -166,4 +166,4 @@ steady = (
 )
 
 pub is-discrete-only : OneOutcome image tree LoneAlike
-is-discrete-only = one-outcome image bytes tree is-discrete-is LoneAlike steady
+is-discrete-only = one-outcome image tree is-discrete-is LoneAlike steady
