@@ -84,6 +84,7 @@ install: library
 # a short comparison of the compiled calls. The last line is rt's own, said again.
 test:
 	tools/map --check
+	tools/names
 	cd second && $(CARGO) test --release --offline
 	rt fmt --check
 	@mkdir -p .gate
