@@ -2,5 +2,12 @@
 -- is needed. Rests on OnlyOutcome.
 pub mod RedRoot
 pub mod TwoRoots
+pub mod Walk
 pub mod IsDiscrete
+pub mod IsDiscreteLabelled
 pub mod CaseP
+pub mod RootedCycle
+pub mod Chains
+pub mod IsTree
+pub mod OneEdgeMore
+pub mod TransitiveClosure

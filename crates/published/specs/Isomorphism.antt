@@ -70,13 +70,13 @@ iso-trans G H K i j =
 
 module _ (G H : Graph) (host : HostGraph G) (i : Iso G H) where
   -- the ends of an edge of H, back in G
-  source-back : (e : ℕ) → Edge H e → G .source (i .edgeBack e) ≡ i .nodeBack (H .source e)
+  pub source-back : (e : ℕ) → Edge H e → G .source (i .edgeBack e) ≡ i .nodeBack (H .source e)
   source-back e h =
       let b = i .edgesBack e h in
       sym (i .nodeThere _ (host .sources _ b))
       ∙ ap (i .nodeBack) (sym (i .sources _ b) ∙ ap (H .source) (i .edgeHere e h))
 
-  target-back : (e : ℕ) → Edge H e → G .target (i .edgeBack e) ≡ i .nodeBack (H .target e)
+  pub target-back : (e : ℕ) → Edge H e → G .target (i .edgeBack e) ≡ i .nodeBack (H .target e)
   target-back e h =
       let b = i .edgesBack e h in
       sym (i .nodeThere _ (host .targets _ b))

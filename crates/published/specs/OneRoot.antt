@@ -1,7 +1,5 @@
 -- The invariant 'at most one root'. A rule keeps it if its right side has at most one root, and has none where its left side has none;
--- so roots may move, go, and come back under a new name. A left root is determined: two matches agree on it. With Determined that
--- decides whether a rule has one match at most; the simplest such rules have one root and nothing else on their left side.
--- Rests on Steady and Whence.
+-- so roots may move, go, and come back under a new name. Two matches agree on a left root. Rests on Whence.
 use mathlib.Core.Path.{_≡_, refl, sym, _∙_, ap}
 use mathlib.Core.Logic.{_⊎_, inl, inr}
 use mathlib.Core.List.{List, [], _∷_}
@@ -9,12 +7,14 @@ use Prim.Native.Nat.{ℕ, zero, suc, _+_, _<_, _≤_}
 use native.Mathlib.Omega.{arith}
 use native.Mathlib.Decide.{decLt}
 use lib.ListN.{length, getD}
+use Rattle.meaning.specs.Layout.{Host, free}
+use Rattle.meaning.specs.Matching.{nodeIn}
 use Rattle.meaning.specs.Image.{RuleNode, Rule}
+use Rattle.laws.specs.Hosts.{liveAt-lt}
 use Rattle.laws.specs.Values.{LegalRule}
-use Rattle.published.specs.Graphs.{NodeLabel, Graph, Node, HostGraph, Iso}
+use Rattle.published.specs.Graphs.{NodeLabel, Graph, Node, HostGraph, graphOf, Iso}
 use Rattle.published.specs.RuleApplication.{nodeOf, Matches, Applies}
 use Rattle.published.specs.Whence.{Matched, place, Other, Right, whence}
-use Rattle.published.specs.Steady.{Steady, one-rule}
 
 -- there is at most one root
 abbrev pub OneRoot : Graph → Type 0
@@ -30,39 +30,47 @@ one-root-iso G H i inv v w k l e f =
     = λ x h q. ap (λ (n : NodeLabel). n .root) (sym (label x h)) ∙ q in
     sym (i .nodeHere v k) ∙ ap (i .node) (inv _ _ (b v k) (b w l) (root v k e) (root w l f)) ∙ i .nodeHere w l
 
--- Roots of a rule's side.
+-- Counting roots.
 
+module _ {A : Type 0} (f : A → ℕ) (d : A) where
+  abbrev pub total : List A → ℕ
+  total [] = 0
+  total (x ∷ l) = f x + total l
+
+  total-least : (l : List A) (i : ℕ) → i < length l → f (getD l i d) ≤ total l
+  total-least [] i h = absurd (omega arith)
+  total-least (x ∷ l) zero h = omega arith
+  total-least (x ∷ l) (suc i) h = let q = total-least l i (omega arith) in omega arith
+
+  -- where there are some, one can be had
+  total-some : (l : List A) → 1 ≤ total l → (i : ℕ) × (i < length l) × (1 ≤ f (getD l i d))
+  total-some [] h = absurd (omega arith)
+  total-some (x ∷ l) h = at (decLt 0 (f x)) (total-some l)
+    where
+      at : Dec (0 < f x) → (1 ≤ total l → (i : ℕ) × (i < length l) × (1 ≤ f (getD l i d)))
+          → (i : ℕ) × (i < length (x ∷ l)) × (1 ≤ f (getD (x ∷ l) i d))
+      at (yes k) later = (0, omega arith, omega arith)
+      at (no k) later = let t = later (omega arith) in (suc (t .0), omega (arith, t .1), t .2)
+
+  -- where there is one at most, two are the same
+  total-one : (l : List A) → total l ≤ 1 → (i j : ℕ) → i < length l → j < length l → f (getD l i d) ≡ 1 → f (getD l j d) ≡ 1 → i ≡ j
+  total-one [] h i j k m e g = absurd (omega arith)
+  total-one (x ∷ l) h zero zero k m e g = refl
+  total-one (x ∷ l) h zero (suc j) k m e g = let q = total-least l j (omega arith) in absurd (omega arith)
+  total-one (x ∷ l) h (suc i) zero k m e g = let q = total-least l i (omega arith) in absurd (omega arith)
+  total-one (x ∷ l) h (suc i) (suc j) k m e g = ap suc (total-one l (omega arith) i j (omega arith) (omega arith) e g)
+
+-- a table has the invariant if it has one root at most
+pub one-root-held : (h : Host) → total (λ s. nodeIn s .root) free (h .nodes) ≤ 1 → OneRoot (graphOf h)
+one-root-held h few v w k l e f =
+    total-one (λ s. nodeIn s .root) free (h .nodes) few v w (liveAt-lt (h .nodes) v k) (liveAt-lt (h .nodes) w l) e f
+
+-- how many roots a side of a rule has
 abbrev node₀ : RuleNode
 node₀ = record { mark = 0; root = 0; label = [] }
 
--- how many
 abbrev pub roots : List RuleNode → ℕ
-roots [] = 0
-roots (n ∷ l) = n .root + roots l
-
-roots-least : (l : List RuleNode) (i : ℕ) → i < length l → getD l i node₀ .root ≤ roots l
-roots-least [] i h = absurd (omega arith)
-roots-least (n ∷ l) zero h = omega arith
-roots-least (n ∷ l) (suc i) h = let q = roots-least l i (omega arith) in omega arith
-
--- where there are some, one can be had
-roots-some : (l : List RuleNode) → 1 ≤ roots l → (i : ℕ) × (i < length l) × (1 ≤ getD l i node₀ .root)
-roots-some [] h = absurd (omega arith)
-roots-some (n ∷ l) h = at (decLt 0 (n .root)) (roots-some l)
-  where
-    at : Dec (0 < n .root) → (1 ≤ roots l → (i : ℕ) × (i < length l) × (1 ≤ getD l i node₀ .root))
-        → (i : ℕ) × (i < length (n ∷ l)) × (1 ≤ getD (n ∷ l) i node₀ .root)
-    at (yes k) later = (0, omega arith, omega arith)
-    at (no k) later = let t = later (omega arith) in (suc (t .0), omega (arith, t .1), t .2)
-
--- where there is one at most, two are the same
-roots-one : (l : List RuleNode) → roots l ≤ 1 → (i j : ℕ) → i < length l → j < length l → getD l i node₀ .root ≡ 1
-    → getD l j node₀ .root ≡ 1 → i ≡ j
-roots-one [] h i j k m e f = absurd (omega arith)
-roots-one (n ∷ l) h zero zero k m e f = refl
-roots-one (n ∷ l) h zero (suc j) k m e f = let q = roots-least l j (omega arith) in absurd (omega arith)
-roots-one (n ∷ l) h (suc i) zero k m e f = let q = roots-least l i (omega arith) in absurd (omega arith)
-roots-one (n ∷ l) h (suc i) (suc j) k m e f = ap suc (roots-one l (omega arith) i j (omega arith) (omega arith) e f)
+roots l = total (λ n. n .root) node₀ l
 
 -- the right side has at most one root, and none where the left side has none
 pub record RootsKept (r : Rule) : Type 0 where
@@ -85,12 +93,12 @@ one-root-made r legal most G H inv a all z y k l e f = at (whence r G H a (legal
 
     not-both : (x w : ℕ) → H .nodeLabel x .root ≡ 1 → H .nodeLabel w .root ≡ 1 → Right r G H a x → Other r G H a w → ⊥
     not-both x w p q s t =
-        let some = roots-least (r .right .nodes) (s .node) (s .listed) in
+        let some = total-least (λ n. n .root) node₀ (r .right .nodes) (s .node) (s .listed) in
         t .1 .free (all (omega (arith, some, s .root, p)) (t .0) (t .1 .stays .node) (root w q t))
 
     at : Right r G H a z ⊎ Other r G H a z → Right r G H a y ⊎ Other r G H a y → z ≡ y
     at (inl s) (inl t) =
-        let same = roots-one (r .right .nodes) most _ _ (s .listed) (t .listed) (sym (s .root) ∙ e) (sym (t .root) ∙ f) in
+        let same = total-one (λ n. n .root) node₀ (r .right .nodes) most _ _ (s .listed) (t .listed) (sym (s .root) ∙ e) (sym (t .root) ∙ f) in
         sym (s .here) ∙ ap (place r G H a) same ∙ t .here
     at (inl s) (inr t) = absurd (not-both z y e f s t)
     at (inr s) (inl t) = absurd (not-both y z f e t s)
@@ -102,22 +110,7 @@ one-root-made r legal most G H inv a all z y k l e f = at (whence r G H a (legal
 pub keeps-one-root : (r : Rule) → LegalRule r → RootsKept r → (G H : Graph) → HostGraph G → OneRoot G → Applies r G H → OneRoot H
 keeps-one-root r legal kept G H host inv a =
     one-root-made r legal (kept .most) G H inv a (λ some v k e.
-    let u = roots-some (r .left .nodes) (omega (arith, kept .old)) in
+    let u = total-some (λ n. n .root) node₀ (r .left .nodes) (omega (arith, kept .old)) in
     let n = a .match .g .nodes (u .0) (u .1) in
     let one : G .nodeLabel (a .match .g .node (u .0)) .root ≡ 1 = omega (arith, u .2, a .match .compatible .roots (u .0) (u .1), host .roots _ n) in
     (u .0, u .1, inv _ _ n k one e))
-
--- The left side is one root and nothing else.
-pub record RootAlone (r : Rule) : Type 0 where
-  pub one : length (r .left .nodes) ≡ 1
-  pub edgeless : length (r .left .edges) ≡ 0
-  pub root : nodeOf (r .left) 0 .root ≡ 1
-
-pub root-alone : (r : Rule) → LegalRule r → RootsKept r → RootAlone r → Steady OneRoot (r ∷ [])
-root-alone r legal kept alone =
-    one-rule OneRoot r legal (λ G H host inv a. keeps-one-root r legal kept G H host inv a) (λ G host inv m n.
-    record { nodes = λ i k. at G inv m n i k; edges = λ k l. absurd (omega (arith, alone .edgeless)) })
-  where
-    at : (G : Graph) → OneRoot G → (m n : Matches r G) (i : ℕ) → i < length (r .left .nodes) → m .g .node i ≡ n .g .node i
-    at G inv m n zero k = root-agrees r G inv m n 0 k (alone .root)
-    at G inv m n (suc i) k = absurd (omega (arith, alone .one))

@@ -1,6 +1,7 @@
--- What Steady says of the exported call `run`: where the rule sets that an image's program calls are steady relative to an invariant
--- that the graph which came in has, the graph that it leaves, or its fail, is all that the published semantics has. Before that: on
--- isomorphic host graphs a program of an image comes to isomorphic outcomes. Rests on Steady, Answers and Conformance.
+-- What the exported call `run` answers is all that its program can come to by the published semantics: where the rule sets that the
+-- program calls are steady relative to an invariant that the graph which came in has (Steady), or where the program is known to come
+-- to one thing in another way. Before that: on isomorphic host graphs a program of an image comes to isomorphic outcomes.
+-- Rests on Steady, Answers, Conformance and demands' Exported.
 use mathlib.Core.Path.{_≡_, sym, _∙_, ap}
 use mathlib.Core.Bool.{true, false}
 use mathlib.Core.Option.{some}
@@ -19,13 +20,13 @@ use Rattle.demands.specs.Exported.{Exported, exported-run}
 use Rattle.meaning.specs.Laws.Tests.{some-inj}
 use Rattle.laws.specs.LegalCommands.{LegalRules, legal-rule}
 use Rattle.laws.specs.LegalImage.{program-legal}
-use Rattle.published.specs.Graphs.{Graph}
+use Rattle.published.specs.Graphs.{Graph, HostGraph}
 use Rattle.published.specs.RuleApplication.{Applied}
 use Rattle.published.specs.Semantics.{ComSeq, Outcome, graph, fails, ⟦_⟧, comSeq, inOrder, followed}
 use Rattle.published.specs.Answers.{Alike, alike-outcomes}
 use Rattle.published.specs.Conformance.{held, CanComeTo, run-result, run-fail}
-use Rattle.published.specs.Alike.{Calls}
-use Rattle.published.specs.Steady.{SameOutcome, Steady, only-result, only-fail}
+use Rattle.published.specs.Alike.{Calls, Same}
+use Rattle.published.specs.Steady.{SameOutcome, Decided, Steady, only-result, only-fail}
 
 -- The rule sets of a legal program.
 
@@ -61,47 +62,71 @@ module _ (rules : List Rule) (legal : LegalRules rules) where
   names-free c G G′ i X p =
       alike-outcomes (comSeq rules c) (legal-calls c) G G′ i X p
 
--- An exported run, on a program whose rule sets are steady and on a graph that has their invariant: its answer is all that the
--- program can come to.
-module _ (I : Interpreter) (exported : Exported I) (x : Lent) (b : Lendable x) (p : Program) (form : program (x .image) ≡ some p)
-    (Inv : Graph → Type 0) (inv : Inv (held (x .nodes) (x .edges))) (steady : Calls (Steady Inv) (comSeq (p .rules) (p .main)))
-  where
-    abbrev Comes : Outcome Graph → Type 0
-    Comes X = ⟦_⟧ Graph Applied (comSeq (p .rules) (p .main)) (held (x .nodes) (x .edges)) X
+-- An exported run, on a program that comes to one thing on the graph that came in, up to a likeness: its answer is that.
+module _ (I : Interpreter) (exported : Exported I) (x : Lent) (b : Lendable x) (p : Program) (form : program (x .image) ≡ some p) where
+  abbrev P : ComSeq
+  P = comSeq (p .rules) (p .main)
 
-    legal : I .run x .answer ≤ 7 → Calls LegalRules (comSeq (p .rules) (p .main))
-    legal k =
-        let q = ap (λ (o : Answered). o .answer) (exported-run I exported x b) in
-        let a = good base x (run-settled base x (omega arith)) in
-        let e : a .tree ≡ p = some-inj (a .tree) p (sym (a .form) ∙ form) in
-        legal-calls (p .rules) (program-legal (x .image) p (b .image .bytewise) form (rw e at (a .references))) (p .main)
+  abbrev G : Graph
+  G = held (x .nodes) (x .edges)
 
-    comes : (X : Outcome Graph) → CanComeTo (x .nodes) (x .edges) (x .image) X → Comes X
-    comes X c = let e : c .tree ≡ p = some-inj (c .tree) p (sym (c .form) ∙ form) in rw e at (c .outcome)
+  abbrev left : Graph
+  left = held (I .run x .nodes) (I .run x .edges)
 
-    pub run-only : I .run x .answer ≡ 0 → (X : Outcome Graph) → Comes X → SameOutcome (graph (held (I .run x .nodes) (I .run x .edges))) X
-    run-only z =
-        let c = run-result I exported x b z in
-        only-result Inv (comSeq (p .rules) (p .main)) (legal (omega arith)) steady (held (x .nodes) (x .edges)) (c .came) inv _ (comes _ c)
+  abbrev Comes : Outcome Graph → Type 0
+  Comes X = ⟦_⟧ Graph Applied P G X
+
+  legal : I .run x .answer ≤ 7 → Calls LegalRules P
+  legal k =
+      let q = ap (λ (o : Answered). o .answer) (exported-run I exported x b) in
+      let a = good base x (run-settled base x (omega arith)) in
+      let e : a .tree ≡ p = some-inj (a .tree) p (sym (a .form) ∙ form) in
+      legal-calls (p .rules) (program-legal (x .image) p (b .image .bytewise) form (rw e at (a .references))) (p .main)
+
+  comes : (X : Outcome Graph) → CanComeTo (x .nodes) (x .edges) (x .image) X → Comes X
+  comes X c = let e : c .tree ≡ p = some-inj (c .tree) p (sym (c .form) ∙ form) in rw e at (c .outcome)
+
+  module _ (_~_ : Graph → Graph → Type 0) (decided : HostGraph G → Calls LegalRules P → Decided P G _~_) where
+    pub run-decided : I .run x .answer ≡ 0 → (X : Outcome Graph) → Comes X → Same Graph _~_ (graph left) X
+    run-decided z = let c = run-result I exported x b z in decided (c .came) (legal (omega arith)) .result _ (comes _ c)
+
+    pub run-fail-decided : I .run x .answer ≡ 1 → (X : Outcome Graph) → Comes X → Same Graph _~_ fails X
+    run-fail-decided z = let c = run-fail I exported x b z in decided (c .came) (legal (omega arith)) .fail (comes _ c)
+
+  -- so where its rule sets are steady and the graph that came in has their invariant
+  module _ (Inv : Graph → Type 0) (inv : Inv G) (steady : Calls (Steady Inv) P) where
+    steady-decided : HostGraph G → Calls LegalRules P → Decided P G Alike
+    steady-decided host u = record { result = only-result Inv P u steady _ host inv; fail = only-fail Inv P u steady _ host inv }
+
+    pub run-only : I .run x .answer ≡ 0 → (X : Outcome Graph) → Comes X → SameOutcome (graph left) X
+    run-only = run-decided Alike steady-decided
 
     pub run-fail-only : I .run x .answer ≡ 1 → (X : Outcome Graph) → Comes X → SameOutcome fails X
-    run-fail-only z =
-        let c = run-fail I exported x b z in
-        only-fail Inv (comSeq (p .rules) (p .main)) (legal (omega arith)) steady (held (x .nodes) (x .edges)) (c .came) inv (comes _ c)
+    run-fail-only = run-fail-decided Alike steady-decided
 
--- The same of an image: on all tables that hold a graph with the invariant. X is what its program can come to there.
-pub record OneOutcome (image : List ℕ) (p : Program) (Inv : Graph → Type 0) : Type 0 where
+-- The same of an image: on all that can be lent with it where the tables hold a graph with the invariant. X is what its program can
+-- come to there.
+pub record OneOutcome (image : List ℕ) (p : Program) (Inv : Graph → Type 0) (_~_ : Graph → Graph → Type 0) : Type 0 where
   pub result : (I : Interpreter) → Exported I → (x : Lent) → Lendable x → x .image ≡ image → Inv (held (x .nodes) (x .edges))
       → I .run x .answer ≡ 0 → (X : Outcome Graph) → ⟦_⟧ Graph Applied (comSeq (p .rules) (p .main)) (held (x .nodes) (x .edges)) X
-      → SameOutcome (graph (held (I .run x .nodes) (I .run x .edges))) X
+      → Same Graph _~_ (graph (held (I .run x .nodes) (I .run x .edges))) X
   pub fail : (I : Interpreter) → Exported I → (x : Lent) → Lendable x → x .image ≡ image → Inv (held (x .nodes) (x .edges))
       → I .run x .answer ≡ 1 → (X : Outcome Graph) → ⟦_⟧ Graph Applied (comSeq (p .rules) (p .main)) (held (x .nodes) (x .edges)) X
-      → SameOutcome fails X
+      → Same Graph _~_ fails X
 
-pub one-outcome : (image : List ℕ) (p : Program) → program image ≡ some p → (Inv : Graph → Type 0)
-    → Calls (Steady Inv) (comSeq (p .rules) (p .main)) → OneOutcome image p Inv
-one-outcome image p form Inv steady =
-    record {
-      result = λ I e x b q inv. run-only I e x b p (ap program q ∙ form) Inv inv steady;
-      fail = λ I e x b q inv. run-fail-only I e x b p (ap program q ∙ form) Inv inv steady;
-    }
+module _ (image : List ℕ) (p : Program) (form : program image ≡ some p) (Inv : Graph → Type 0) where
+  pub one-outcome : Calls (Steady Inv) (comSeq (p .rules) (p .main)) → OneOutcome image p Inv Alike
+  one-outcome steady =
+      record {
+        result = λ I e x b q inv. run-only I e x b p (ap program q ∙ form) Inv inv steady;
+        fail = λ I e x b q inv. run-fail-only I e x b p (ap program q ∙ form) Inv inv steady;
+      }
+
+  pub decided-outcome : (_~_ : Graph → Graph → Type 0)
+      → ((G : Graph) → HostGraph G → Inv G → Calls LegalRules (comSeq (p .rules) (p .main)) → Decided (comSeq (p .rules) (p .main)) G _~_)
+      → OneOutcome image p Inv _~_
+  decided-outcome _~_ decided =
+      record {
+        result = λ I e x b q inv. run-decided I e x b p (ap program q ∙ form) _~_ (λ host u. decided _ host inv u);
+        fail = λ I e x b q inv. run-fail-decided I e x b p (ap program q ∙ form) _~_ (λ host u. decided _ host inv u);
+      }

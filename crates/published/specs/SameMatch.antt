@@ -143,7 +143,7 @@ module _ (r : Rule) (holds : ruleHolds r ≡ true) where
 
 -- What is constructed with one match is constructed with the other.
 
-union-same : (A A′ B C : ℕ → Type 0) (f h : ℕ → ℕ) → ((x : ℕ) → A x → A′ x) → ((x : ℕ) → A′ x → A x) → Union A B C f h → Union A′ B C f h
+pub union-same : (A A′ B C : ℕ → Type 0) (f h : ℕ → ℕ) → ((x : ℕ) → A x → A′ x) → ((x : ℕ) → A′ x → A x) → Union A B C f h → Union A′ B C f h
 union-same A A′ B C f h to from u =
     record {
       fromA = λ x a. u .fromA x (from x a);

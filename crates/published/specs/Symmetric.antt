@@ -1,10 +1,9 @@
 -- Two matches of a rule that a symmetry of the graph takes to each other give isomorphic graphs: an isomorphism of the graph with
 -- itself. With it two nodes that no edge touches and that are labelled alike can change places. Rests on Isomorphism and SameMatch.
 use mathlib.Core.Path.{_≡_, refl, sym, _∙_, ap}
-use mathlib.Core.Logic.{_⊎_, inl, inr}
+use mathlib.Core.Logic.{inl, inr}
 use Prim.Native.Nat.{ℕ, _<_}
 use native.Mathlib.Decide.{ℕ-discrete}
-use native.Mathlib.Omega.{arith}
 use lib.Dec.{eqb}
 use lib.ListN.{length}
 use Rattle.meaning.specs.Basics.{choose}

@@ -4,10 +4,10 @@
 use mathlib.Core.Path.{_≡_, refl, sym, _∙_, subst}
 use mathlib.Core.Logic.{_⊎_, inl, inr}
 use mathlib.Core.Bool.{Bool, true, false}
-use mathlib.Core.List.{List, map}
+use mathlib.Core.List.{List}
 use Prim.Native.Nat.{ℕ, _<_, _≤_}
 use native.Mathlib.Omega.{arith}
-use lib.ListN.{length, getD}
+use lib.ListN.{length}
 use lib.Dec.{eqb}
 use Rattle.meaning.specs.Basics.{choose}
 use Rattle.meaning.specs.Image.{RuleGraph, Rule}
@@ -19,10 +19,9 @@ use Rattle.laws.specs.References.{ends}
 use Rattle.laws.specs.Values.{LegalRule, right-marked}
 use Rattle.laws.specs.LegalCommands.{LegalRules, legal-rule}
 use Rattle.published.specs.Graphs.{Graph, Node, Edge, HostGraph, Iso}
-use Rattle.published.specs.RuleApplication.{nodeOf, edgeOf, StaysNode, StaysEdge, Union, NodeInstance, EdgeInstance, markFrom, placed, Constructed, Matches, Applies}
+use Rattle.published.specs.RuleApplication.{nodeOf, edgeOf, StaysNode, StaysEdge, Union, placed, Constructed, Matches, Applies}
 use Rattle.published.specs.Isomorphism.{iso-trans, iso-back}
 use Rattle.published.specs.OneResult.{one-result, value-of}
-use Rattle.published.specs.HostResult.{applies-host}
 use Rattle.published.specs.Steady.{Steady}
 
 -- the right side is the left side, and no node is deleted

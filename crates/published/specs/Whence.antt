@@ -6,7 +6,6 @@ use mathlib.Core.Bool.{true}
 use Prim.Native.Nat.{ℕ, _<_, _≤_}
 use native.Mathlib.Omega.{arith}
 use native.Mathlib.Decide.{decLt}
-use lib.Dec.{eqb}
 use lib.ListN.{length}
 use Rattle.meaning.specs.Image.{Rule}
 use Rattle.meaning.specs.Tags.{anyMark}

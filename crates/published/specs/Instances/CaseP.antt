@@ -1,6 +1,6 @@
 -- Case P of document 01 (programs/case-p) on graphs in which at most one edge joins two grey nodes: its rule turns that edge and leaves
 -- none. Its own graph is such a graph, so that what document 01 says of case P is all that can come of it.
--- Rests on Determined and Whence.
+-- Rests on Whence.
 use mathlib.Core.Path.{_≡_, refl, sym, _∙_, ap}
 use mathlib.Core.Logic.{_⊎_, inl, inr}
 use mathlib.Core.Option.{some}
@@ -12,6 +12,9 @@ use Rattle.meaning.specs.Layout.{base, recordLength, readEdges}
 use Rattle.meaning.specs.Image.{Rule, Program, program, ruleSet, loop}
 use Rattle.meaning.specs.Calls.{Lent}
 use Rattle.meaning.specs.Computing.{computing}
+use Rattle.demands.specs.Ours.{ours}
+use Rattle.demands.specs.Exported.{ours-exported}
+use Rattle.demands.specs.Cases.{lendable}
 use Rattle.meaning.specs.ProvedSet.{field, calls, turns, nodeSlot, edgeSlot}
 use Rattle.meaning.specs.Tags.{anyMark}
 use Rattle.meaning.specs.Laws.Every.{Every}
@@ -19,20 +22,17 @@ use Rattle.laws.specs.Numbers.{Bytes, bytes-by}
 use Rattle.laws.specs.Hosts.{liveAt-lt}
 use Rattle.laws.specs.LegalCommands.{LegalRules}
 use Rattle.laws.specs.LegalImage.{program-legal}
-use Rattle.demands.specs.Ours.{ours}
-use Rattle.demands.specs.Exported.{ours-exported}
-use Rattle.demands.specs.Cases.{lendable}
 use Rattle.meaning.specs.declared.Operand.the-variants.{Variable as variableOperand}
 use Rattle.meaning.specs.declared.Element.the-variants.{Variable, Sum}
 use Rattle.published.specs.Graphs.{NodeLabel, Graph, Edge, HostGraph}
 use Rattle.published.specs.RuleApplication.{StaysNode, StaysEdge, Applied, Matches, Applies}
 use Rattle.published.specs.OneResult.{source-stays, target-stays, right-end}
 use Rattle.published.specs.Semantics.{Outcome, graph, ⟦_⟧, comSeq}
+use Rattle.published.specs.Answers.{Alike}
 use Rattle.published.specs.Alike.{Calls}
 use Rattle.published.specs.Conformance.{held}
 use Rattle.published.specs.SameMatch.{Agree}
 use Rattle.published.specs.Steady.{SameOutcome, Steady, one-rule}
-use Rattle.published.specs.Determined.{source-agrees, target-agrees}
 use Rattle.published.specs.Whence.{right-placed, not-made, marked-stays}
 use Rattle.published.specs.OnlyOutcome.{OneOutcome, one-outcome}
 
@@ -135,9 +135,12 @@ module _ (G : Graph) (inv : OneGreyEdge G) (m n : Matches turn G) where
   same-edge : m .g .edge 0 ≡ n .g .edge 0
   same-edge = inv _ _ (grey m) (grey n)
 
+  same-end : (end : ℕ → ℕ) {v w : ℕ} → end (m .g .edge 0) ≡ v → end (n .g .edge 0) ≡ w → v ≡ w
+  same-end end p q = sym p ∙ ap end same-edge ∙ q
+
   same-nodes : (i : ℕ) → i < 2 → m .g .node i ≡ n .g .node i
-  same-nodes zero k = source-agrees turn (legal .0 .holds) G m n 0 (omega arith) same-edge
-  same-nodes (suc zero) k = target-agrees turn (legal .0 .holds) G m n 0 (omega arith) same-edge
+  same-nodes zero k = same-end (G .source) (m .g .sources 0 (omega arith)) (n .g .sources 0 (omega arith))
+  same-nodes (suc zero) k = same-end (G .target) (m .g .targets 0 (omega arith)) (n .g .targets 0 (omega arith))
   same-nodes (suc (suc i)) k = absurd (omega arith)
 
   same-edges : (k : ℕ) → k < 1 → m .g .edge k ≡ n .g .edge k
@@ -152,7 +155,7 @@ unfolding comSeq
 steady =
     one-rule OneGreyEdge turn (legal .0) (λ G H host inv a. turn-keeps G H host a inv) (λ G host inv m n. agree G inv m n)
 
-pub case-p-only : OneOutcome image tree OneGreyEdge
+pub case-p-only : OneOutcome image tree OneGreyEdge Alike
 case-p-only = one-outcome image tree case-p-is OneGreyEdge steady
 
 -- Document 01's graph: nodes 0 and 1, grey and labelled 5 and 7, and an edge from 0 to 1.
@@ -178,4 +181,5 @@ caseP =
 pub case-p-one : (X : Outcome Graph) → ⟦_⟧ Graph Applied (comSeq (tree .rules) (tree .main)) (held nodes edges) X
     → SameOutcome (graph (held (nodeSlot 1 0 (1 ∷ 0 ∷ 0 ∷ 0 ∷ 5 ∷ []) ++ nodeSlot 3 0 (1 ∷ 0 ∷ 0 ∷ 0 ∷ 12 ∷ [])) (edgeSlot 1 0))) X
 unfolding computing
-case-p-one = case-p-only .result (ours base) ours-exported caseP (lendable caseP refl) refl one-grey refl
+case-p-one =
+    case-p-only .result (ours base) ours-exported caseP (lendable caseP refl) refl one-grey refl

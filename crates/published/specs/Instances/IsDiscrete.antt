@@ -2,7 +2,7 @@
 -- deletes one of them, and it is the same which. Rests on Symmetric and Unchanged.
 use mathlib.Core.Path.{_≡_, refl, sym, _∙_, ap}
 use mathlib.Core.Logic.{_⊎_, inl, inr}
-use mathlib.Core.Bool.{true, false}
+use mathlib.Core.Bool.{false}
 use mathlib.Core.Option.{some}
 use mathlib.Core.List.{List, [], _∷_}
 use Prim.Native.Nat.{ℕ, zero, suc, _<_, _≤_}
@@ -14,12 +14,13 @@ use Rattle.laws.specs.LegalCommands.{LegalRules}
 use Rattle.laws.specs.LegalImage.{program-legal}
 use Rattle.meaning.specs.declared.Element.the-variants.{Variable}
 use Rattle.published.specs.Graphs.{Graph, Node, Edge, HostGraph, Iso}
-use Rattle.published.specs.RuleApplication.{Incident, StaysNode, StaysEdge, Matches, Applies}
+use Rattle.published.specs.RuleApplication.{StaysNode, StaysEdge, Applies}
+use Rattle.published.specs.Answers.{Alike}
 use Rattle.published.specs.Alike.{Calls}
 use Rattle.published.specs.Semantics.{comSeq, inOrder, followed}
 use Rattle.published.specs.Steady.{Steady, sole}
 use Rattle.published.specs.Symmetric.{Lone, symmetric, swapped, swapped-first}
-use Rattle.published.specs.Unchanged.{Unchanged, tests-steady}
+use Rattle.published.specs.Unchanged.{tests-steady}
 use Rattle.published.specs.OnlyOutcome.{OneOutcome, one-outcome}
 
 -- programs/is-discrete/is-discrete.gp2, assembled
@@ -63,11 +64,11 @@ pub is-discrete-is : program image ≡ some tree
 unfolding computing
 is-discrete-is = refl
 
-bytes : Bytes image
+pub bytes : Bytes image
 unfolding computing
 bytes = bytes-by image refl
 
-legal : LegalRules (tree .rules)
+pub legal : LegalRules (tree .rules)
 unfolding computing
 legal = program-legal image tree bytes is-discrete-is refl
 
@@ -97,11 +98,10 @@ module _ (G H : Graph) (a : Applies del G H) where
   edge-stays e k = record { edge = k; kept = λ j l. absurd (omega arith) }
 
   -- a node of H that no edge touches is such a node of G, with its label
-  Was : ℕ → Type 0
+  abbrev pub Was : ℕ → Type 0
   Was z = (v : ℕ) × Node G v × (H .nodeLabel z ≡ G .nodeLabel v) × (Lone H z → Lone G v)
 
-  was : (z : ℕ) → Node H z → Was z
-  unfolding Was
+  pub was : (z : ℕ) → Node H z → Was z
   was z k = from (a .constructed .nodes .all z k)
     where
       lone : (v : ℕ) → a .constructed .keepNode v ≡ z → Lone H z → Lone G v
@@ -122,7 +122,6 @@ module _ (G H : Graph) (a : Applies del G H) where
       from (inr t) = absurd (omega (arith, t .1 .1))
 
   del-keeps : LoneAlike G → LoneAlike H
-  unfolding Was
   del-keeps inv z y k l f h =
       let s = was z k in
       let t = was y l in
@@ -165,5 +164,5 @@ steady = (
   (tests-steady LoneAlike lone-iso (node ∷ []) (legal .1 .0, tt) (record { same = refl; whole = refl }, tt), tt, tt),
 )
 
-pub is-discrete-only : OneOutcome image tree LoneAlike
-is-discrete-only = one-outcome image tree is-discrete-is LoneAlike steady
+pub is-discrete-lone : OneOutcome image tree LoneAlike Alike
+is-discrete-lone = one-outcome image tree is-discrete-is LoneAlike steady

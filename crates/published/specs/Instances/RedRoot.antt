@@ -1,21 +1,33 @@
--- A loop over one rule that marks an unmarked, unlabelled root red, on graphs that have at most one root. Rests on OneRoot.
+-- A loop over one rule that marks an unmarked, unlabelled root red, on graphs that have at most one root; and on one such graph.
+-- Rests on Determined.
 use mathlib.Core.Path.{_≡_, refl}
-use mathlib.Core.Bool.{true}
+use mathlib.Core.Bool.{false}
 use mathlib.Core.Option.{some}
 use mathlib.Core.List.{List, [], _∷_, _++_}
-use Prim.Native.Nat.{ℕ}
+use Prim.Native.Nat.{ℕ, zero, suc, _*_, _<_}
 use native.Mathlib.Omega.{arith}
+use lib.ListN.{replicate}
+use Rattle.meaning.specs.Layout.{base, recordLength}
 use Rattle.meaning.specs.Image.{Rule, Program, program, ruleSet, loop}
-use Rattle.meaning.specs.References.{references}
+use Rattle.meaning.specs.Calls.{Lent}
 use Rattle.meaning.specs.Computing.{computing}
-use Rattle.meaning.specs.ProvedSet.{field, ruleField, calls}
+use Rattle.demands.specs.Ours.{ours}
+use Rattle.demands.specs.Exported.{ours-exported}
+use Rattle.demands.specs.Cases.{lendable}
+use Rattle.meaning.specs.ProvedSet.{field, ruleField, calls, nodeSlot, plainNode}
 use Rattle.laws.specs.Numbers.{Bytes, bytes-by}
 use Rattle.laws.specs.LegalCommands.{LegalRules}
 use Rattle.laws.specs.LegalImage.{program-legal}
+use Rattle.published.specs.Graphs.{Graph}
+use Rattle.published.specs.RuleApplication.{Applied}
+use Rattle.published.specs.Results.{hostIn}
+use Rattle.published.specs.Conformance.{held}
+use Rattle.published.specs.Answers.{Alike}
 use Rattle.published.specs.Alike.{Calls}
-use Rattle.published.specs.Semantics.{comSeq}
-use Rattle.published.specs.Steady.{Steady}
-use Rattle.published.specs.OneRoot.{OneRoot, root-alone}
+use Rattle.published.specs.Semantics.{Outcome, graph, ⟦_⟧, comSeq}
+use Rattle.published.specs.Steady.{SameOutcome, Steady}
+use Rattle.published.specs.OneRoot.{OneRoot, one-root-held}
+use Rattle.published.specs.Determined.{KnownNode, root, determined-steady}
 use Rattle.published.specs.OnlyOutcome.{OneOutcome, one-outcome}
 
 abbrev pub image : List ℕ
@@ -46,9 +58,34 @@ legal : LegalRules (tree .rules)
 unfolding computing
 legal = program-legal image tree bytes red-root-is refl
 
+known : (i : ℕ) → i < 1 → KnownNode redden false i
+known zero k = root 0 (omega arith) refl
+known (suc i) k = absurd (omega arith)
+
 steady : Calls (Steady OneRoot) (comSeq (tree .rules) (tree .main))
 unfolding comSeq
-steady = root-alone redden (legal .0) (record { most = omega arith; old = omega arith }) (record { one = refl; edgeless = refl; root = refl })
+steady =
+    determined-steady redden (legal .0) (record { most = omega arith; old = omega arith })
+    (record { nodes = known; edges = λ k l. absurd (omega arith) })
 
-pub red-root-only : OneOutcome image tree OneRoot
+pub red-root-only : OneOutcome image tree OneRoot Alike
 red-root-only = one-outcome image tree red-root-is OneRoot steady
+
+-- Two nodes, the first a root: nothing but the root in red can come of it.
+
+abbrev nodes : List ℕ
+nodes = nodeSlot 0 1 (0 ∷ []) ++ plainNode
+
+one-root : OneRoot (held nodes [])
+unfolding computing
+one-root = one-root-held (hostIn base nodes []) (omega arith)
+
+abbrev twoNodes : Lent
+twoNodes =
+    record { nodes = nodes; edges = []; journal = replicate (8 * recordLength base) 1; image = image; fuel = 10; report = replicate 8 7 }
+
+pub red-root-one : (X : Outcome Graph) → ⟦_⟧ Graph Applied (comSeq (tree .rules) (tree .main)) (held nodes []) X
+    → SameOutcome (graph (held (nodeSlot 1 1 (0 ∷ []) ++ plainNode) [])) X
+unfolding computing
+red-root-one =
+    red-root-only .result (ours base) ours-exported twoNodes (lendable twoNodes refl) refl one-root refl

@@ -15,7 +15,7 @@ use Rattle.meaning.specs.References.{isInt}
 use Rattle.meaning.specs.Laws.Tests.{choose-eq, choose-ne}
 use Rattle.published.specs.Graphs.{NodeLabel, Graph, HostGraph, Iso}
 use Rattle.published.specs.RuleApplication.{nodeOf, Instance, NodeInstance, markFrom, Matches, Applies, Applied}
-use Rattle.published.specs.Steady.{Steady}
+use Rattle.published.specs.Steady.{Always, Steady}
 use Rattle.published.specs.Instances.RedRoot.{redden}
 
 -- two roots, marked as m says, and a loop at the first
@@ -138,10 +138,6 @@ module _ (i : ℕ) (h : i < 2) where
           newEdgeLabels = λ k l. absurd (omega arith);
         };
       }
-
--- of every graph
-abbrev pub Always : Graph → Type 0
-Always G = Unit {0}
 
 pub not-steady : Steady Always (redden ∷ []) → ⊥
 not-steady steady =

@@ -1,0 +1,83 @@
+-- A walk: the root goes along an edge to an unmarked node and leaves a red one behind, as long as it can. Where there is at most one root
+-- and at most one edge leaves each node, there is one way to go. Rests on Determined.
+use mathlib.Core.Path.{_≡_, refl}
+use mathlib.Core.Bool.{true}
+use mathlib.Core.Option.{some}
+use mathlib.Core.List.{List, [], _∷_, _++_}
+use Prim.Native.Nat.{ℕ, zero, suc, _<_}
+use native.Mathlib.Omega.{arith}
+use Rattle.meaning.specs.Image.{Rule, Program, program, ruleSet, loop}
+use Rattle.meaning.specs.Computing.{computing}
+use Rattle.meaning.specs.ProvedSet.{field, ruleField, variable, calls}
+use Rattle.laws.specs.Numbers.{Bytes, bytes-by}
+use Rattle.laws.specs.LegalCommands.{LegalRules}
+use Rattle.laws.specs.LegalImage.{program-legal}
+use Rattle.meaning.specs.declared.Element.the-variants.{Variable}
+use Rattle.published.specs.Answers.{Alike}
+use Rattle.published.specs.Alike.{Calls}
+use Rattle.published.specs.Semantics.{comSeq}
+use Rattle.published.specs.Steady.{Steady}
+use Rattle.published.specs.OneOut.{EdgesKept}
+use Rattle.published.specs.Determined.{KnownNode, root, source, target, KnownEdge, leaving, OneWay, walk-steady}
+use Rattle.published.specs.OnlyOutcome.{OneOutcome, one-outcome}
+
+abbrev edge : List ℕ
+edge = field 0x21 (0 ∷ 0 ∷ 1 ∷ variable 0)
+
+abbrev pub image : List ℕ
+image =
+    ruleField (2 ∷ 2 ∷ 2 ∷ []) (field 0x20 (0 ∷ 1 ∷ variable 1) ++ field 0x20 (0 ∷ 0 ∷ variable 2) ++ edge)
+    (field 0x20 (1 ∷ 0 ∷ variable 1) ++ field 0x20 (0 ∷ 1 ∷ variable 2) ++ edge) 2
+    ++ field 0x54 (calls 0)
+
+abbrev pub step : Rule
+step =
+    record {
+      variables = 2 ∷ 2 ∷ 2 ∷ [];
+      left = record {
+        nodes = record { mark = 0; root = 1; label = Variable 1 ∷ [] } ∷ record { mark = 0; root = 0; label = Variable 2 ∷ [] } ∷ [];
+        edges = record { mark = 0; source = 0; target = 1; label = Variable 0 ∷ [] } ∷ [];
+      };
+      right = record {
+        nodes = record { mark = 1; root = 0; label = Variable 1 ∷ [] } ∷ record { mark = 0; root = 1; label = Variable 2 ∷ [] } ∷ [];
+        edges = record { mark = 0; source = 0; target = 1; label = Variable 0 ∷ [] } ∷ [];
+      };
+      interface = 2;
+      tests = [];
+    }
+
+abbrev pub tree : Program
+tree = record { rules = step ∷ []; main = loop (ruleSet (0 ∷ [])) }
+
+pub walk-is : program image ≡ some tree
+unfolding computing
+walk-is = refl
+
+bytes : Bytes image
+unfolding computing
+bytes = bytes-by image refl
+
+legal : LegalRules (tree .rules)
+unfolding computing
+legal = program-legal image tree bytes walk-is refl
+
+edges-kept : EdgesKept step
+edges-kept zero l = (omega arith, refl, omega arith)
+edges-kept (suc k) l = absurd (omega arith)
+
+known-edge : (k : ℕ) → k < 1 → KnownEdge step true k
+known-edge zero l = leaving 0 refl (omega arith) (root 0 (omega arith) refl)
+known-edge (suc k) l = absurd (omega arith)
+
+known-node : (i : ℕ) → i < 2 → KnownNode step true i
+known-node zero k = source 0 0 (known-edge 0 (omega arith)) refl
+known-node (suc zero) k = target 1 0 (known-edge 0 (omega arith)) refl
+known-node (suc (suc i)) k = absurd (omega arith)
+
+steady : Calls (Steady OneWay) (comSeq (tree .rules) (tree .main))
+unfolding comSeq
+steady =
+    walk-steady step (legal .0) (record { most = omega arith; old = omega arith }) edges-kept (record { nodes = known-node; edges = known-edge })
+
+pub walk-only : OneOutcome image tree OneWay Alike
+walk-only = one-outcome image tree walk-is OneWay steady
