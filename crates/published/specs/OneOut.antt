@@ -3,12 +3,15 @@
 -- OneResult.
 use mathlib.Core.Path.{_≡_, refl, sym, _∙_, ap, subst}
 use mathlib.Core.Logic.{_⊎_, inl, inr}
-use Prim.Native.Nat.{ℕ, _<_}
+use Prim.Native.Nat.{ℕ, _<_, _≤_}
+use native.Mathlib.Omega.{arith}
 use lib.ListN.{length}
+use Rattle.meaning.specs.Layout.{Host}
 use Rattle.meaning.specs.Image.{Rule}
 use Rattle.meaning.specs.Laws.Tests.{choose-lt}
+use Rattle.laws.specs.Hosts.{liveAt-lt}
 use Rattle.laws.specs.Values.{LegalRule}
-use Rattle.published.specs.Graphs.{Graph, Edge, HostGraph, Iso}
+use Rattle.published.specs.Graphs.{Graph, Edge, HostGraph, graphOf, Iso}
 use Rattle.published.specs.RuleApplication.{edgeOf, StaysNode, StaysEdge, Matches, Applies}
 use Rattle.published.specs.Isomorphism.{iso-back, interface-stays}
 use Rattle.published.specs.OneResult.{source-stays}
@@ -23,6 +26,13 @@ one-out-iso G H host i inv e f k l q =
     let j = iso-back G H host i in
     let same = inv _ _ (j .edges e k) (j .edges f l) (j .sources e k ∙ ap (j .node) q ∙ sym (j .sources f l)) in
     sym (j .edgeThere e k) ∙ ap (j .edgeBack) same ∙ j .edgeThere f l
+
+-- a table of one edge has it
+pub one-out-held : (h : Host) → length (h .edges) ≤ 1 → OneOut (graphOf h)
+one-out-held h few e f k l q =
+    let a = liveAt-lt (h .edges) e k in
+    let b = liveAt-lt (h .edges) f l in
+    omega arith
 
 -- two matches that agree on a left edge's source agree on the edge
 pub leaving-agrees : (r : Rule) (G : Graph) → OneOut G → (m n : Matches r G) (k : ℕ) → k < length (r .left .edges)

@@ -1,29 +1,39 @@
 -- The published program is-tree (programs/is-tree) on chains: at most one edge leaves each node, and at most one grey node is reached by
 -- no edge from another node. There its rules init and push, which have many matches in general, have one at most.
 -- Rests on Chains, Determined and Unchanged.
-use mathlib.Core.Path.{_≡_, refl, sym}
+use mathlib.Core.Path.{_≡_, refl, sym, _∙_}
 use mathlib.Core.Logic.{inl, inr}
 use mathlib.Core.Bool.{true, false}
 use mathlib.Core.Option.{some}
-use mathlib.Core.List.{List, [], _∷_}
-use Prim.Native.Nat.{ℕ, zero, suc, _<_}
+use mathlib.Core.List.{List, [], _∷_, _++_}
+use Prim.Native.Nat.{ℕ, zero, suc, _*_, _<_}
 use native.Mathlib.Omega.{arith}
+use lib.ListN.{replicate}
+use Rattle.meaning.specs.Layout.{base, edgeLength, recordLength}
 use Rattle.meaning.specs.Image.{Rule, Program, program, ruleSet, sequence, guarded, loop, skip, fail, stop, then}
+use Rattle.meaning.specs.Calls.{Lent}
 use Rattle.meaning.specs.Computing.{computing}
+use Rattle.demands.specs.Ours.{ours}
+use Rattle.demands.specs.Exported.{ours-exported}
+use Rattle.demands.specs.Cases.{lendable}
+use Rattle.meaning.specs.ProvedSet.{nodeSlot, edgeSlot, freeNode}
 use Rattle.meaning.specs.Laws.Every.{Every}
 use Rattle.laws.specs.Numbers.{Bytes, bytes-by}
+use Rattle.laws.specs.Hosts.{liveAt-lt}
 use Rattle.laws.specs.LegalCommands.{LegalRules}
 use Rattle.laws.specs.LegalImage.{program-legal}
 use Rattle.meaning.specs.declared.Element.the-variants.{Variable}
 use Rattle.meaning.specs.declared.Condition.the-variants.{InDegree}
 use Rattle.published.specs.Graphs.{Graph, HostGraph}
-use Rattle.published.specs.RuleApplication.{Matches, Applies}
+use Rattle.published.specs.RuleApplication.{Matches, Applies, Applied}
+use Rattle.published.specs.Results.{hostIn}
+use Rattle.published.specs.Conformance.{held}
 use Rattle.published.specs.Answers.{Alike}
 use Rattle.published.specs.Alike.{Calls}
-use Rattle.published.specs.Semantics.{comSeq, inOrder, followed}
-use Rattle.published.specs.Steady.{Steady, one-rule}
-use Rattle.published.specs.OneRoot.{keeps-one-root, one-root-made}
-use Rattle.published.specs.OneOut.{EdgesKept, keeps-one-out}
+use Rattle.published.specs.Semantics.{Outcome, graph, ⟦_⟧, comSeq, inOrder, followed}
+use Rattle.published.specs.Steady.{SameOutcome, Steady, one-rule}
+use Rattle.published.specs.OneRoot.{one-root-held, keeps-one-root, one-root-made}
+use Rattle.published.specs.OneOut.{one-out-held, EdgesKept, keeps-one-out}
 use Rattle.published.specs.Determined.{KnownNode, root, source, target, KnownEdge, leaving, reachingDeleted, determined-agrees}
 use Rattle.published.specs.Unchanged.{Unchanged, tests-steady}
 use Rattle.published.specs.OnlyOutcome.{OneOutcome, one-outcome}
@@ -255,3 +265,44 @@ steady = (
 
 pub is-tree-only : OneOutcome image tree Chain Alike
 is-tree-only = one-outcome image tree is-tree-is Chain steady
+
+-- Two grey nodes and an edge from the first to the second, a tree: nothing can come of it but one blue root.
+
+abbrev nodes : List ℕ
+nodes = nodeSlot 4 0 (0 ∷ []) ++ nodeSlot 4 0 (0 ∷ [])
+
+abbrev edges : List ℕ
+edges = edgeSlot 0 1
+
+-- the second node is no start
+the-start : (v : ℕ) → v < 2 → Start (held nodes edges) v → v ≡ 0
+unfolding computing
+the-start zero k s = refl
+the-start (suc zero) k s = absurd (s .first 0 (refl, refl, λ e. omega arith))
+the-start (suc (suc v)) k s = absurd (omega arith)
+
+no-root : (w : ℕ) → w < 2 → held nodes edges .nodeLabel w .root ≡ 1 → ⊥
+unfolding computing
+no-root zero k e = omega arith
+no-root (suc zero) k e = omega arith
+no-root (suc (suc w)) k e = omega arith
+
+chain : Chain (held nodes edges)
+unfolding computing
+chain =
+    record {
+      oneRoot = one-root-held (hostIn base nodes edges) (omega arith);
+      oneOut = one-out-held (hostIn base nodes edges) (omega arith);
+      oneStart = λ v w s t. the-start v (liveAt-lt (hostIn base nodes edges .nodes) v (s .node)) s ∙ sym (the-start w (liveAt-lt (hostIn base nodes edges .nodes) w (t .node)) t);
+      noStart = λ v w s k e. no-root w (liveAt-lt (hostIn base nodes edges .nodes) w k) e;
+    }
+
+abbrev twoNodes : Lent
+twoNodes =
+    record { nodes = nodes; edges = edges; journal = replicate (32 * recordLength base) 1; image = image; fuel = 100; report = replicate 8 7 }
+
+pub is-tree-one : (X : Outcome Graph) → ⟦_⟧ Graph Applied (comSeq (tree .rules) (tree .main)) (held nodes edges) X
+    → SameOutcome (graph (held (nodeSlot 3 1 (0 ∷ []) ++ freeNode) (replicate (edgeLength base) 0))) X
+unfolding computing
+is-tree-one =
+    is-tree-only .result (ours base) ours-exported twoNodes (lendable twoNodes refl) refl chain refl

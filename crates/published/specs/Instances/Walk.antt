@@ -4,20 +4,32 @@ use mathlib.Core.Path.{_≡_, refl}
 use mathlib.Core.Bool.{true}
 use mathlib.Core.Option.{some}
 use mathlib.Core.List.{List, [], _∷_, _++_}
-use Prim.Native.Nat.{ℕ, zero, suc, _<_}
+use Prim.Native.Nat.{ℕ, zero, suc, _*_, _<_}
 use native.Mathlib.Omega.{arith}
+use lib.ListN.{replicate}
+use Rattle.meaning.specs.Layout.{base, recordLength}
 use Rattle.meaning.specs.Image.{Rule, Program, program, ruleSet, loop}
+use Rattle.meaning.specs.Calls.{Lent}
 use Rattle.meaning.specs.Computing.{computing}
+use Rattle.demands.specs.Ours.{ours}
+use Rattle.demands.specs.Exported.{ours-exported}
+use Rattle.demands.specs.Cases.{lendable}
 use Rattle.meaning.specs.ProvedSet.{field, ruleField, variable, calls}
 use Rattle.laws.specs.Numbers.{Bytes, bytes-by}
+use Rattle.meaning.specs.ProvedSet.{field, ruleField, variable, calls, nodeSlot, edgeSlot, plainNode, redNode}
 use Rattle.laws.specs.LegalCommands.{LegalRules}
 use Rattle.laws.specs.LegalImage.{program-legal}
 use Rattle.meaning.specs.declared.Element.the-variants.{Variable}
+use Rattle.published.specs.Graphs.{Graph}
+use Rattle.published.specs.RuleApplication.{Applied}
+use Rattle.published.specs.Results.{hostIn}
+use Rattle.published.specs.Conformance.{held}
 use Rattle.published.specs.Answers.{Alike}
 use Rattle.published.specs.Alike.{Calls}
-use Rattle.published.specs.Semantics.{comSeq}
-use Rattle.published.specs.Steady.{Steady}
-use Rattle.published.specs.OneOut.{EdgesKept}
+use Rattle.published.specs.Semantics.{Outcome, graph, ⟦_⟧, comSeq}
+use Rattle.published.specs.Steady.{SameOutcome, Steady}
+use Rattle.published.specs.OneRoot.{one-root-held}
+use Rattle.published.specs.OneOut.{one-out-held, EdgesKept}
 use Rattle.published.specs.Determined.{KnownNode, root, source, target, KnownEdge, leaving, OneWay, walk-steady}
 use Rattle.published.specs.OnlyOutcome.{OneOutcome, one-outcome}
 
@@ -81,3 +93,22 @@ steady =
 
 pub walk-only : OneOutcome image tree OneWay Alike
 walk-only = one-outcome image tree walk-is OneWay steady
+
+-- Two nodes, the first a root, and an edge from it to the second: nothing can come of it but that the root is there.
+
+abbrev nodes : List ℕ
+nodes = nodeSlot 0 1 (0 ∷ []) ++ plainNode
+
+one-way : OneWay (held nodes (edgeSlot 0 1))
+unfolding computing
+one-way = (one-root-held (hostIn base nodes (edgeSlot 0 1)) (omega arith), one-out-held (hostIn base nodes (edgeSlot 0 1)) (omega arith))
+
+abbrev twoNodes : Lent
+twoNodes =
+    record { nodes = nodes; edges = edgeSlot 0 1; journal = replicate (8 * recordLength base) 1; image = image; fuel = 10; report = replicate 8 7 }
+
+pub walk-one : (X : Outcome Graph) → ⟦_⟧ Graph Applied (comSeq (tree .rules) (tree .main)) (held nodes (edgeSlot 0 1)) X
+    → SameOutcome (graph (held (redNode ++ nodeSlot 0 1 (0 ∷ [])) (edgeSlot 0 1))) X
+unfolding computing
+walk-one =
+    walk-only .result (ours base) ours-exported twoNodes (lendable twoNodes refl) refl one-way refl
