@@ -1,5 +1,5 @@
--- Programs whose rule sets are steady, each relative to an invariant of its own, from the bytes of their images; and why an invariant
--- is needed. Rests on OnlyOutcome.
+-- Programs that can come to one thing only, from the bytes of their images, each on the graphs that have an invariant of its own; and why
+-- an invariant is needed. Rests on OnlyOutcome.
 pub mod RedRoot
 pub mod TwoRoots
 pub mod Walk

@@ -25,8 +25,8 @@ use Rattle.published.specs.RuleApplication.{Applied}
 use Rattle.published.specs.Semantics.{ComSeq, Outcome, graph, fails, ⟦_⟧, comSeq, inOrder, followed}
 use Rattle.published.specs.Answers.{Alike, alike-outcomes}
 use Rattle.published.specs.Conformance.{held, CanComeTo, run-result, run-fail}
-use Rattle.published.specs.Alike.{Calls, Same}
-use Rattle.published.specs.Steady.{SameOutcome, Decided, Steady, only-result, only-fail}
+use Rattle.published.specs.Alike.{Calls}
+use Rattle.published.specs.Steady.{SameOutcome, Decided, Steady, steady-decided}
 
 -- The rule sets of a legal program.
 
@@ -62,7 +62,7 @@ module _ (rules : List Rule) (legal : LegalRules rules) where
   names-free c G G′ i X p =
       alike-outcomes (comSeq rules c) (legal-calls c) G G′ i X p
 
--- An exported run, on a program that comes to one thing on the graph that came in, up to a likeness: its answer is that.
+-- An exported run, on a program that can come to one thing only on the graph that came in.
 module _ (I : Interpreter) (exported : Exported I) (x : Lent) (b : Lendable x) (p : Program) (form : program (x .image) ≡ some p) where
   abbrev P : ComSeq
   P = comSeq (p .rules) (p .main)
@@ -86,47 +86,40 @@ module _ (I : Interpreter) (exported : Exported I) (x : Lent) (b : Lendable x) (
   comes : (X : Outcome Graph) → CanComeTo (x .nodes) (x .edges) (x .image) X → Comes X
   comes X c = let e : c .tree ≡ p = some-inj (c .tree) p (sym (c .form) ∙ form) in rw e at (c .outcome)
 
-  module _ (_~_ : Graph → Graph → Type 0) (decided : HostGraph G → Calls LegalRules P → Decided P G _~_) where
-    pub run-decided : I .run x .answer ≡ 0 → (X : Outcome Graph) → Comes X → Same Graph _~_ (graph left) X
+  module _ (decided : HostGraph G → Calls LegalRules P → Decided P G Alike) where
+    pub run-decided : I .run x .answer ≡ 0 → (X : Outcome Graph) → Comes X → SameOutcome (graph left) X
     run-decided z = let c = run-result I exported x b z in decided (c .came) (legal (omega arith)) .result _ (comes _ c)
 
-    pub run-fail-decided : I .run x .answer ≡ 1 → (X : Outcome Graph) → Comes X → Same Graph _~_ fails X
+    pub run-fail-decided : I .run x .answer ≡ 1 → (X : Outcome Graph) → Comes X → SameOutcome fails X
     run-fail-decided z = let c = run-fail I exported x b z in decided (c .came) (legal (omega arith)) .fail (comes _ c)
 
-  -- so where its rule sets are steady and the graph that came in has their invariant
+  -- so it is where the rule sets are steady and the graph has their invariant
   module _ (Inv : Graph → Type 0) (inv : Inv G) (steady : Calls (Steady Inv) P) where
-    steady-decided : HostGraph G → Calls LegalRules P → Decided P G Alike
-    steady-decided host u = record { result = only-result Inv P u steady _ host inv; fail = only-fail Inv P u steady _ host inv }
-
     pub run-only : I .run x .answer ≡ 0 → (X : Outcome Graph) → Comes X → SameOutcome (graph left) X
-    run-only = run-decided Alike steady-decided
+    run-only = run-decided (λ host u. steady-decided Inv P u steady _ host inv)
 
     pub run-fail-only : I .run x .answer ≡ 1 → (X : Outcome Graph) → Comes X → SameOutcome fails X
-    run-fail-only = run-fail-decided Alike steady-decided
+    run-fail-only = run-fail-decided (λ host u. steady-decided Inv P u steady _ host inv)
 
 -- The same of an image: on all that can be lent with it where the tables hold a graph with the invariant. X is what its program can
 -- come to there.
-pub record OneOutcome (image : List ℕ) (p : Program) (Inv : Graph → Type 0) (_~_ : Graph → Graph → Type 0) : Type 0 where
+pub record OneOutcome (image : List ℕ) (p : Program) (Inv : Graph → Type 0) : Type 0 where
   pub result : (I : Interpreter) → Exported I → (x : Lent) → Lendable x → x .image ≡ image → Inv (held (x .nodes) (x .edges))
       → I .run x .answer ≡ 0 → (X : Outcome Graph) → ⟦_⟧ Graph Applied (comSeq (p .rules) (p .main)) (held (x .nodes) (x .edges)) X
-      → Same Graph _~_ (graph (held (I .run x .nodes) (I .run x .edges))) X
+      → SameOutcome (graph (held (I .run x .nodes) (I .run x .edges))) X
   pub fail : (I : Interpreter) → Exported I → (x : Lent) → Lendable x → x .image ≡ image → Inv (held (x .nodes) (x .edges))
       → I .run x .answer ≡ 1 → (X : Outcome Graph) → ⟦_⟧ Graph Applied (comSeq (p .rules) (p .main)) (held (x .nodes) (x .edges)) X
-      → Same Graph _~_ fails X
+      → SameOutcome fails X
 
 module _ (image : List ℕ) (p : Program) (form : program image ≡ some p) (Inv : Graph → Type 0) where
-  pub one-outcome : Calls (Steady Inv) (comSeq (p .rules) (p .main)) → OneOutcome image p Inv Alike
-  one-outcome steady =
+  pub decided-outcome
+      : ((G : Graph) → HostGraph G → Inv G → Calls LegalRules (comSeq (p .rules) (p .main)) → Decided (comSeq (p .rules) (p .main)) G Alike)
+      → OneOutcome image p Inv
+  decided-outcome decided =
       record {
-        result = λ I e x b q inv. run-only I e x b p (ap program q ∙ form) Inv inv steady;
-        fail = λ I e x b q inv. run-fail-only I e x b p (ap program q ∙ form) Inv inv steady;
+        result = λ I e x b q inv. run-decided I e x b p (ap program q ∙ form) (λ host u. decided _ host inv u);
+        fail = λ I e x b q inv. run-fail-decided I e x b p (ap program q ∙ form) (λ host u. decided _ host inv u);
       }
 
-  pub decided-outcome : (_~_ : Graph → Graph → Type 0)
-      → ((G : Graph) → HostGraph G → Inv G → Calls LegalRules (comSeq (p .rules) (p .main)) → Decided (comSeq (p .rules) (p .main)) G _~_)
-      → OneOutcome image p Inv _~_
-  decided-outcome _~_ decided =
-      record {
-        result = λ I e x b q inv. run-decided I e x b p (ap program q ∙ form) _~_ (λ host u. decided _ host inv u);
-        fail = λ I e x b q inv. run-fail-decided I e x b p (ap program q ∙ form) _~_ (λ host u. decided _ host inv u);
-      }
+  pub one-outcome : Calls (Steady Inv) (comSeq (p .rules) (p .main)) → OneOutcome image p Inv
+  one-outcome steady = decided-outcome (λ G host inv u. steady-decided Inv (comSeq (p .rules) (p .main)) u steady G host inv)

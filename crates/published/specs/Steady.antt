@@ -161,3 +161,6 @@ module _ (Inv : Graph → Type 0) where
 
     pub only-fail : ⟦_⟧ Graph Applied P G fails → (X : Outcome Graph) → ⟦_⟧ Graph Applied P G X → SameOutcome fails X
     only-fail p X q = both-alike (decided .fail p X q)
+
+    pub steady-decided : Decided P G Alike
+    steady-decided = record { result = only-result; fail = only-fail }

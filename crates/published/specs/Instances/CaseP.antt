@@ -28,7 +28,6 @@ use Rattle.published.specs.Graphs.{NodeLabel, Graph, Edge, HostGraph}
 use Rattle.published.specs.RuleApplication.{StaysNode, StaysEdge, Applied, Matches, Applies}
 use Rattle.published.specs.OneResult.{source-stays, target-stays, right-end}
 use Rattle.published.specs.Semantics.{Outcome, graph, ⟦_⟧, comSeq}
-use Rattle.published.specs.Answers.{Alike}
 use Rattle.published.specs.Alike.{Calls}
 use Rattle.published.specs.Conformance.{held}
 use Rattle.published.specs.SameMatch.{Agree}
@@ -155,7 +154,7 @@ unfolding comSeq
 steady =
     one-rule OneGreyEdge turn (legal .0) (λ G H host inv a. turn-keeps G H host a inv) (λ G host inv m n. agree G inv m n)
 
-pub case-p-only : OneOutcome image tree OneGreyEdge Alike
+pub case-p-only : OneOutcome image tree OneGreyEdge
 case-p-only = one-outcome image tree case-p-is OneGreyEdge steady
 
 -- Document 01's graph: nodes 0 and 1, grey and labelled 5 and 7, and an edge from 0 to 1.

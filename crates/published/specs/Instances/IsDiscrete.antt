@@ -15,7 +15,6 @@ use Rattle.laws.specs.LegalImage.{program-legal}
 use Rattle.meaning.specs.declared.Element.the-variants.{Variable}
 use Rattle.published.specs.Graphs.{Graph, Node, Edge, HostGraph, Iso}
 use Rattle.published.specs.RuleApplication.{StaysNode, StaysEdge, Applies}
-use Rattle.published.specs.Answers.{Alike}
 use Rattle.published.specs.Alike.{Calls}
 use Rattle.published.specs.Semantics.{comSeq, inOrder, followed}
 use Rattle.published.specs.Steady.{Steady, sole}
@@ -164,5 +163,5 @@ steady = (
   (tests-steady LoneAlike lone-iso (node ∷ []) (legal .1 .0, tt) (record { same = refl; whole = refl }, tt), tt, tt),
 )
 
-pub is-discrete-lone : OneOutcome image tree LoneAlike Alike
+pub is-discrete-lone : OneOutcome image tree LoneAlike
 is-discrete-lone = one-outcome image tree is-discrete-is LoneAlike steady

@@ -24,11 +24,11 @@ use Rattle.published.specs.Answers.{Alike}
 use Rattle.published.specs.Alike.{Calls, Same, sameGraph, sameFail}
 use Rattle.published.specs.Semantics.{call, Outcome, graph, fails, ⟦_⟧, comSeq, inOrder, followed}
 use Rattle.published.specs.Endings.{checked}
-use Rattle.published.specs.Steady.{SameOutcome, Lockstep, like-decided, sole}
+use Rattle.published.specs.Steady.{SameOutcome, Decided, Lockstep, like-decided, sole}
 use Rattle.published.specs.Symmetric.{Lone}
 use Rattle.published.specs.Unchanged.{unchanged-result}
 use Rattle.published.specs.OnlyOutcome.{OneOutcome, decided-outcome}
-use Rattle.published.specs.Instances.IsDiscrete.{image, bytes, del, node, tree, is-discrete-is, legal, LoneAlike, was, del-one}
+use Rattle.published.specs.Instances.IsDiscrete.{image, del, node, tree, is-discrete-is, legal, LoneAlike, was, del-one}
 
 -- Graphs but for the labels of their nodes.
 
@@ -316,10 +316,8 @@ lockstep : Calls (Lockstep SameShape) (comSeq (tree .rules) (tree .main))
 unfolding comSeq inOrder followed
 lockstep = (in-step (del .right) 0 (legal .0) del-shape, (in-step (node .right) 1 (legal .1 .0) node-shape, tt, tt))
 
-decides : OneOutcome image tree Plain SameShape
-decides =
-    decided-outcome image tree is-discrete-is Plain SameShape (λ G host inv u.
-    like-decided SameShape shape-back (comSeq (tree .rules) (tree .main)) lockstep G (shape-same G host inv))
+shape-decided : (G : Graph) → HostGraph G → Plain G → Decided (comSeq (tree .rules) (tree .main)) G SameShape
+shape-decided G host plain = like-decided SameShape shape-back (comSeq (tree .rules) (tree .main)) lockstep G (shape-same G host plain)
 
 -- A result has no nodes, because the check would have found one; so two results are isomorphic.
 
@@ -365,9 +363,12 @@ alike G L (graph K) p (sameGraph s) =
 failed : (X : Outcome Graph) → Same Graph SameShape fails X → SameOutcome fails X
 failed fails sameFail = sameFail
 
-pub is-discrete-only : OneOutcome image tree Plain Alike
-is-discrete-only =
+decided : (G : Graph) → HostGraph G → Plain G → Decided (comSeq (tree .rules) (tree .main)) G Alike
+decided G host plain =
     record {
-      result = λ I e x b q inv z X p. alike _ _ X p (decides .result I e x b q inv z X p);
-      fail = λ I e x b q inv z X p. failed X (decides .fail I e x b q inv z X p);
+      result = λ H p X q. alike G H X q (shape-decided G host plain .result H p X q);
+      fail = λ p X q. failed X (shape-decided G host plain .fail p X q);
     }
+
+pub is-discrete-only : OneOutcome image tree Plain
+is-discrete-only = decided-outcome image tree is-discrete-is Plain (λ G host plain u. decided G host plain)

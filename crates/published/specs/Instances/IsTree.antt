@@ -28,7 +28,6 @@ use Rattle.published.specs.Graphs.{Graph, HostGraph}
 use Rattle.published.specs.RuleApplication.{Matches, Applies, Applied}
 use Rattle.published.specs.Results.{hostIn}
 use Rattle.published.specs.Conformance.{held}
-use Rattle.published.specs.Answers.{Alike}
 use Rattle.published.specs.Alike.{Calls}
 use Rattle.published.specs.Semantics.{Outcome, graph, ⟦_⟧, comSeq, inOrder, followed}
 use Rattle.published.specs.Steady.{SameOutcome, Steady, one-rule}
@@ -263,7 +262,7 @@ steady = (
   ),
 )
 
-pub is-tree-only : OneOutcome image tree Chain Alike
+pub is-tree-only : OneOutcome image tree Chain
 is-tree-only = one-outcome image tree is-tree-is Chain steady
 
 -- Two grey nodes and an edge from the first to the second, a tree: nothing can come of it but one blue root.

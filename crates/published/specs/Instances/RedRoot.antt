@@ -22,7 +22,6 @@ use Rattle.published.specs.Graphs.{Graph}
 use Rattle.published.specs.RuleApplication.{Applied}
 use Rattle.published.specs.Results.{hostIn}
 use Rattle.published.specs.Conformance.{held}
-use Rattle.published.specs.Answers.{Alike}
 use Rattle.published.specs.Alike.{Calls}
 use Rattle.published.specs.Semantics.{Outcome, graph, ⟦_⟧, comSeq}
 use Rattle.published.specs.Steady.{SameOutcome, Steady}
@@ -68,7 +67,7 @@ steady =
     determined-steady redden (legal .0) (record { most = omega arith; old = omega arith })
     (record { nodes = known; edges = λ k l. absurd (omega arith) })
 
-pub red-root-only : OneOutcome image tree OneRoot Alike
+pub red-root-only : OneOutcome image tree OneRoot
 red-root-only = one-outcome image tree red-root-is OneRoot steady
 
 -- Two nodes, the first a root: nothing but the root in red can come of it.

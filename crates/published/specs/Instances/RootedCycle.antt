@@ -20,7 +20,6 @@ use Rattle.meaning.specs.declared.Element.the-variants.{Variable}
 use Rattle.published.specs.Graphs.{Graph, HostGraph}
 use Rattle.published.specs.RuleApplication.{Matches, Applies}
 use Rattle.published.specs.SameMatch.{Agree}
-use Rattle.published.specs.Answers.{Alike}
 use Rattle.published.specs.Alike.{Calls}
 use Rattle.published.specs.Semantics.{comSeq, inOrder, followed}
 use Rattle.published.specs.Steady.{Steady, one-match}
@@ -270,5 +269,5 @@ steady = (
   (tests-steady OneRoot (λ G H host. one-root-iso G H) (match ∷ []) (legal .1 .1 .1 .0, tt) (record { same = refl; whole = refl }, tt), tt, tt),
 )
 
-pub rooted-cycle-only : OneOutcome image tree OneRoot Alike
+pub rooted-cycle-only : OneOutcome image tree OneRoot
 rooted-cycle-only = one-outcome image tree rooted-cycle-is OneRoot steady

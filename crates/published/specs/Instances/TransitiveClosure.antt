@@ -23,7 +23,6 @@ use Rattle.published.specs.Isomorphism.{iso-same, iso-trans, iso-back, a
 use Rattle.published.specs.OneResult.{one-result, value-of}
 use Rattle.published.specs.HostResult.{applies-host}
 use Rattle.published.specs.Semantics.{comSeq}
-use Rattle.published.specs.Answers.{Alike}
 use Rattle.published.specs.Steady.{Always, sole}
 use Rattle.published.specs.Diamond.{Diamond, diamond-decided}
 use Rattle.published.specs.OnlyOutcome.{OneOutcome, decided-outcome}
@@ -334,7 +333,7 @@ module _ (G H H′ : Graph) (host : HostGraph G) (a : Applies link G H) (b : App
 diamond : Diamond (link ∷ [])
 diamond G H H′ host a b = joined G H H′ host (sole link G H a) (sole link G H′ b)
 
-pub transitive-closure-only : OneOutcome image tree Always Alike
+pub transitive-closure-only : OneOutcome image tree Always
 unfolding comSeq
 transitive-closure-only =
-    decided-outcome image tree transitive-closure-is Always Alike (λ G host inv u. diamond-decided (link ∷ []) u diamond G host)
+    decided-outcome image tree transitive-closure-is Always (λ G host inv u. diamond-decided (link ∷ []) u diamond G host)

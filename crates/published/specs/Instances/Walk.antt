@@ -24,7 +24,6 @@ use Rattle.published.specs.Graphs.{Graph}
 use Rattle.published.specs.RuleApplication.{Applied}
 use Rattle.published.specs.Results.{hostIn}
 use Rattle.published.specs.Conformance.{held}
-use Rattle.published.specs.Answers.{Alike}
 use Rattle.published.specs.Alike.{Calls}
 use Rattle.published.specs.Semantics.{Outcome, graph, ⟦_⟧, comSeq}
 use Rattle.published.specs.Steady.{SameOutcome, Steady}
@@ -91,7 +90,7 @@ unfolding comSeq
 steady =
     walk-steady step (legal .0) (record { most = omega arith; old = omega arith }) edges-kept (record { nodes = known-node; edges = known-edge })
 
-pub walk-only : OneOutcome image tree OneWay Alike
+pub walk-only : OneOutcome image tree OneWay
 walk-only = one-outcome image tree walk-is OneWay steady
 
 -- Two nodes, the first a root, and an edge from it to the second: nothing can come of it but that the root is there.
