@@ -1,6 +1,6 @@
 -- Chains, for is-tree: at most one root, at most one edge out of each node, and at most one start, a grey node that no edge reaches
--- from another node; none where there is a root. A rule whose right side has no grey node makes no start, and loses none but those
--- that it matches. Rests on OneRoot, OneOut and Whence.
+-- from another node; none where there is a root. A rule whose right side has no grey node makes no start.
+-- Rests on OneRoot, OneOut and Whence.
 use mathlib.Core.Path.{_≡_, sym, _∙_, ap}
 use mathlib.Core.Logic.{_⊎_, inl, inr}
 use Prim.Native.Nat.{ℕ, _<_}
