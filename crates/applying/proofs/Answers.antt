@@ -7,7 +7,7 @@ use mathlib.Core.List.{List}
 use Prim.Native.Nat.{ℕ, _/_}
 use native.Mathlib.Omega.{arith}
 use lib.ListN.{length, take}
-use Rattle.meaning.specs.Basics.{any}
+use Rattle.meaning.specs.Basics.{exists}
 use Rattle.meaning.specs.Layout.{recordLength, readNodes, readEdges}
 use Rattle.meaning.specs.Image.{Rule}
 use Rattle.meaning.specs.Applying.{Right, Ledger, rightSide, changed, hindrance, onFreeNode, Applied, applied, hindered, tested, apply}
@@ -90,7 +90,7 @@ module _ {L : Layout} {nodes edges journal : List ℕ} {used : ℕ} {bs slots le
         }
 
     -- no live edge is on a free node
-    pub none-free : any (onFreeNode (record { nodes = readNodes L nodes′; edges = readEdges L edges′ })) (length (readEdges L edges′)) ≡ true → ⊥
+    pub none-free : exists (onFreeNode (record { nodes = readNodes L nodes′; edges = readEdges L edges′ })) (length (readEdges L edges′)) ≡ true → ⊥
     unfolding tested
     none-free q =
         let t : tested (ledgerOf L nodes′ edges′ journal′ all) ≡ applied (ledgerOf L nodes′ edges′ journal′ all) =

@@ -8,7 +8,7 @@ ghost use Rattle.meaning.specs.Layout.{recordLength};
 ghost use Rattle.meaning.specs.Image.{rule as readRule};
 ghost use Rattle.meaning.specs.Matching.{leftNodes, total};
 ghost use Rattle.meaning.specs.Applying.{hindrance};
-ghost use Rattle.parts.specs.Runs.{For};
+ghost use Rattle.parts.specs.Series.{For};
 ghost use Rattle.ledger.specs.Running.{ledgerOf, Running};
 ghost use Rattle.ledger.specs.Rooms.{stopOf};
 ghost use Rattle.applying.specs.Application.{AtMatch, Applies};

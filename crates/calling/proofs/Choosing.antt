@@ -17,7 +17,7 @@ use Rattle.meaning.specs.Commands.{orLater, ruleAt, firstRule}
 use Rattle.meaning.specs.Laws.Tests.{some-inj, every-true}
 use Rattle.laws.specs.LegalCommands.{legal-rule}
 use Rattle.meaning.specs.declared.Layout.{Layout}
-use Rattle.parts.specs.Runs.{For}
+use Rattle.parts.specs.Series.{For}
 use Rattle.plan.specs.Plan.{IsRule}
 use Rattle.matching.specs.Values.{IsFirst}
 use Rattle.matching.specs.declared.Matched.{Matched}

@@ -7,7 +7,7 @@ use mathlib.Core.List.{List}
 use lib.ListN.{length, getD}
 use Rattle.meaning.specs.Image.{Rule, rule, program}
 use Rattle.meaning.specs.Applying.{Ledger, apply}
-use Rattle.meaning.specs.Commands.{ends, afterApplying, Chosen, ruleAt, firstRule, call, stateAt}
+use Rattle.meaning.specs.Commands.{ends, afterApplying, Chosen, ruleAt, firstRule, ruleCall, stateAt}
 use Rattle.meaning.specs.Calls.{journalRoom}
 use Rattle.laws.specs.Commands.{firstRule-some}
 use Rattle.laws.specs.LegalCommands.{legal-rule}
@@ -15,7 +15,7 @@ use Rattle.meaning.specs.declared.Layout.{Layout}
 use Rattle.meaning.specs.declared.Tally.{Tally}
 use Rattle.meaning.specs.declared.Stop.{Stop}
 use Rattle.meaning.specs.declared.End.the-variants.{Failed, Stopped as stoppedEnd}
-use Rattle.parts.specs.Runs.{For}
+use Rattle.parts.specs.Series.{For}
 use Rattle.graph.specs.Graph.{Legal}
 use Rattle.meaning.specs.Layout.{hostOf}
 use Rattle.matching.specs.declared.Outcome.the-variants.{Match, NoMatch}
@@ -59,14 +59,14 @@ module _ (L : Layout) (nodes edges journal : List ℕ) (t : Tally) (nodes′ edg
       → appliedOf (a .applied) (ledgerOf L nodes′ edges′ journal′ (a .records))
       ≡ apply (L .atoms) room (c .rule) (c .slots) (ledgerOf L nodes edges journal (t .records))
       → ((w : Stop) → a .applied ≡ Stopped w → ledgerOf L nodes′ edges′ journal′ (a .records) ≡ ledgerOf L nodes edges journal (t .records))
-      → outOf L (ranAfter t a) nodes′ edges′ journal′ ≡ call (L .atoms) room rules o (stateOf L nodes edges journal t)
-  unfolding call
+      → outOf L (ranAfter t a) nodes′ edges′ journal′ ≡ ruleCall (L .atoms) room rules o (stateOf L nodes edges journal t)
+  unfolding ruleCall
   call-applies room rules o c a e right kept = rw (← e, ← right) (ended (a .applied) (a .records) kept)
 
 call-fails : (L : Layout) (nodes edges journal : List ℕ) (t : Tally) (room : ℕ) (rules : List Rule) (o : Option Chosen) → none ≡ o
     → outOf L (record { end = Failed; tally = t }) nodes edges journal
-    ≡ call (L .atoms) room rules o (stateOf L nodes edges journal t)
-unfolding call
+    ≡ ruleCall (L .atoms) room rules o (stateOf L nodes edges journal t)
+unfolding ruleCall
 call-fails L nodes edges journal t room rules o e = rw (← e)
 
 -- Over bytes: what the code's call comes to.

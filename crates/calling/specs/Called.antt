@@ -9,7 +9,7 @@ use lib.ListN.{length}
 use lib.Dec.{ltb}
 use Rattle.meaning.specs.Basics.{every}
 use Rattle.meaning.specs.Image.{Program, program}
-use Rattle.meaning.specs.Commands.{firstRule, call}
+use Rattle.meaning.specs.Commands.{firstRule, ruleCall}
 use Rattle.meaning.specs.Calls.{journalRoom}
 use Rattle.laws.specs.LegalCommands.{LegalRules}
 use Rattle.meaning.specs.declared.Layout.{Layout}
@@ -34,5 +34,5 @@ module _ (L : Layout) where
   pub record Called (image numbers nodes edges journal : List ℕ) (t : Tally) (r : Ran) (nodes′ edges′ journal′ : List ℕ) : Type 0 where
     pub right : (p : Program) → program image ≡ some p
         → outOf L r nodes′ edges′ journal′
-        ≡ call (L .atoms) (journalRoom L journal) (p .rules) (firstRule (p .rules) (hostOf L nodes edges) numbers) (stateOf L nodes edges journal t)
+        ≡ ruleCall (L .atoms) (journalRoom L journal) (p .rules) (firstRule (p .rules) (hostOf L nodes edges) numbers) (stateOf L nodes edges journal t)
     pub running : Running L nodes′ edges′ journal′ (r .tally .records)

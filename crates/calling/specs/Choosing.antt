@@ -15,7 +15,7 @@ use Rattle.meaning.specs.declared.Layout.{Layout}
 use Rattle.meaning.specs.declared.Tally.{Tally}
 use Rattle.meaning.specs.declared.End.{End}
 use Rattle.meaning.specs.declared.End.the-variants.{Done as doneEnd, Stopped as stoppedEnd}
-use Rattle.parts.specs.Runs.{For}
+use Rattle.parts.specs.Series.{For}
 use Rattle.meaning.specs.Layout.{hostOf}
 use Rattle.meaning.specs.Matching.{total}
 use Rattle.values.specs.Values.{valuesOf, Stored}

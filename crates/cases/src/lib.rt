@@ -3,7 +3,7 @@
 ghost use mathlib.Core.Path.{_≡_};
 ghost use mathlib.Core.Option.{none};
 ghost use Rattle.meaning.specs.Image.{constant};
-ghost use Rattle.parts.specs.Runs.{For, nthPart};
+ghost use Rattle.parts.specs.Series.{For, nthPart};
 ghost use Rattle.io.specs.Counts.{Counts};
 ghost use Rattle.cases.specs.Cases.{Copied};
 

@@ -12,7 +12,7 @@ use lib.ListN.{length, getD, take, drop, drop-of-length-le}
 use lib.Seq.{drop-cons}
 use lib.Dec.{ltb}
 use Rattle.meaning.specs.Basics.{both, every, isEmpty, ensure, _>>_, _>>=_}
-use Rattle.meaning.specs.Image.{Command, ruleSet, sequence, guarded, loop, skip, fail, break, Commands, stop, then, field, leading, only, anyTag, inOrder, command, Program}
+use Rattle.meaning.specs.Image.{Command, ruleSet, sequence, guarded, loop, skip, fail, break, Commands, noMore, then, field, leading, only, passesAll, inOrder, command, Program}
 use Rattle.meaning.specs.References.{rulesExist, allRulesExist}
 use Rattle.meaning.specs.Placement.{breaksLie, allBreaksLie, placement}
 use Rattle.meaning.specs.Laws.Tests.{both-yes, both-no, both-last, choose-eq, choose-ne}
@@ -20,7 +20,7 @@ use Rattle.fields.specs.Parsed.{command-tag, rule-set-read, sequence-read, if-r
 use Rattle.fields.specs.Laws.{Lies, past}
 use Rattle.command_checks.specs.declared.Demand.{Demand}
 use Rattle.command_checks.specs.declared.Demand.the-variants.{Rules, Breaks}
-use Rattle.parts.specs.Runs.{For, Run, only-run, run-none, run-some, run-there}
+use Rattle.parts.specs.Series.{For, Series, only-series, series-none, series-some, series-there}
 use Rattle.command_checks.specs.Asked.{numbersAsked, breakAsked, inBody, inGuard, commandAsked, commandsAsked, partsAsked, ofFirst}
 
 -- The two demands.
@@ -38,7 +38,7 @@ mutual
   rules-asked n break = refl
 
   all-rules-asked : (n : ℕ) (cs : Commands) → commandsAsked (Rules n) cs ≡ allRulesExist cs n
-  all-rules-asked n stop = refl
+  all-rules-asked n noMore = refl
   all-rules-asked n (then c cs) = rw (rules-asked n c, all-rules-asked n cs)
 
 mutual
@@ -54,7 +54,7 @@ mutual
   breaks-asked ok break = refl
 
   all-breaks-asked : (ok : Bool) (cs : Commands) → commandsAsked (Breaks ok) cs ≡ allBreaksLie cs ok
-  all-breaks-asked ok stop = refl
+  all-breaks-asked ok noMore = refl
   all-breaks-asked ok (then c cs) = rw (breaks-asked ok c, all-breaks-asked ok cs)
 
 -- A command by its tag.
@@ -64,7 +64,7 @@ unfolding partsAsked commandsAsked inOrder
 sequence-parts d [] = refl
 sequence-parts d (c ∷ l) = ap (both (commandAsked d c)) (sequence-parts d l)
 
-empty-parts : (n : ℕ) → only anyTag (command n) 16 [] ≡ some []
+empty-parts : (n : ℕ) → only passesAll (command n) 16 [] ≡ some []
 unfolding only leading _>>=_ ensure _>>_ isEmpty
 empty-parts n = refl
 
@@ -83,14 +83,14 @@ module _ (d : Demand) (n tag : ℕ) (bs : List ℕ) where
   unfolding commandAsked
   break-is r q h c e = rw (break-read n tag bs c e h .1) q
 
-  module _ (r : Bool) (q : For (only anyTag (command n) 16 bs) (λ l. r ≡ partsAsked (ofFirst d tag) d l)) where
+  module _ (r : Bool) (q : For (only passesAll (command n) 16 bs) (λ l. r ≡ partsAsked (ofFirst d tag) d l)) where
     -- what is asked of the parts, where it is known what is asked of the first
-    of-parts : (f : Demand) → ofFirst d tag ≡ f → (l : List Command) → only anyTag (command n) 16 bs ≡ some l → r ≡ partsAsked f d l
+    of-parts : (f : Demand) → ofFirst d tag ≡ f → (l : List Command) → only passesAll (command n) 16 bs ≡ some l → r ≡ partsAsked f d l
     of-parts f h l e = q l e ∙ ap (λ (x : Demand). partsAsked x d l) h
 
     bare : bs ≡ [] → r ≡ true
     unfolding partsAsked
-    bare h = q [] (ap (only anyTag (command n) 16) h ∙ empty-parts n)
+    bare h = q [] (ap (only passesAll (command n) 16) h ∙ empty-parts n)
 
     module _ (c : Command) (e : command (suc n) tag bs ≡ some c) where
       of-sequence : tag ≡ 0x51 → r ≡ commandAsked d c
@@ -100,7 +100,7 @@ module _ (d : Demand) (n tag : ℕ) (bs : List ℕ) where
           let f = choose-ne tag 0x54 _ _ (λ x. omega arith) ∙ choose-eq tag 0x51 _ _ h in
           of-parts d f (s .0) (s .1) ∙ sequence-parts d (s .0) ∙ ap (commandAsked d) (sym (s .4))
 
-      of-guarded : (keep : Bool) → (tag ≡ 0x51 → ⊥) → (tag ≡ 0x54 → ⊥) → (x y z : Command) × (only anyTag (command n) 16 bs ≡ some (x ∷ y ∷ z ∷ [])) × (c ≡ guarded keep x y z) → r ≡ commandAsked d c
+      of-guarded : (keep : Bool) → (tag ≡ 0x51 → ⊥) → (tag ≡ 0x54 → ⊥) → (x y z : Command) × (only passesAll (command n) 16 bs ≡ some (x ∷ y ∷ z ∷ [])) × (c ≡ guarded keep x y z) → r ≡ commandAsked d c
       unfolding commandAsked partsAsked ofFirst
       of-guarded keep h k s =
           let f = choose-ne tag 0x54 _ _ k ∙ choose-ne tag 0x51 _ _ h in
@@ -140,27 +140,27 @@ module _ (d : Demand) (depth tag : ℕ) (bs : List ℕ) (r : Bool) (h : depth �
   pub break-at : r ≡ breakAsked d → tag ≡ 0x57 → For (command depth tag bs) (λ c. r ≡ commandAsked d c)
   break-at q k c e = break-is d (depth - 1) tag bs r q k c (deeper c e)
 
-  pub parts-at : (first : Demand) → first ≡ ofFirst d tag → For (only anyTag (command (depth - 1)) 16 bs) (λ l. r ≡ partsAsked first d l) → (tag ≡ 0x50 → ⊥) → (tag ≡ 0x57 → ⊥) → For (command depth tag bs) (λ c. r ≡ commandAsked d c)
+  pub parts-at : (first : Demand) → first ≡ ofFirst d tag → For (only passesAll (command (depth - 1)) 16 bs) (λ l. r ≡ partsAsked first d l) → (tag ≡ 0x50 → ⊥) → (tag ≡ 0x57 → ⊥) → For (command depth tag bs) (λ c. r ≡ commandAsked d c)
   parts-at first f q h0 h7 c e =
       parts-is d (depth - 1) tag bs r (λ l x. q l x ∙ ap (λ (g : Demand). partsAsked g d l) f) h0 h7 c (deeper c e)
 
 -- Commands one after the other: what is asked from the place on is what is asked of all.
 
 pub record Parting (first others : Demand) (n : ℕ) (bs : List ℕ) (at : ℕ) (d : Demand) : Type 0 where
-  pub left : For (only anyTag (command n) 16 bs) (λ l. (m : List Command) × (Run (command n) m [] (drop at bs)) × (partsAsked first others l ≡ partsAsked d others m))
+  pub left : For (only passesAll (command n) 16 bs) (λ l. (m : List Command) × (Series (command n) m [] (drop at bs)) × (partsAsked first others l ≡ partsAsked d others m))
 
 pub parting-start : (first others : Demand) (n : ℕ) (bs : List ℕ) → Parting first others n bs 0 first
-parting-start first others n bs = record { left = λ l e. (l, only-run anyTag (command n) (command n) (λ t b a p x. x) 16 bs l e, refl) }
+parting-start first others n bs = record { left = λ l e. (l, only-series passesAll (command n) (command n) (λ t b a p x. x) 16 bs l e, refl) }
 
 module _ {first others : Demand} {n : ℕ} {bs : List ℕ} {at : ℕ} {d : Demand} (w : Parting first others n bs at d) where
-  pub parting-done : length bs ≤ at → For (only anyTag (command n) 16 bs) (λ l. true ≡ partsAsked first others l)
+  pub parting-done : length bs ≤ at → For (only passesAll (command n) 16 bs) (λ l. true ≡ partsAsked first others l)
   unfolding partsAsked
   parting-done h l e =
       let t = w .left l e in
-      sym (t .2 ∙ ap (partsAsked d others) (run-none (command n) bs at (t .0) (t .1) h))
+      sym (t .2 ∙ ap (partsAsked d others) (series-none (command n) bs at (t .0) (t .1) h))
 
-  pub parting-cut : at < length bs → field (drop at bs) ≡ none → For (only anyTag (command n) 16 bs) (λ l. false ≡ partsAsked first others l)
-  parting-cut h k l e = let t = w .left l e in absurd (run-there (command n) bs at (t .0) (t .1) h k)
+  pub parting-cut : at < length bs → field (drop at bs) ≡ none → For (only passesAll (command n) 16 bs) (λ l. false ≡ partsAsked first others l)
+  parting-cut h k l e = let t = w .left l e in absurd (series-there (command n) bs at (t .0) (t .1) h k)
 
   module _ {tag start end : ℕ} {part : List ℕ} {r : Bool} (h : at < length bs) (k : Lies bs at tag start end) (p : part ≡ take (end - start) (drop start bs)) (q : For (command n tag part) (λ c. r ≡ commandAsked d c)) where
     pub parting-next : r ≡ true → Parting first others n bs end others
@@ -168,15 +168,15 @@ module _ {first others : Demand} {n : ℕ} {bs : List ℕ} {at : ℕ} {d : Deman
     parting-next g = record {
       left = λ l e.
           let t = w .left l e in
-          let u = run-some (command n) bs at (t .0) (t .1) h tag start end k in
-          (u .others, u .run, t .2 ∙ ap (partsAsked d others) (u .parts) ∙ both-yes (commandAsked d (u .first)) (partsAsked others others (u .others)) (sym (q (u .first) (ap (command n tag) p ∙ u .read)) ∙ g));
+          let u = series-some (command n) bs at (t .0) (t .1) h tag start end k in
+          (u .others, u .series, t .2 ∙ ap (partsAsked d others) (u .parts) ∙ both-yes (commandAsked d (u .first)) (partsAsked others others (u .others)) (sym (q (u .first) (ap (command n tag) p ∙ u .read)) ∙ g));
     }
 
-    pub parting-stop : r ≡ false → For (only anyTag (command n) 16 bs) (λ l. false ≡ partsAsked first others l)
+    pub parting-stop : r ≡ false → For (only passesAll (command n) 16 bs) (λ l. false ≡ partsAsked first others l)
     unfolding partsAsked
     parting-stop g l e =
         let t = w .left l e in
-        let u = run-some (command n) bs at (t .0) (t .1) h tag start end k in
+        let u = series-some (command n) bs at (t .0) (t .1) h tag start end k in
         sym (t .2 ∙ ap (partsAsked d others) (u .parts) ∙ both-no (commandAsked d (u .first)) (partsAsked others others (u .others)) (sym (q (u .first) (ap (command n tag) p ∙ u .read)) ∙ g))
 
 -- What is asked of the first part, and of rule numbers.

@@ -4,7 +4,7 @@ use mathlib.Core.List.{List, [], _∷_}
 use Prim.Native.Nat.{ℕ}
 use lib.Dec.{eqb, ltb}
 use Rattle.meaning.specs.Basics.{choose, both, every}
-use Rattle.meaning.specs.Image.{Command, ruleSet, sequence, guarded, loop, skip, fail, break, Commands, stop, then}
+use Rattle.meaning.specs.Image.{Command, ruleSet, sequence, guarded, loop, skip, fail, break, Commands, noMore, then}
 use Rattle.meaning.specs.Tags.{loopTag, sequenceTag}
 use Rattle.command_checks.specs.declared.Demand.{Demand}
 use Rattle.command_checks.specs.declared.Demand.the-variants.{Rules, Breaks}
@@ -36,7 +36,7 @@ unfoldable mutual
   commandAsked d break = breakAsked d
 
   pub commandsAsked : Demand → Commands → Bool
-  commandsAsked d stop = true
+  commandsAsked d noMore = true
   commandsAsked d (then c cs) = both (commandAsked d c) (commandsAsked d cs)
 
 -- what is asked of the first of some commands, and of the others

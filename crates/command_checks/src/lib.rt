@@ -4,10 +4,10 @@ ghost use mathlib.Core.Path.{_≡_};
 ghost use lib.Dec.{ltb};
 ghost use lib.ListN.{length};
 ghost use Rattle.meaning.specs.Basics.{every};
-ghost use Rattle.meaning.specs.Image.{limits, only, anyTag, command, program};
+ghost use Rattle.meaning.specs.Image.{limits, only, passesAll, command, program};
 ghost use Rattle.meaning.specs.References.{rulesExist};
 ghost use Rattle.meaning.specs.Placement.{placement};
-ghost use Rattle.parts.specs.Runs.{For};
+ghost use Rattle.parts.specs.Series.{For};
 ghost use Rattle.command_checks.specs.Asked.{numbersAsked, breakAsked, inBody, inGuard, ofFirst, commandAsked, partsAsked};
 use fields::Found;
 use meaning::tags::Limit;
@@ -104,7 +104,7 @@ fn command_holds(demand: Demand, tag: u8, p: &[u8], depth: usize) -> bool
 
 // Commands one after the other: what is asked of the first, and of the others.
 fn commands_hold(first: Demand, others: Demand, p: &[u8], depth: usize) -> bool
-    ensures { λ r. ⌜ For (only anyTag (command depth) (limits .commands) (now (p .entry))) (λ l. r ≡ partsAsked first others l) ⌝ }
+    ensures { λ r. ⌜ For (only passesAll (command depth) (limits .commands) (now (p .entry))) (λ l. r ≡ partsAsked first others l) ⌝ }
 {
     let mut at: usize = 0;
     let mut demand = first;

@@ -1,5 +1,5 @@
 -- What is known of the parts of a command that is known: its row of commands by its tag, a command of a row by its number,
--- and the commands of a row from a place on. Rests on Cycle, on parts' Runs and on fields' Parsed.
+-- and the commands of a row from a place on. Rests on Cycle, on parts' Series and on fields' Parsed.
 use mathlib.Core.Path.{_≡_, refl, sym, _∙_, ap}
 use mathlib.Core.Bool.{Bool, true, false}
 use mathlib.Core.Option.{Option, some}
@@ -9,7 +9,7 @@ use native.Mathlib.Omega.{arith}
 use lib.ListN.{length, length-take}
 use Rattle.meaning.specs.Tags.{breakTag, ifTag, loopTag, ruleSetTag, sequenceTag, tryTag}
 use Rattle.meaning.specs.Basics.{choose, both, every}
-use Rattle.meaning.specs.Image.{limits, Command, ruleSet, sequence, guarded, loop, skip, fail, break, only, anyTag, inOrder, command}
+use Rattle.meaning.specs.Image.{limits, Command, ruleSet, sequence, guarded, loop, skip, fail, break, only, passesAll, inOrder, command}
 use Rattle.meaning.specs.References.{rulesExist, allRulesExist, references}
 use Rattle.meaning.specs.Laws.Tests.{both-true, every-true}
 use Rattle.fields.specs.Image.{field-is}
@@ -20,7 +20,7 @@ use Rattle.fields.specs.Fields.{fieldAt, onward, nthField}
 use Rattle.fields.specs.Laws.{found-field}
 use Rattle.fields.specs.declared.Found.{Found}
 use Rattle.fields.specs.declared.Found.the-variants.{Field, Short, End as Nothing}
-use Rattle.parts.specs.Runs.{Run, only-run, partOf, nthPart, nthTag, nth-item, nth-inside}
+use Rattle.parts.specs.Series.{Series, only-series, partOf, nthPart, nthTag, nth-item, nth-inside}
 use Rattle.parts.specs.Rows.{main-is}
 use Rattle.calling.specs.Called.{Listed}
 use Rattle.commands.specs.Program.{Runnable}
@@ -33,8 +33,8 @@ unfolding allRulesExist inOrder every
 exist-row n [] = refl
 exist-row n (c ∷ l) = ap (both (rulesExist c n)) (exist-row n l)
 
-pub row-run : (n : ℕ) (bs : List ℕ) (l : List Command) → only anyTag (command n) (limits .commands) bs ≡ some l → Run (command n) l [] bs
-row-run n bs l e = only-run anyTag (command n) (command n) (λ t b a p x. x) (limits .commands) bs l e
+pub row-series : (n : ℕ) (bs : List ℕ) (l : List Command) → only passesAll (command n) (limits .commands) bs ≡ some l → Series (command n) l [] bs
+row-series n bs l e = only-series passesAll (command n) (command n) (λ t b a p x. x) (limits .commands) bs l e
 
 -- the command of an end that comes at once
 abbrev pub leafOf : End → Command
@@ -76,7 +76,7 @@ module _ {image : List ℕ} {tag : ℕ} {bs : List ℕ} (w : Known image tag bs)
         programmed = w .programmed;
         deep = w .deep - 1;
         cmds = s .0;
-        run = row-run (w .deep - 1) bs (s .0) (s .1);
+        series = row-series (w .deep - 1) bs (s .0) (s .1);
         exist = sym (exist-row (length (w .programmed .tree .rules)) (s .0)) ∙ exist-as (sequence (inOrder (s .0))) (s .4);
         enough = s .2;
       }
@@ -87,7 +87,7 @@ module _ {image : List ℕ} {tag : ℕ} {bs : List ℕ} (w : Known image tag bs)
 
   -- If and try.
 
-  pub three : (keep : Bool) → tag ≡ choose keep tryTag ifTag → (a b c : Command) × (only anyTag (command (w .deep - 1)) (limits .commands) bs ≡ some (a ∷ b ∷ c ∷ [])) × (w .cmd ≡ guarded keep a b c)
+  pub three : (keep : Bool) → tag ≡ choose keep tryTag ifTag → (a b c : Command) × (only passesAll (command (w .deep - 1)) (limits .commands) bs ≡ some (a ∷ b ∷ c ∷ [])) × (w .cmd ≡ guarded keep a b c)
   unfolding choose
   three true h = try-read (w .deep - 1) tag bs (w .cmd) deeper h
   three false h = if-read (w .deep - 1) tag bs (w .cmd) deeper h
@@ -103,7 +103,7 @@ module _ {image : List ℕ} {tag : ℕ} {bs : List ℕ} (w : Known image tag bs)
         programmed = w .programmed;
         deep = w .deep - 1;
         cmds = s .0 ∷ s .1 ∷ s .2 ∷ [];
-        run = row-run (w .deep - 1) bs _ (s .3);
+        series = row-series (w .deep - 1) bs _ (s .3);
         exist = rw (e .0, f .0, f .1);
         enough = omega arith;
       }
@@ -122,7 +122,7 @@ module _ {image : List ℕ} {tag : ℕ} {bs : List ℕ} (w : Known image tag bs)
         programmed = w .programmed;
         deep = w .deep - 1;
         cmds = s .0 ∷ [];
-        run = row-run (w .deep - 1) bs _ (s .1);
+        series = row-series (w .deep - 1) bs _ (s .1);
         exist = rw (exist-as (loop (s .0)) (s .2));
         enough = omega arith;
       }
@@ -162,8 +162,8 @@ module _ (bs : List ℕ) where
   part-short n Nothing q h = h
 
 -- a row of at least one command has bytes
-row-bytes : {A : Type 0} (item : ℕ → List ℕ → Option A) (l : List A) (bs : List ℕ) → Run item l [] bs → 0 < length l → 0 < length bs
-unfolding Run
+row-bytes : {A : Type 0} (item : ℕ → List ℕ → Option A) (l : List A) (bs : List ℕ) → Series item l [] bs → 0 < length l → 0 < length bs
+unfolding Series
 row-bytes item [] bs r h = absurd (omega arith)
 row-bytes item (a ∷ l) bs r h = omega (arith, field-is bs (r .whole) (r .there) .long)
 
@@ -177,12 +177,12 @@ module _ {least : ℕ} {image bs : List ℕ} (w : Row least image bs) (i : ℕ) 
         programmed = w .programmed;
         deep = w .deep;
         cmd = at w i;
-        is = rw (q, p) (nth-item bs (command (w .deep)) (w .cmds) i skip (w .run) k);
+        is = rw (q, p) (nth-item bs (command (w .deep)) (w .cmds) i skip (w .series) k);
         exist = every-true (λ c. rulesExist c (length (w .programmed .tree .rules))) (w .cmds) skip (w .exist) i k;
       }
 
   pub nth-shorter : length part < length bs
-  nth-shorter = rw p (part-short bs i (nthField i bs 0) refl (row-bytes _ _ _ (w .run) (omega (arith, w .enough))))
+  nth-shorter = rw p (part-short bs i (nthField i bs 0) refl (row-bytes _ _ _ (w .series) (omega (arith, w .enough))))
 
 -- The main command.
 

@@ -24,7 +24,7 @@ use Rattle.meaning.specs.declared.Stop.the-variants.{OutOfFuel}
 use Rattle.meaning.specs.declared.End.{End}
 use Rattle.meaning.specs.declared.End.the-variants.{Done, Failed, Broke, Stopped}
 use Rattle.fields.specs.Laws.{Lies}
-use Rattle.parts.specs.Runs.{Run, Taken, run-none, run-some, run-there, nthPart, nthTag}
+use Rattle.parts.specs.Series.{Series, Taken, series-none, series-some, series-there, nthPart, nthTag}
 use Rattle.ledger.specs.Running.{ledgerOf, stateOf, Running, outOf}
 use Rattle.ledger.specs.Whole.{records-count, running-legal}
 use Rattle.calling.specs.Called.{Called}
@@ -149,7 +149,7 @@ module _ (L : Layout) where
 
   pub record Left {image bs : List ℕ} (room : ℕ) (place : ℕ) (s₀ s : State) (w : Row 1 image bs) : Type 0 where
     pub rest : List Command
-    pub run : Run (command (w .deep)) rest [] (drop place bs)
+    pub series : Series (command (w .deep)) rest [] (drop place bs)
     pub exist : every (λ c. rulesExist c (length (w .programmed .tree .rules))) rest ≡ true
     pub same : works (L .atoms) room (w .programmed .tree .rules) (inOrder rest) s ≡ runsRow L room w s₀
 
@@ -161,7 +161,7 @@ module _ (L : Layout) where
     pub left : (w : Row 1 image bs) → Left (journalRoom L journal₀) place (stateOf L nodes₀ edges₀ journal₀ t₀) (stateOf L nodes edges journal t) w
 
   pub row-start : {image bs nodes edges journal : List ℕ} {t : Tally} → Begun L nodes edges journal t → Going image bs nodes edges journal t 0 nodes edges journal t
-  row-start b = record { begun = b; sameNodes = refl; sameEdges = refl; sameJournal = refl; left = λ w. record { rest = w .cmds; run = w .run; exist = w .exist; same = refl } }
+  row-start b = record { begun = b; sameNodes = refl; sameEdges = refl; sameJournal = refl; left = λ w. record { rest = w .cmds; series = w .series; exist = w .exist; same = refl } }
 
   module _ {image bs nodes₀ edges₀ journal₀ : List ℕ} {t₀ : Tally} {place : ℕ} {nodes edges journal : List ℕ} {t : Tally} (g : Going image bs nodes₀ edges₀ journal₀ t₀ place nodes edges journal t) where
     pub row-over : length bs ≤ place → Comes L (Row 1 image bs) (runsRow L) nodes₀ edges₀ journal₀ t₀ (record { end = Done; tally = t }) nodes edges journal
@@ -170,18 +170,18 @@ module _ (L : Layout) where
           right = λ w.
               let l = g .left w in
               row-done (L .atoms) (journalRoom L journal₀) (w .programmed .tree .rules) _
-              ∙ ap (λ (x : List Command). works (L .atoms) (journalRoom L journal₀) (w .programmed .tree .rules) (inOrder x) (stateOf L nodes edges journal t)) (sym (run-none (command (w .deep)) bs place (l .rest) (l .run) h))
+              ∙ ap (λ (x : List Command). works (L .atoms) (journalRoom L journal₀) (w .programmed .tree .rules) (inOrder x) (stateOf L nodes edges journal t)) (sym (series-none (command (w .deep)) bs place (l .rest) (l .series) h))
               ∙ l .same;
           running = g .begun .running;
         }
 
     -- a row that has not ended has a field
     pub row-cut : Row 1 image bs → place < length bs → field (drop place bs) ≡ none → ⊥
-    row-cut w h k = run-there (command (w .deep)) bs place (g .left w .rest) (g .left w .run) h k
+    row-cut w h k = series-there (command (w .deep)) bs place (g .left w .rest) (g .left w .series) h k
 
     module _ {tag start end : ℕ} {part : List ℕ} (h : place < length bs) (k : Lies bs place tag start end) (p : part ≡ take (end - start) (drop start bs)) where
       pub taken : (w : Row 1 image bs) → Taken (command (w .deep)) (g .left w .rest) bs tag start end
-      taken w = run-some (command (w .deep)) bs place (g .left w .rest) (g .left w .run) h tag start end k
+      taken w = series-some (command (w .deep)) bs place (g .left w .rest) (g .left w .series) h tag start end k
 
       pub taken-exist : (w : Row 1 image bs)
           → (rulesExist (taken w .first) (length (w .programmed .tree .rules)) ≡ true)
@@ -224,7 +224,7 @@ module _ (L : Layout) where
               left = λ w.
                   record {
                     rest = taken w .others;
-                    run = taken w .run;
+                    series = taken w .series;
                     exist = taken-exist w .1;
                     same = row-more (L .atoms) (journalRoom L journal₀) (w .programmed .tree .rules) (taken w .first) (taken w .others) _ _ (came w) (done-is (r .end) d) ∙ whole w;
                   };

@@ -1,5 +1,5 @@
 -- The command cycle over lent bytes: what is known of the parts of a program before they are run, and what is left after.
--- Rests on calling's Called, on parts' Runs and on the meaning's Commands.
+-- Rests on calling's Called, on parts' Series and on the meaning's Commands.
 use mathlib.Core.Path.{_≡_}
 use mathlib.Core.Bool.{Bool, true}
 use mathlib.Core.Option.{some}
@@ -13,7 +13,7 @@ use Rattle.meaning.specs.Commands.{State, Out, work, works, exec}
 use Rattle.meaning.specs.Calls.{journalRoom, mostFuel}
 use Rattle.meaning.specs.declared.Layout.{Layout}
 use Rattle.meaning.specs.declared.Tally.{Tally}
-use Rattle.parts.specs.Runs.{Run}
+use Rattle.parts.specs.Series.{Series}
 use Rattle.ledger.specs.Running.{stateOf, Running, outOf}
 use Rattle.calling.specs.Called.{Programmed}
 use Rattle.meaning.specs.declared.Ran.{Ran}
@@ -33,7 +33,7 @@ pub record Row (least : ℕ) (image bs : List ℕ) : Type 0 where
   pub programmed : Programmed image
   pub deep : ℕ
   pub cmds : List Command
-  pub run : Run (command deep) cmds [] bs
+  pub series : Series (command deep) cmds [] bs
   pub exist : every (λ c. rulesExist c (length (programmed .tree .rules))) cmds ≡ true
   pub enough : least ≤ length cmds
 

@@ -9,8 +9,8 @@ use lib.ListN.{length, replicate, length-replicate, length-append}
 use Rattle.meaning.specs.Layout.{recordLength}
 use Rattle.meaning.specs.Commands.{State, Out, exec}
 use Rattle.meaning.specs.Calls.{Lent}
-use Rattle.demands.specs.Demands.{Buffer, Lendable, Outcome, Interpreter, refusal, start, leaves, stating, recordsIn, lentBack, Restored, Demand1, Demand2}
-use Rattle.demands.specs.Ours.{ours, good, good-starts, Good, end, ours-leaves}
+use Rattle.demands.specs.Demands.{Buffer, Lendable, Outcome, Interpreter, runRefusedWith, start, outcomeAt, reporting, recordsIn, lentAfter, Restored, Demand1, Demand2}
+use Rattle.demands.specs.Ours.{ours, good, good-starts, Good, end, ours-outcome}
 use Rattle.demands.specs.First.{run-settled}
 use Rattle.demands.specs.OneOutcome.{run-one}
 use Rattle.meaning.specs.Numbers.{bytes}
@@ -63,37 +63,37 @@ module _ (L : Layout) (x : Lent) (js rs : List ℕ) (size : length js ≡ length
         placement = a .placement;
       }
 
-  leaves-with : (e : End) (t : State) → leaves L with e t ≡ leaves L x e t
+  leaves-with : (e : End) (t : State) → outcomeAt L with e t ≡ outcomeAt L x e t
   leaves-with Done t = rw size
   leaves-with Failed t = rw size
   leaves-with Broke t = rw size
   leaves-with (Stopped w) t = rw size
 
   -- a started run of ours does not look at what journal and report held
-  ours-with : refusal L x ≡ none → ours L .run with ≡ ours L .run x
+  ours-with : runRefusedWith L x ≡ none → ours L .run with ≡ ours L .run x
   ours-with e =
       let a = good L x e in
       let b = accepted-with a in
       let q : end L with (a .tree) ≡ end L x (a .tree) =
       ap (λ (n : ℕ). exec (L .atoms) (n / recordLength L) (a .tree .rules) (a .tree .main) (start L x)) size in
-      ours-leaves L with (a .tree) (good-starts L with b) (a .form)
+      ours-outcome L with (a .tree) (good-starts L with b) (a .form)
       ∙ leaves-with (end L with (a .tree) .end) (end L with (a .tree) .state)
-      ∙ ap (λ (o : Out). leaves L x (o .end) (o .state)) q
-      ∙ sym (ours-leaves L x (a .tree) e (a .form))
+      ∙ ap (λ (o : Out). outcomeAt L x (o .end) (o .state)) q
+      ∙ sym (ours-outcome L x (a .tree) e (a .form))
 
 pub run-again : (L : Layout) → Numbered L → (I : Interpreter) → Demand1 L I → Demand2 L I → (x : Lent) → Lendable x → (report : List ℕ)
     → Buffer report → length report ≡ 8 → I .run x .answer ≡ 0
-    → I .run (again x (I .undo (lentBack (I .run x) report))) ≡ I .run x
+    → I .run (again x (I .undo (lentAfter (I .run x) report))) ≡ I .run x
 run-again L k I d d′ x b report c l z =
     let o = run-one L k I d d′ x b in
     let r = d′ .restores x b report c l z in
     let n = recordsIn (I .run x) in
     let js : List ℕ = replicate (length (x .journal)) 0 in
     let e = run-settled L x (omega (arith, ap (λ (q : Outcome). q .answer) o)) in
-    let i : again x (I .undo (lentBack (I .run x) report)) ≡ with L x js (stating 0 n) (length-replicate _ _) (stated n) =
+    let i : again x (I .undo (lentAfter (I .run x) report)) ≡ with L x js (reporting 0 n) (length-replicate _ _) (stated n) =
     λ i. record { nodes = r .nodes i; edges = r .edges i; journal = r .journal i; image = x .image; fuel = x .fuel; report = r .report i } in
     run-one L k I d d′ _ (again-lendable x b n _ r) ∙ ap (ours L .run) i
-    ∙ ours-with L x js (stating 0 n) (length-replicate _ _) (stated n) e ∙ sym o
+    ∙ ours-with L x js (reporting 0 n) (length-replicate _ _) (stated n) e ∙ sym o
   where
-    stated : (n : ℕ) → length (stating 0 n) ≡ 8
+    stated : (n : ℕ) → length (reporting 0 n) ≡ 8
     stated n = simp (length-append, length-bytes)

@@ -13,9 +13,9 @@ use Rattle.meaning.specs.Basics.{both, every, clauses}
 use Rattle.meaning.specs.Layout.{base, recordLength}
 use Rattle.meaning.specs.Image.{Rule, Program, program, Command}
 use Rattle.meaning.specs.Commands.{State, Out}
-use Rattle.meaning.specs.Calls.{refused, runRefusal, journalRoom, finished, Lent, LentBack}
+use Rattle.meaning.specs.Calls.{refused, runRefusal, journalRoom, finished, Lent, LentUndo}
 use Rattle.meaning.specs.ProvedSet.{Expected, Case, given, cases, proved-set, plainNode, onPlainNode, results, skipField}
-use Rattle.demands.specs.Demands.{Outcome, Interpreter, In, Buffer, Lendable, LendableBack, start, Demand2, Demand3}
+use Rattle.demands.specs.Demands.{Outcome, Interpreter, In, Buffer, Lendable, LendableUndo, start, Demand2, Demand3}
 use Rattle.demands.specs.Ours.{outcome, ours}
 use Rattle.demands.specs.First.{run-settled}
 use Rattle.laws.specs.Undoing.{base-numbered}
@@ -96,8 +96,8 @@ lendable x e =
       report = buffer (x .report) (g .0);
     }
 
-abbrev pub canBeLentBack : LentBack → Bool
-canBeLentBack y =
+abbrev pub canBeLentUndo : LentUndo → Bool
+canBeLentUndo y =
     clauses
     (isBuffer (y .nodes)
     ∷ isBuffer (y .edges)
@@ -106,9 +106,9 @@ canBeLentBack y =
     ∷ isBuffer (y .report)
     ∷ [])
 
-pub lendableBack : (y : LentBack) → canBeLentBack y ≡ true → LendableBack y
+pub lendableUndo : (y : LentUndo) → canBeLentUndo y ≡ true → LendableUndo y
 unfolding clauses
-lendableBack y e =
+lendableUndo y e =
     let a = both-true _ _ e in
     let b = both-true _ _ (a .1) in
     let c = both-true _ _ (b .1) in

@@ -17,8 +17,8 @@ use Rattle.meaning.specs.Numbers.{number, bytes}
 use Rattle.meaning.specs.Layout.{nodeLength, edgeLength, recordLength, kindPlace, slotOf, fitsTable, hostOf, writeNodes, writeEdges, writeRecord, keepsLayout}
 use Rattle.meaning.specs.Image.{Program, limits, program}
 use Rattle.meaning.specs.Commands.{State, beginning}
-use Rattle.demands.specs.Inference.{Runs}
-use Rattle.meaning.specs.Calls.{Lent, LentBack, mostFuel, referencesHold, placementHolds, keepsRecords}
+use Rattle.demands.specs.Inference.{Executes}
+use Rattle.meaning.specs.Calls.{Lent, LentUndo, mostFuel, referencesHold, placementHolds, keepsRecords}
 use Rattle.laws.specs.Numbers.{Bytes}
 use Rattle.meaning.specs.declared.Layout.{Layout}
 use Rattle.meaning.specs.declared.Stop.{Stop}
@@ -41,7 +41,7 @@ pub record Lendable (x : Lent) : Type 0 where
   pub fuel : x .fuel < 2 ^ 32
   pub report : Buffer (x .report)
 
-pub record LendableBack (y : LentBack) : Type 0 where
+pub record LendableUndo (y : LentUndo) : Type 0 where
   pub nodes : Buffer (y .nodes)
   pub edges : Buffer (y .edges)
   pub journal : Buffer (y .journal)
@@ -60,7 +60,7 @@ pub record Outcome : Type 0 where
 
 pub record Interpreter : Type 0 where
   pub run : Lent → Outcome
-  pub undo : LentBack → Outcome
+  pub undo : LentUndo → Outcome
 
 -- The published table: the answers of run and those of undo, and of them the ones that end a run that has started.
 
@@ -82,8 +82,8 @@ abbrev pub In : ℕ → List ℕ → Type 0
 In n l = absent n l ≡ false
 
 -- the report: steps and records, four bytes each
-abbrev pub stating : ℕ → ℕ → List ℕ
-stating steps records = bytes 4 steps ++ bytes 4 records
+abbrev pub reporting : ℕ → ℕ → List ℕ
+reporting steps records = bytes 4 steps ++ bytes 4 records
 
 -- a refusal touches no table and no journal; 9 leaves the report, the others write zeros in it
 pub record Untouched (ns es js rs : List ℕ) (o : Outcome) : Type 0 where
@@ -91,7 +91,7 @@ pub record Untouched (ns es js rs : List ℕ) (o : Outcome) : Type 0 where
   pub edges : o .edges ≡ es
   pub journal : o .journal ≡ js
   pub nine : o .answer ≡ 9 → o .report ≡ rs
-  pub others : (o .answer ≡ 9 → ⊥) → o .report ≡ stating 0 0
+  pub others : (o .answer ≡ 9 → ⊥) → o .report ≡ reporting 0 0
 
 -- the graph as it came, the journal cleared, the steps reported and 0 records
 pub record GivenBack (x : Lent) (o : Outcome) : Type 0 where
@@ -99,15 +99,15 @@ pub record GivenBack (x : Lent) (o : Outcome) : Type 0 where
   pub edges : o .edges ≡ x .edges
   pub journal : o .journal ≡ replicate (length (x .journal)) 0
   pub steps : ℕ
-  pub report : o .report ≡ stating steps 0
+  pub report : o .report ≡ reporting steps 0
 
 -- the records that a report states
 abbrev pub recordsIn : Outcome → ℕ
 recordsIn o = number (drop 4 (o .report))
 
 -- what undo is lent after a run: what the run left, and as many records as its report states
-abbrev pub lentBack : Outcome → List ℕ → LentBack
-lentBack o report =
+abbrev pub lentAfter : Outcome → List ℕ → LentUndo
+lentAfter o report =
     record { nodes = o .nodes; edges = o .edges; journal = o .journal; count = recordsIn o; report = report }
 
 -- both tables as they came, byte for byte, a cleared journal, and the count reported
@@ -116,7 +116,7 @@ pub record Restored (x : Lent) (count : ℕ) (o : Outcome) : Type 0 where
   pub nodes : o .nodes ≡ x .nodes
   pub edges : o .edges ≡ x .edges
   pub journal : o .journal ≡ replicate (length (x .journal)) 0
-  pub report : o .report ≡ stating 0 count
+  pub report : o .report ≡ reporting 0 count
 
 -- a table with slots of w bytes, the first w of the bytes b in slot i
 abbrev pub withSlot : ℕ → ℕ → List ℕ → List ℕ → List ℕ
@@ -134,8 +134,8 @@ module _ (L : Layout) where
       ∷ []
 
   -- the lowest number from 9 to 18 that applies; none where the run starts
-  abbrev pub refusal : Lent → Option ℕ
-  refusal x =
+  abbrev pub runRefusedWith : Lent → Option ℕ
+  runRefusedWith x =
       firstFailing
       (lengths (x .nodes) (x .edges) (x .journal) (x .report)
       ++ (leb (x .fuel) mostFuel, 13)
@@ -146,8 +146,8 @@ module _ (L : Layout) where
       ∷ (placementHolds (program (x .image)), 18)
       ∷ [])
 
-  abbrev pub undoRefusal : LentBack → Option ℕ
-  undoRefusal y =
+  abbrev pub undoRefusedWith : LentUndo → Option ℕ
+  undoRefusedWith y =
       firstFailing
       (lengths (y .nodes) (y .edges) (y .journal) (y .report)
       ++ (keepsRecords L (y .nodes) (y .edges) (y .journal) (y .count), 20)
@@ -173,28 +173,28 @@ module _ (L : Layout) where
       (storedBack journal n nodes (withSlot (edgeLength L) (slotOf L r) (before r) edges))
 
   -- the counted records are stored back, and are zeros then; 0 steps and the count are reported
-  pub record StoredBack (y : LentBack) (o : Outcome) : Type 0 where
+  pub record StoredBack (y : LentUndo) (o : Outcome) : Type 0 where
     pub answer : o .answer ≡ 0
     pub nodes : o .nodes ≡ storedBack (y .journal) (y .count) (y .nodes) (y .edges) .0
     pub edges : o .edges ≡ storedBack (y .journal) (y .count) (y .nodes) (y .edges) .1
     pub journal : o .journal ≡ replicate (y .count * recordLength L) 0 ++ drop (y .count * recordLength L) (y .journal)
-    pub report : o .report ≡ stating 0 (y .count)
+    pub report : o .report ≡ reporting 0 (y .count)
 
   -- 1. Every program, graph, table and allowance gets an answer from the published table. The entry point itself refuses bad
   -- input. A refusal before the start changes no table or journal; a run that starts and ends in anything but a result gives
   -- the graph back byte for byte, with the journal cleared. An accepted undo stores the counted records back.
   pub record Demand1 (I : Interpreter) : Type 0 where
     pub answers : (x : Lent) → Lendable x → In (I .run x .answer) runTable
-    pub refuses : (x : Lent) → Lendable x → (n : ℕ) → refusal x ≡ some n → I .run x .answer ≡ n
-    pub starts : (x : Lent) → Lendable x → refusal x ≡ none → I .run x .answer ≤ 7
+    pub refuses : (x : Lent) → Lendable x → (n : ℕ) → runRefusedWith x ≡ some n → I .run x .answer ≡ n
+    pub starts : (x : Lent) → Lendable x → runRefusedWith x ≡ none → I .run x .answer ≤ 7
     pub untouched : (x : Lent) → Lendable x → 9 ≤ I .run x .answer
         → Untouched (x .nodes) (x .edges) (x .journal) (x .report) (I .run x)
     pub givesBack : (x : Lent) → Lendable x → 1 ≤ I .run x .answer → I .run x .answer ≤ 7 → GivenBack x (I .run x)
-    pub undoAnswers : (y : LentBack) → LendableBack y → In (I .undo y .answer) undoTable
-    pub undoRefuses : (y : LentBack) → LendableBack y → (n : ℕ) → undoRefusal y ≡ some n → I .undo y .answer ≡ n
-    pub undoUntouched : (y : LentBack) → LendableBack y → 9 ≤ I .undo y .answer
+    pub undoAnswers : (y : LentUndo) → LendableUndo y → In (I .undo y .answer) undoTable
+    pub undoRefuses : (y : LentUndo) → LendableUndo y → (n : ℕ) → undoRefusedWith y ≡ some n → I .undo y .answer ≡ n
+    pub undoUntouched : (y : LentUndo) → LendableUndo y → 9 ≤ I .undo y .answer
         → Untouched (y .nodes) (y .edges) (y .journal) (y .report) (I .undo y)
-    pub undoes : (y : LentBack) → LendableBack y → undoRefusal y ≡ none → StoredBack y (I .undo y)
+    pub undoes : (y : LentUndo) → LendableUndo y → undoRefusedWith y ≡ none → StoredBack y (I .undo y)
 
   -- What a run of the meaning leaves.
 
@@ -204,34 +204,34 @@ module _ (L : Layout) where
 
   -- the program's command, by the rules of inference, ends in e at t
   abbrev pub Means : Lent → Program → End → State → Type 0
-  Means x p e t = Runs (L .atoms) (length (x .journal) / recordLength L) (p .rules) (p .main) (start x) e t
+  Means x p e t = Executes (L .atoms) (length (x .journal) / recordLength L) (p .rules) (p .main) (start x) e t
 
-  abbrev pub back : Lent → ℕ → ℕ → Outcome
-  back x answer steps =
-      record { answer = answer; nodes = x .nodes; edges = x .edges; journal = replicate (length (x .journal)) 0; report = stating steps 0 }
+  abbrev pub asItCame : Lent → ℕ → ℕ → Outcome
+  asItCame x answer steps =
+      record { answer = answer; nodes = x .nodes; edges = x .edges; journal = replicate (length (x .journal)) 0; report = reporting steps 0 }
 
   -- after a result the graph at t, the records from the front with zeros behind them, and both numbers; else what came.
   -- No break reaches the end of a program that keeps the placement.
-  abbrev pub leaves : Lent → End → State → Outcome
-  leaves x Done t =
+  abbrev pub outcomeAt : Lent → End → State → Outcome
+  outcomeAt x Done t =
       record {
         answer = 0;
         nodes = writeNodes L (t .ledger .host .nodes);
         edges = writeEdges L (t .ledger .host .edges);
         journal = padded (length (x .journal)) (concat (map (writeRecord L) (reverse (t .ledger .journal))));
-        report = stating (t .steps) (length (t .ledger .journal));
+        report = reporting (t .steps) (length (t .ledger .journal));
       }
-  leaves x Failed t = back x 1 (t .steps)
-  leaves x Broke t = back x 1 (t .steps)
-  leaves x (Stopped w) t = back x (stopAnswer w) (t .steps)
+  outcomeAt x Failed t = asItCame x 1 (t .steps)
+  outcomeAt x Broke t = asItCame x 1 (t .steps)
+  outcomeAt x (Stopped w) t = asItCame x (stopAnswer w) (t .steps)
 
   -- 2. Commands mean what GP 2 says, with document 01's fixed order of choice: a run that starts leaves what the rules of
   -- inference say of its program. Undoing the journal of a result restores the graph that came in.
   pub record Demand2 (I : Interpreter) : Type 0 where
-    pub means : (x : Lent) → Lendable x → (p : Program) → refusal x ≡ none → program (x .image) ≡ some p
-        → (e : End) × (t : State) × Means x p e t × (I .run x ≡ leaves x e t)
+    pub means : (x : Lent) → Lendable x → (p : Program) → runRefusedWith x ≡ none → program (x .image) ≡ some p
+        → (e : End) × (t : State) × Means x p e t × (I .run x ≡ outcomeAt x e t)
     pub restores : (x : Lent) → Lendable x → (report : List ℕ) → Buffer report → length report ≡ 8
-        → I .run x .answer ≡ 0 → Restored x (recordsIn (I .run x)) (I .undo (lentBack (I .run x) report))
+        → I .run x .answer ≡ 0 → Restored x (recordsIn (I .run x)) (I .undo (lentAfter (I .run x) report))
 
   -- y is x with any fuel, further free slots behind the tables and any longer journal, within the limits
   pub record Roomier (x y : Lent) : Type 0 where
@@ -249,7 +249,7 @@ module _ (L : Layout) where
     pub reportFits : length (y .report) ≡ 8
 
   -- o is what was left of x, and q of y: the same, with the added room free behind
-  pub record Same (x y : Lent) (more : Roomier x y) (o q : Outcome) : Type 0 where
+  pub record SameWithRoom (x y : Lent) (more : Roomier x y) (o q : Outcome) : Type 0 where
     pub answer : q .answer ≡ o .answer
     pub report : q .report ≡ o .report
     pub nodes : q .nodes ≡ o .nodes ++ replicate (more .nodesMore * nodeLength L) 0
@@ -272,9 +272,9 @@ module _ (L : Layout) where
   pub record Settled (I : Interpreter) (x : Lent) : Type 0 where
     pub s : ℕ
     pub records : ℕ
-    pub report : I .run x .report ≡ stating s records
+    pub report : I .run x .report ≡ reporting s records
     pub entered : Entered x s
-    pub enough : (y : Lent) (more : Roomier x y) → s ≤ y .fuel → Same x y more (I .run x) (I .run y)
+    pub enough : (y : Lent) (more : Roomier x y) → s ≤ y .fuel → SameWithRoom x y more (I .run x) (I .run y)
     pub short : (y : Lent) (more : Roomier x y) → y .fuel < s → I .run y .answer ≡ 2
 
   pub record Demand3 (I : Interpreter) : Type 0 where

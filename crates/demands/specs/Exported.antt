@@ -8,37 +8,37 @@ use mathlib.Core.List.{List, [], _∷_}
 use Prim.Native.Nat.{ℕ}
 use lib.ListN.{length}
 use Rattle.meaning.specs.Layout.{base}
-use Rattle.meaning.specs.Calls.{Lent, LentBack, Left, Leaves, run, undo, RunPromise, UndoPromise}
-use Rattle.demands.specs.Demands.{Buffer, Lendable, LendableBack, Outcome, Interpreter, In, lentBack, Same, Demand1, Demand2, Demand3}
+use Rattle.meaning.specs.Calls.{Lent, LentUndo, Returned, Yields, run, undo, RunPromise, UndoPromise}
+use Rattle.demands.specs.Demands.{Buffer, Lendable, LendableUndo, Outcome, Interpreter, In, lentAfter, SameWithRoom, Demand1, Demand2, Demand3}
 use Rattle.demands.specs.Ours.{outcome, ours}
 use Rattle.demands.specs.OneOutcome.{run-one, undo-one}
 use Rattle.demands.specs.Met.{met}
 use Rattle.demands.specs.Lending.{left-lendable}
 use Rattle.demands.specs.Again.{again, run-again}
-use Rattle.meaning.specs.Laws.Promises.{leaves-one}
+use Rattle.meaning.specs.Laws.Promises.{yields-one}
 use Rattle.laws.specs.Undoing.{base-numbered}
 
 pub record Exported (I : Interpreter) : Type 0 where
   pub run : (x : Lent) → Lendable x
       → let o : Outcome = I .run x in RunPromise x (o .answer) (o .nodes) (o .edges) (o .journal) (o .report)
-  pub undo : (y : LentBack) → LendableBack y
+  pub undo : (y : LentUndo) → LendableUndo y
       → let o : Outcome = I .undo y in UndoPromise y (o .answer) (o .nodes) (o .edges) (o .journal) (o .report)
 
 -- A promise admits one outcome, and there is one.
 
 -- the outcome is what a call leaves, as the promises say it
-abbrev pub LeftBy : Left → Outcome → Type 0
-LeftBy l o = Leaves l (o .answer) (o .nodes) (o .edges) (o .journal) (o .report)
+abbrev pub Promised : Returned → Outcome → Type 0
+Promised l o = Yields l (o .answer) (o .nodes) (o .edges) (o .journal) (o .report)
 
-pub promise-one : (l : Left) (o q : Outcome) → LeftBy l o → LeftBy l q → o ≡ q
+pub promise-one : (l : Returned) (o q : Outcome) → Promised l o → Promised l q → o ≡ q
 promise-one l o q h k =
-    let e = leaves-one l _ _ _ _ _ _ _ _ _ _ h k in
+    let e = yields-one l _ _ _ _ _ _ _ _ _ _ h k in
     λ i. record { answer = e .0 i; nodes = e .1 i; edges = e .2 i; journal = e .3 i; report = e .4 i }
 
-pub promise-some : (l : Left) → LeftBy l (outcome l)
-promise-some l = record { numbered = refl; nodesLeft = refl; edgesLeft = refl; journalLeft = refl; reportLeft = refl }
+pub promise-some : (l : Returned) → Promised l (outcome l)
+promise-some l = record { numbered = refl; nodesReturned = refl; edgesReturned = refl; journalReturned = refl; reportReturned = refl }
 
-promise-is : (l : Left) (o : Outcome) → LeftBy l o → o ≡ outcome l
+promise-is : (l : Returned) (o : Outcome) → Promised l o → o ≡ outcome l
 promise-is l o k = promise-one l o (outcome l) k (promise-some l)
 
 pub ours-exported : Exported (ours base)
@@ -50,16 +50,16 @@ module _ (I : Interpreter) (e : Exported I) where
   pub exported-run : (x : Lent) → Lendable x → I .run x ≡ ours base .run x
   exported-run x b = promise-is (run base x) (I .run x) (e .run x b)
 
-  pub exported-undo : (y : LentBack) → LendableBack y → I .undo y ≡ ours base .undo y
+  pub exported-undo : (y : LentUndo) → LendableUndo y → I .undo y ≡ ours base .undo y
   exported-undo y b = promise-is (undo base y) (I .undo y) (e .undo y b)
 
   -- undo after a run that came to a result
   after-result : (x : Lent) → Lendable x → (report : List ℕ) → Buffer report → I .run x .answer ≡ 0
-      → I .undo (lentBack (I .run x) report) ≡ ours base .undo (lentBack (ours base .run x) report)
+      → I .undo (lentAfter (I .run x) report) ≡ ours base .undo (lentAfter (ours base .run x) report)
   after-result x b report r z =
       let q = exported-run x b in
       let c : ours base .run x .answer ≡ 0 = ap (λ (o : Outcome). o .answer) (sym q) ∙ z in
-      ap (λ (o : Outcome). I .undo (lentBack o report)) q ∙ exported-undo _ (left-lendable x b c report r)
+      ap (λ (o : Outcome). I .undo (lentAfter o report)) q ∙ exported-undo _ (left-lendable x b c report r)
 
   exported-1 : Demand1 base I
   exported-1 =
@@ -99,8 +99,8 @@ module _ (I : Interpreter) (e : Exported I) where
               report = ap (λ (o : Outcome). o .report) q ∙ n .report;
               entered = n .entered;
               enough = λ y more h.
-                  subst (λ (o : Outcome). Same base x y more o (I .run y)) (sym q)
-                  (subst (Same base x y more (ours base .run x)) (sym (exported-run y (more .lendable))) (n .enough y more h));
+                  subst (λ (o : Outcome). SameWithRoom base x y more o (I .run y)) (sym q)
+                  (subst (SameWithRoom base x y more (ours base .run x)) (sym (exported-run y (more .lendable))) (n .enough y more h));
               short = λ y more h. ap (λ (o : Outcome). o .answer) (exported-run y (more .lendable)) ∙ n .short y more h;
             };
       }
@@ -110,7 +110,7 @@ module _ (I : Interpreter) (e : Exported I) where
 
   -- running again after an undo leaves what the first run left
   pub exported-again : (x : Lent) → Lendable x → (report : List ℕ) → Buffer report → length report ≡ 8 → I .run x .answer ≡ 0
-      → I .run (again x (I .undo (lentBack (I .run x) report))) ≡ I .run x
+      → I .run (again x (I .undo (lentAfter (I .run x) report))) ≡ I .run x
   exported-again = run-again base base-numbered I exported-1 exported-2
 
 -- so the contracts say what demands 1 and 2 say
@@ -119,7 +119,7 @@ exported-exactly I = (
   λ e. (exported-met I e .0, exported-met I e .1),
   λ d.
       record {
-        run = λ x b. subst (LeftBy (run base x)) (sym (run-one base base-numbered I (d .0) (d .1) x b)) (promise-some (run base x));
-        undo = λ y b. subst (LeftBy (undo base y)) (sym (undo-one base I (d .0) y b)) (promise-some (undo base y));
+        run = λ x b. subst (Promised (run base x)) (sym (run-one base base-numbered I (d .0) (d .1) x b)) (promise-some (run base x));
+        undo = λ y b. subst (Promised (undo base y)) (sym (undo-one base I (d .0) y b)) (promise-some (undo base y));
       },
 )

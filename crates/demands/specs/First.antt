@@ -10,9 +10,9 @@ use lib.ListN.{length}
 use lib.Dec.{eqb}
 use Rattle.meaning.specs.Basics.{choose, absent, both, firstFailing}
 use Rattle.meaning.specs.Commands.{State}
-use Rattle.meaning.specs.Calls.{answerNumber, refusalNumber, refused, Lent, LentBack}
-use Rattle.demands.specs.Demands.{Outcome, In, runTable, undoTable, stopAnswer, Untouched, GivenBack, refusal, undoRefusal, leaves, Demand1}
-use Rattle.demands.specs.Ours.{outcome, ours, refusing-some, end, ours-leaves, good, ours-refused, undoing-some, undo-left}
+use Rattle.meaning.specs.Calls.{answerNumber, refusalNumber, refused, Lent, LentUndo}
+use Rattle.demands.specs.Demands.{Outcome, In, runTable, undoTable, stopAnswer, Untouched, GivenBack, runRefusedWith, undoRefusedWith, outcomeAt, Demand1}
+use Rattle.demands.specs.Ours.{outcome, ours, refusing-some, end, ours-outcome, good, ours-refused, undoing-some, undo-left}
 use Rattle.demands.specs.Undone.{ours-undoes}
 use Rattle.meaning.specs.Laws.Tests.{some-inj}
 use Rattle.meaning.specs.Laws.Every.{Every}
@@ -37,14 +37,14 @@ stop-answer LabelTooLarge = (refl, omega arith, omega arith)
 stop-answer EdgeOnFreeNode = (refl, omega arith, omega arith)
 
 module _ (L : Layout) (x : Lent) where
-  left-answer : (e : End) (t : State) → (In (leaves L x e t .answer) runTable) × (leaves L x e t .answer ≤ 7)
+  left-answer : (e : End) (t : State) → (In (outcomeAt L x e t .answer) runTable) × (outcomeAt L x e t .answer ≤ 7)
   unfolding absent both
   left-answer Done t = (refl, omega arith)
   left-answer Failed t = (refl, omega arith)
   left-answer Broke t = (refl, omega arith)
   left-answer (Stopped w) t = let a = stop-answer w in (a .0, a .2)
 
-  left-back : (e : End) (t : State) → 1 ≤ leaves L x e t .answer → GivenBack x (leaves L x e t)
+  left-back : (e : End) (t : State) → 1 ≤ outcomeAt L x e t .answer → GivenBack x (outcomeAt L x e t)
   left-back Done t k = absurd (omega arith)
   left-back Failed t k = record { nodes = refl; edges = refl; journal = refl; steps = t .steps; report = refl }
   left-back Broke t k = record { nodes = refl; edges = refl; journal = refl; steps = t .steps; report = refl }
@@ -79,7 +79,7 @@ module _ (L : Layout) (ns es js rs : List ℕ) (w : Refusal) where
 
 module _ (L : Layout) (x : Lent) where
   -- the numbers of what is refused
-  pub refusal-answer : (n : ℕ) → refusal L x ≡ some n → (In n runTable) × (9 ≤ n)
+  pub refusal-answer : (n : ℕ) → runRefusedWith L x ≡ some n → (In n runTable) × (9 ≤ n)
   unfolding absent both
   refusal-answer n e =
       let k : (n : ℕ) → Type 0 = λ n. (In n runTable) × (9 ≤ n) in
@@ -101,7 +101,7 @@ module _ (L : Layout) (x : Lent) where
       )
       n e
 
-  refusal-told : (n : ℕ) → refusal L x ≡ some n → Told n (x .report)
+  refusal-told : (n : ℕ) → runRefusedWith L x ≡ some n → Told n (x .report)
   refusal-told n e =
       told (x .report) _ (
         omega arith,
@@ -123,22 +123,22 @@ module _ (L : Layout) (x : Lent) where
 
   -- a run is refused or starts
   cases : (P : Outcome → Type 0)
-      → ((w : Refusal) (n : ℕ) → refusal L x ≡ some n → refusalNumber w ≡ n
+      → ((w : Refusal) (n : ℕ) → runRefusedWith L x ≡ some n → refusalNumber w ≡ n
       → P (outcome (refused w (x .nodes) (x .edges) (x .journal) (x .report))))
-      → ((e : End) (t : State) → refusal L x ≡ none → P (leaves L x e t))
+      → ((e : End) (t : State) → runRefusedWith L x ≡ none → P (outcomeAt L x e t))
       → P (ours L .run x)
-  cases P r s = at (refusal L x) refl
+  cases P r s = at (runRefusedWith L x) refl
     where
-      at : (o : Option ℕ) → refusal L x ≡ o → P (ours L .run x)
+      at : (o : Option ℕ) → runRefusedWith L x ≡ o → P (ours L .run x)
       at (some n) e = let w = refusing-some L x n e in rw (ours-refused L x (w .0) (w .1)) (r (w .0) n e (w .2))
       at none e =
-          let a = good L x e in rw (ours-leaves L x (a .tree) e (a .form)) (s (end L x (a .tree) .end) (end L x (a .tree) .state) e)
+          let a = good L x e in rw (ours-outcome L x (a .tree) e (a .form)) (s (end L x (a .tree) .end) (end L x (a .tree) .state) e)
 
   -- what answers below 9 has started
-  pub run-settled : ours L .run x .answer ≤ 7 → refusal L x ≡ none
-  run-settled = at (refusal L x) refl
+  pub run-settled : ours L .run x .answer ≤ 7 → runRefusedWith L x ≡ none
+  run-settled = at (runRefusedWith L x) refl
     where
-      at : (o : Option ℕ) → refusal L x ≡ o → ours L .run x .answer ≤ 7 → refusal L x ≡ none
+      at : (o : Option ℕ) → runRefusedWith L x ≡ o → ours L .run x .answer ≤ 7 → runRefusedWith L x ≡ none
       at none e k = e
       at (some n) e k =
           let w = refusing-some L x n e in
@@ -147,8 +147,8 @@ module _ (L : Layout) (x : Lent) where
           let i = refused-answer L (x .nodes) (x .edges) (x .journal) (x .report) (w .0) in
           absurd (omega (arith, w .2))
 
-module _ (L : Layout) (y : LentBack) where
-  pub undo-answer : (n : ℕ) → undoRefusal L y ≡ some n → (In n undoTable) × (9 ≤ n)
+module _ (L : Layout) (y : LentUndo) where
+  pub undo-answer : (n : ℕ) → undoRefusedWith L y ≡ some n → (In n undoTable) × (9 ≤ n)
   unfolding absent both
   undo-answer n e =
       let k : (n : ℕ) → Type 0 = λ n. (In n undoTable) × (9 ≤ n) in
@@ -156,16 +156,16 @@ module _ (L : Layout) (y : LentBack) where
       ((refl, omega arith), ((refl, omega arith), ((refl, omega arith), ((refl, omega arith), ((refl, omega arith), tt)))))
       n e
 
-  undo-told : (n : ℕ) → undoRefusal L y ≡ some n → Told n (y .report)
+  undo-told : (n : ℕ) → undoRefusedWith L y ≡ some n → Told n (y .report)
   undo-told n e = told (y .report) _ (omega arith, (omega arith, (omega arith, (omega arith, tt)))) n e
 
   undo-cases : (P : Outcome → Type 0)
-      → ((w : Refusal) (n : ℕ) → undoRefusal L y ≡ some n → refusalNumber w ≡ n
+      → ((w : Refusal) (n : ℕ) → undoRefusedWith L y ≡ some n → refusalNumber w ≡ n
       → P (outcome (refused w (y .nodes) (y .edges) (y .journal) (y .report))))
       → (ours L .undo y .answer ≡ 0 → P (ours L .undo y)) → P (ours L .undo y)
-  undo-cases P r s = at (undoRefusal L y) refl
+  undo-cases P r s = at (undoRefusedWith L y) refl
     where
-      at : (o : Option ℕ) → undoRefusal L y ≡ o → P (ours L .undo y)
+      at : (o : Option ℕ) → undoRefusedWith L y ≡ o → P (ours L .undo y)
       at (some n) e = let w = undoing-some L y n e in rw (undo-left L y (w .0) (w .1)) (r (w .0) n e (w .2))
       at none e = s (ours-undoes L y e .answer)
 

@@ -1,4 +1,4 @@
--- What commands mean, as rules of inference over command trees: `Runs c s e t` says that command c, met at s, ends in e at t.
+-- What commands mean, as rules of inference over command trees: `Executes c s e t` says that command c, met at s, ends in e at t.
 -- A rule call goes by what a match is, and not by a search; nothing here computes. Rests on the meaning's Layout, Image, Matching
 -- and Applying, on Commands for its states alone (`State`, `stateAt`, `back`, `ruleAt`), and on the code's Stop and End.
 use mathlib.Core.Path.{_≡_}
@@ -7,7 +7,7 @@ use mathlib.Core.List.{List}
 use Prim.Native.Nat.{ℕ, suc, _<_}
 use lib.ListN.{length, getD}
 use Rattle.meaning.specs.Layout.{Host}
-use Rattle.meaning.specs.Image.{Rule, Command, ruleSet, sequence, guarded, loop, skip, fail, break, Commands, stop, then}
+use Rattle.meaning.specs.Image.{Rule, Command, ruleSet, sequence, guarded, loop, skip, fail, break, Commands, noMore, then}
 use Rattle.meaning.specs.Matching.{Match, Before}
 use Rattle.meaning.specs.Applying.{Ledger, applied, hindered, apply}
 use Rattle.meaning.specs.Commands.{State, back, ruleAt, stateAt}
@@ -43,9 +43,9 @@ stepped f s = stateAt (s .ledger) f (suc (s .steps))
 module _ (most room : ℕ) (rules : List Rule) where
   mutual
     -- entering a command costs one fuel and is one step; with none left the run is out of fuel
-    pub data Runs : Command → State → End → State → Type 0 where
-      dry : {c : Command} {s : State} → s .fuel ≡ 0 → Runs c s (Stopped OutOfFuel) s
-      enters : {c : Command} {s t : State} {e : End} → (f : ℕ) → s .fuel ≡ suc f → Does c (stepped f s) e t → Runs c s e t
+    pub data Executes : Command → State → End → State → Type 0 where
+      dry : {c : Command} {s : State} → s .fuel ≡ 0 → Executes c s (Stopped OutOfFuel) s
+      enters : {c : Command} {s t : State} {e : End} → (f : ℕ) → s .fuel ≡ suc f → Does c (stepped f s) e t → Executes c s e t
 
     -- what a command does once it is entered
     pub data Does : Command → State → End → State → Type 0 where
@@ -58,25 +58,25 @@ module _ (most room : ℕ) (rules : List Rule) where
           → apply most room r p (s .ledger) ≡ applied g → t ≡ holding g s → Does (ruleSet l) s Done t
       hinders : {l : List ℕ} {s : State} (r : Rule) (p : List ℕ) (w : Stop) → FirstCalled rules (s .ledger .host) l r p
           → apply most room r p (s .ledger) ≡ hindered w → Does (ruleSet l) s (Stopped w) s
-      inOrder : {cs : Commands} {s t : State} {e : End} → Follows cs s e t → Does (sequence cs) s e t
+      inSequence : {cs : Commands} {s t : State} {e : End} → Follows cs s e t → Does (sequence cs) s e t
       -- if: the guard's changes are undone; try: a successful guard's changes stay
-      thenIf : {g a b : Command} {s u : State} {e : End} (t : State) → Runs g s Done t → Runs a (back s t) e u
+      thenIf : {g a b : Command} {s u : State} {e : End} (t : State) → Executes g s Done t → Executes a (back s t) e u
           → Does (guarded false g a b) s e u
-      thenTry : {g a b : Command} {s u : State} {e : End} (t : State) → Runs g s Done t → Runs a t e u
+      thenTry : {g a b : Command} {s u : State} {e : End} (t : State) → Executes g s Done t → Executes a t e u
           → Does (guarded true g a b) s e u
-      elses : {keep : Bool} {g a b : Command} {s u : State} {e : End} (t : State) → Runs g s Failed t → Runs b (back s t) e u
+      elses : {keep : Bool} {g a b : Command} {s u : State} {e : End} (t : State) → Executes g s Failed t → Executes b (back s t) e u
           → Does (guarded keep g a b) s e u
-      guardStops : {keep : Bool} {g a b : Command} {s t : State} (w : Stop) → Runs g s (Stopped w) t
+      guardStops : {keep : Bool} {g a b : Command} {s t : State} (w : Stop) → Executes g s (Stopped w) t
           → Does (guarded keep g a b) s (Stopped w) t
       -- a loop repeats; a failing body is undone, a break keeps the graph, and the loop succeeds
-      repeats : {c : Command} {s u : State} {e : End} (t : State) → Runs c s Done t → Does (loop c) t e u → Does (loop c) s e u
-      bodyFails : {c : Command} {s u : State} (t : State) → Runs c s Failed t → u ≡ back s t → Does (loop c) s Done u
-      bodyBreaks : {c : Command} {s t : State} → Runs c s Broke t → Does (loop c) s Done t
-      bodyStops : {c : Command} {s t : State} (w : Stop) → Runs c s (Stopped w) t → Does (loop c) s (Stopped w) t
+      repeats : {c : Command} {s u : State} {e : End} (t : State) → Executes c s Done t → Does (loop c) t e u → Does (loop c) s e u
+      bodyFails : {c : Command} {s u : State} (t : State) → Executes c s Failed t → u ≡ back s t → Does (loop c) s Done u
+      bodyBreaks : {c : Command} {s t : State} → Executes c s Broke t → Does (loop c) s Done t
+      bodyStops : {c : Command} {s t : State} (w : Stop) → Executes c s (Stopped w) t → Does (loop c) s (Stopped w) t
 
     -- commands in order: each is entered where the one before succeeded, and another end is the end of all
     pub data Follows : Commands → State → End → State → Type 0 where
-      nothing : {s : State} → Follows stop s Done s
-      goesOn : {c : Command} {cs : Commands} {s u : State} {e : End} (t : State) → Runs c s Done t → Follows cs t e u
+      nothing : {s : State} → Follows noMore s Done s
+      goesOn : {c : Command} {cs : Commands} {s u : State} {e : End} (t : State) → Executes c s Done t → Follows cs t e u
           → Follows (then c cs) s e u
-      endsThere : {c : Command} {cs : Commands} {s t : State} (e : End) → (e ≡ Done → ⊥) → Runs c s e t → Follows (then c cs) s e t
+      endsThere : {c : Command} {cs : Commands} {s t : State} (e : End) → (e ≡ Done → ⊥) → Executes c s e t → Follows (then c cs) s e t

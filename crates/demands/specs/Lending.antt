@@ -10,8 +10,8 @@ use Rattle.meaning.specs.Numbers.{number, bytes}
 use Rattle.meaning.specs.Layout.{Host, Slot, free, Node, Edge, Change, base, nodeLength, edgeLength, writeNode, writeEdge, writeRecord}
 use Rattle.meaning.specs.Commands.{Out}
 use Rattle.meaning.specs.Calls.{Lent}
-use Rattle.demands.specs.Demands.{Buffer, Lendable, LendableBack, Outcome, leaves, stating, lentBack}
-use Rattle.demands.specs.Ours.{ours, end, ours-leaves, good, Good}
+use Rattle.demands.specs.Demands.{Buffer, Lendable, LendableUndo, Outcome, outcomeAt, reporting, lentAfter}
+use Rattle.demands.specs.Ours.{ours, end, ours-outcome, good, Good}
 use Rattle.demands.specs.First.{run-settled, stop-answer}
 use Rattle.demands.specs.Started.{written-fits}
 use Rattle.laws.specs.Numbers.{length-bytes, Bytes-drop, number-lt}
@@ -27,11 +27,11 @@ use Rattle.meaning.specs.declared.End.{End}
 use Rattle.meaning.specs.declared.End.the-variants.{Done, Failed, Broke, Stopped}
 
 -- the records that a report states
-stated-fits : (steps records : ℕ) → number (drop 4 (stating steps records)) < 2 ^ 32
+stated-fits : (steps records : ℕ) → number (drop 4 (reporting steps records)) < 2 ^ 32
 stated-fits steps records =
-    let l : length (drop 4 (stating steps records)) ≡ 4 = simp (length-drop, length-append, length-bytes) in
-    let n = number-lt (drop 4 (stating steps records)) (Bytes-drop 4 (stating steps records) (Bytes-append (bytes 4 steps) (bytes 4 records) (Bytes-bytes 4 steps) (Bytes-bytes 4 records))) in
-    subst (λ (k : ℕ). number (drop 4 (stating steps records)) < 256 ^ k) l n
+    let l : length (drop 4 (reporting steps records)) ≡ 4 = simp (length-drop, length-append, length-bytes) in
+    let n = number-lt (drop 4 (reporting steps records)) (Bytes-drop 4 (reporting steps records) (Bytes-append (bytes 4 steps) (bytes 4 records) (Bytes-bytes 4 steps) (Bytes-bytes 4 records))) in
+    subst (λ (k : ℕ). number (drop 4 (reporting steps records)) < 256 ^ k) l n
 
 module _ (x : Lent) (k : Lendable x) (a : Good base x) where
   abbrev out : Out
@@ -43,7 +43,7 @@ module _ (x : Lent) (k : Lendable x) (a : Good base x) where
       (a .journalFits) (a .layout) (a .tree) (program-legal (x .image) (a .tree) (k .image .bytewise) (a .form) (a .references)) (x .fuel)
 
   abbrev left : Outcome
-  left = leaves base x Done (out .state)
+  left = outcomeAt base x Done (out .state)
 
   nodes-left : Buffer (left .nodes)
   nodes-left =
@@ -74,7 +74,7 @@ module _ (x : Lent) (k : Lendable x) (a : Good base x) where
             (k .journal .fits);
       }
 
-  done-lendable : (report : List ℕ) → Buffer report → LendableBack (lentBack left report)
+  done-lendable : (report : List ℕ) → Buffer report → LendableUndo (lentAfter left report)
   done-lendable report r =
       record {
         nodes = nodes-left;
@@ -84,17 +84,17 @@ module _ (x : Lent) (k : Lendable x) (a : Good base x) where
         report = r;
       }
 
-  end-lendable : (report : List ℕ) → Buffer report → (e : End) → leaves base x e (out .state) .answer ≡ 0
-      → LendableBack (lentBack (leaves base x e (out .state)) report)
+  end-lendable : (report : List ℕ) → Buffer report → (e : End) → outcomeAt base x e (out .state) .answer ≡ 0
+      → LendableUndo (lentAfter (outcomeAt base x e (out .state)) report)
   end-lendable report r Done z = done-lendable report r
   end-lendable report r Failed z = absurd (omega arith)
   end-lendable report r Broke z = absurd (omega arith)
   end-lendable report r (Stopped w) z = absurd (omega (arith, stop-answer w .1))
 
 pub left-lendable : (x : Lent) → Lendable x → ours base .run x .answer ≡ 0 → (report : List ℕ) → Buffer report
-    → LendableBack (lentBack (ours base .run x) report)
+    → LendableUndo (lentAfter (ours base .run x) report)
 left-lendable x k z report r =
     let e = run-settled base x (omega arith) in
     let a = good base x e in
-    let l = ours-leaves base x (a .tree) e (a .form) in
-    subst (λ (o : Outcome). LendableBack (lentBack o report)) (sym l) (end-lendable x k a report r (end base x (a .tree) .end) (ap (λ (o : Outcome). o .answer) (sym l) ∙ z))
+    let l = ours-outcome base x (a .tree) e (a .form) in
+    subst (λ (o : Outcome). LendableUndo (lentAfter o report)) (sym l) (end-lendable x k a report r (end base x (a .tree) .end) (ap (λ (o : Outcome). o .answer) (sym l) ∙ z))

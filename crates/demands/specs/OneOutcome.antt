@@ -6,8 +6,8 @@ use mathlib.Core.Option.{Option, some, none}
 use mathlib.Core.List.{List}
 use native.Mathlib.Omega.{arith}
 use native.Mathlib.Decide.{ℕ-discrete}
-use Rattle.meaning.specs.Calls.{Lent, LentBack}
-use Rattle.demands.specs.Demands.{Outcome, Interpreter, Lendable, LendableBack, Untouched, refusal, undoRefusal, Demand1, Demand2}
+use Rattle.meaning.specs.Calls.{Lent, LentUndo}
+use Rattle.demands.specs.Demands.{Outcome, Interpreter, Lendable, LendableUndo, Untouched, runRefusedWith, undoRefusedWith, Demand1, Demand2}
 use Rattle.demands.specs.Ours.{ours}
 use Rattle.demands.specs.First.{refusal-answer, undo-answer, demand1}
 use Rattle.laws.specs.Undoing.{Numbered}
@@ -30,9 +30,9 @@ untouched-same ns es js rs o q e u v =
 
 pub run-one : (L : Layout) → Numbered L → (I : Interpreter) → Demand1 L I → Demand2 L I → (x : Lent) → Lendable x
     → I .run x ≡ ours L .run x
-run-one L k I d d′ x b = at (refusal L x) refl
+run-one L k I d d′ x b = at (runRefusedWith L x) refl
   where
-    at : (o : Option ℕ) → refusal L x ≡ o → I .run x ≡ ours L .run x
+    at : (o : Option ℕ) → runRefusedWith L x ≡ o → I .run x ≡ ours L .run x
     at none e = one-outcome L k I d′ x b e
     at (some n) e =
         let i : I .run x .answer ≡ n = d .refuses x b n e in
@@ -41,10 +41,10 @@ run-one L k I d d′ x b = at (refusal L x) refl
         untouched-same (x .nodes) (x .edges) (x .journal) (x .report) (I .run x) (ours L .run x) (i ∙ sym j)
         (d .untouched x b (omega arith)) (demand1 L .untouched x b (omega arith))
 
-pub undo-one : (L : Layout) (I : Interpreter) → Demand1 L I → (y : LentBack) → LendableBack y → I .undo y ≡ ours L .undo y
-undo-one L I d y b = at (undoRefusal L y) refl
+pub undo-one : (L : Layout) (I : Interpreter) → Demand1 L I → (y : LentUndo) → LendableUndo y → I .undo y ≡ ours L .undo y
+undo-one L I d y b = at (undoRefusedWith L y) refl
   where
-    at : (o : Option ℕ) → undoRefusal L y ≡ o → I .undo y ≡ ours L .undo y
+    at : (o : Option ℕ) → undoRefusedWith L y ≡ o → I .undo y ≡ ours L .undo y
     at none e =
         let s = d .undoes y b e in
         let t = demand1 L .undoes y b e in

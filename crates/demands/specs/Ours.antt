@@ -8,8 +8,8 @@ use native.Mathlib.Omega.{arith}
 use Rattle.meaning.specs.Basics.{choose, firstFailing}
 use Rattle.meaning.specs.Image.{Program, program}
 use Rattle.meaning.specs.Commands.{Out}
-use Rattle.meaning.specs.Calls.{Left, stopNumber, answerNumber, refusalNumber, refused, runRefusal, finished, run, undoRefusal as undoRefused, undoOn, undo, Lent, LentBack}
-use Rattle.demands.specs.Demands.{Outcome, Interpreter, stopAnswer, refusal, undoRefusal, back, leaves}
+use Rattle.meaning.specs.Calls.{Returned, stopNumber, answerNumber, refusalNumber, refused, runRefusal, finished, run, undoRefusal as undoRefused, undoOn, undo, Lent, LentUndo}
+use Rattle.demands.specs.Demands.{Outcome, Interpreter, stopAnswer, runRefusedWith, undoRefusedWith, asItCame, outcomeAt}
 use Rattle.laws.specs.Calls.{Accepted, accepted, accepts, run-refused, ending, run-started, undo-refused}
 use Rattle.meaning.specs.declared.Layout.{Layout}
 use Rattle.meaning.specs.declared.Refusal.{Refusal}
@@ -18,7 +18,7 @@ use Rattle.meaning.specs.declared.Stop.the-variants.{OutOfFuel, NoNodeRoom, NoE
 use Rattle.meaning.specs.declared.End.{End}
 use Rattle.meaning.specs.declared.End.the-variants.{Done, Failed, Broke, Stopped}
 
-abbrev pub outcome : Left → Outcome
+abbrev pub outcome : Returned → Outcome
 outcome l =
     record { answer = answerNumber (l .answer); nodes = l .nodes; edges = l .edges; journal = l .journal; report = l .report }
 
@@ -60,17 +60,17 @@ module _ (L : Layout) (x : Lent) where
   abbrev pub refusing : Option Refusal
   refusing = runRefusal L x
 
-  refusal-number : refusal L x ≡ numbered refusing
+  refusal-number : runRefusedWith L x ≡ numbered refusing
   unfolding runRefusal refusalNumber
   refusal-number = failing-number _
 
-  pub refusing-none : refusal L x ≡ none → refusing ≡ none
+  pub refusing-none : runRefusedWith L x ≡ none → refusing ≡ none
   refusing-none e = numbered-none refusing (sym refusal-number ∙ e)
 
-  pub refusing-some : (n : ℕ) → refusal L x ≡ some n → (w : Refusal) × (refusing ≡ some w) × (refusalNumber w ≡ n)
+  pub refusing-some : (n : ℕ) → runRefusedWith L x ≡ some n → (w : Refusal) × (refusing ≡ some w) × (refusalNumber w ≡ n)
   refusing-some n e = numbered-some refusing n (sym refusal-number ∙ e)
 
-  pub refusal-none : refusing ≡ none → refusal L x ≡ none
+  pub refusal-none : refusing ≡ none → runRefusedWith L x ≡ none
   refusal-none e = refusal-number ∙ ap numbered e
 
   stop-number : (w : Stop) → stopNumber w ≡ stopAnswer w
@@ -83,52 +83,52 @@ module _ (L : Layout) (x : Lent) where
   stop-number EdgeOnFreeNode = refl
 
   -- what a started run leaves is what its program's end and last state say
-  finished-leaves : (e : End) (o : Out) → outcome (finished L e o (x .nodes) (x .edges) (x .journal)) ≡ leaves L x e (o .state)
+  finished-outcome : (e : End) (o : Out) → outcome (finished L e o (x .nodes) (x .edges) (x .journal)) ≡ outcomeAt L x e (o .state)
   unfolding finished answerNumber
-  finished-leaves Done o = refl
-  finished-leaves Failed o = refl
-  finished-leaves Broke o = refl
-  finished-leaves (Stopped w) o = ap (λ (n : ℕ). back L x n (o .state .steps)) (stop-number w)
+  finished-outcome Done o = refl
+  finished-outcome Failed o = refl
+  finished-outcome Broke o = refl
+  finished-outcome (Stopped w) o = ap (λ (n : ℕ). asItCame L x n (o .state .steps)) (stop-number w)
 
   abbrev pub end : Program → Out
   end p = ending L x p
 
-  pub ours-leaves : (p : Program) → refusal L x ≡ none → program (x .image) ≡ some p
-      → ours L .run x ≡ leaves L x (end p .end) (end p .state)
-  ours-leaves p e q =
+  pub ours-outcome : (p : Program) → runRefusedWith L x ≡ none → program (x .image) ≡ some p
+      → ours L .run x ≡ outcomeAt L x (end p .end) (end p .state)
+  ours-outcome p e q =
       ap outcome (run-started L x p (refusing-none e) q)
-      ∙ finished-leaves (end p .end) (end p)
+      ∙ finished-outcome (end p .end) (end p)
 
   abbrev pub Good : Type 0
   Good = Accepted L x
 
-  pub good : refusal L x ≡ none → Good
+  pub good : runRefusedWith L x ≡ none → Good
   good e = accepted L x (refusing-none e)
 
-  pub good-starts : Good → refusal L x ≡ none
+  pub good-starts : Good → runRefusedWith L x ≡ none
   good-starts a = refusal-none (accepts L x a)
 
   pub ours-refused : (w : Refusal) → refusing ≡ some w → ours L .run x ≡ outcome (refused w (x .nodes) (x .edges) (x .journal) (x .report))
   ours-refused w e = ap outcome (run-refused L x w e)
 
-module _ (L : Layout) (y : LentBack) where
+module _ (L : Layout) (y : LentUndo) where
   abbrev pub undoing : Option Refusal
   undoing = undoRefused L y
 
-  undo-number : undoRefusal L y ≡ numbered undoing
+  undo-number : undoRefusedWith L y ≡ numbered undoing
   unfolding undoRefused refusalNumber
   undo-number = failing-number _
 
-  pub undoing-none : undoRefusal L y ≡ none → undoing ≡ none
+  pub undoing-none : undoRefusedWith L y ≡ none → undoing ≡ none
   undoing-none e = numbered-none undoing (sym undo-number ∙ e)
 
-  pub undoing-some : (n : ℕ) → undoRefusal L y ≡ some n → (w : Refusal) × (undoing ≡ some w) × (refusalNumber w ≡ n)
+  pub undoing-some : (n : ℕ) → undoRefusedWith L y ≡ some n → (w : Refusal) × (undoing ≡ some w) × (refusalNumber w ≡ n)
   undoing-some n e = numbered-some undoing n (sym undo-number ∙ e)
 
-  pub undo-leaves : undoing ≡ none
+  pub undo-outcome : undoing ≡ none
       → undo L y ≡ undoOn L none y
   unfolding undo
-  undo-leaves e = rw e
+  undo-outcome e = rw e
 
   pub undo-left : (w : Refusal) → undoing ≡ some w
       → ours L .undo y ≡ outcome (refused w (y .nodes) (y .edges) (y .journal) (y .report))

@@ -19,7 +19,7 @@ use Rattle.laws.specs.LegalCommands.{LegalRules, legal-sound}
 use Rattle.laws.specs.LegalImage.{program-legal}
 use Rattle.laws.specs.Undoing.{Numbered, out-legal}
 use Rattle.laws.specs.References.{Sound}
-use Rattle.demands.specs.Laws.Inference.{exec-runs}
+use Rattle.demands.specs.Laws.Inference.{exec-executes}
 use Rattle.meaning.specs.declared.Layout.{Layout}
 
 module _ (L : Layout) (k : Numbered L) (x : Lent) (b : Lendable x) (a : Good L x) where
@@ -55,5 +55,5 @@ module _ (L : Layout) (k : Numbered L) (x : Lent) (b : Lendable x) (a : Good L x
   pub last-means : Means L x (a .tree) (last .end) (last .state)
   unfolding placement
   last-means =
-      exec-runs (L .atoms) (length (x .journal) / recordLength L) (a .tree .rules) rules-sound (a .tree .main) (start L x)
+      exec-executes (L .atoms) (length (x .journal) / recordLength L) (a .tree .rules) rules-sound (a .tree .main) (start L x)
       (a .placement)

@@ -13,14 +13,14 @@ use Rattle.meaning.specs.Layout.{nodeLength, edgeLength, recordLength, readNode
 use Rattle.meaning.specs.Image.{Program, program}
 use Rattle.meaning.specs.Commands.{State, Out, ends, exec, beginning}
 use Rattle.meaning.specs.Calls.{Lent}
-use Rattle.demands.specs.Demands.{Outcome, Interpreter, stopAnswer, In, Lendable, stating, refusal, start, leaves, Means, Roomier, Same, Entered, Settled, Demand3}
-use Rattle.demands.specs.Ours.{ours, end, ours-leaves, Good, good, good-starts}
+use Rattle.demands.specs.Demands.{Outcome, Interpreter, stopAnswer, In, Lendable, reporting, runRefusedWith, start, outcomeAt, Means, Roomier, SameWithRoom, Entered, Settled, Demand3}
+use Rattle.demands.specs.Ours.{ours, end, ours-outcome, Good, good, good-starts}
 use Rattle.demands.specs.First.{run-settled}
 use Rattle.demands.specs.Started.{rules-sound, written-fits, last-means}
 use Rattle.laws.specs.Undoing.{Numbered}
 use Rattle.meaning.specs.Laws.Tests.{absent-false, some-inj}
 use Rattle.laws.specs.Numbers.{length-bytes}
-use Rattle.demands.specs.Laws.Inference.{runs-one}
+use Rattle.demands.specs.Laws.Inference.{executes-one}
 use Rattle.laws.specs.Pieces.{fits-length}
 use Rattle.laws.specs.Fuel.{exec-counted}
 use Rattle.demands.specs.Laws.Shortage.{fuelled, endsWith, exec-fuel, exec-shortage}
@@ -46,7 +46,7 @@ stop-settling NoRecordRoom h = let z : _≡_ {A = ℕ} 0 1 = cc in absurd (omega
 stop-settling LabelTooLarge h = refl
 stop-settling EdgeOnFreeNode h = let z : _≡_ {A = ℕ} 0 1 = cc in absurd (omega arith)
 
-settling : (L : Layout) (x : Lent) (e : End) (t : State) → In (leaves L x e t .answer) (0 ∷ 1 ∷ 6 ∷ []) → Settling e
+settling : (L : Layout) (x : Lent) (e : End) (t : State) → In (outcomeAt L x e t .answer) (0 ∷ 1 ∷ 6 ∷ []) → Settling e
 settling L x Done t h = (tt, λ q. let z : _≡_ {A = ℕ} 0 1 = cc in omega arith)
 settling L x Failed t h = (tt, λ q. let z : _≡_ {A = ℕ} 0 1 = cc in omega arith)
 settling L x Broke t h = (tt, λ q. let z : _≡_ {A = ℕ} 0 1 = cc in omega arith)
@@ -68,7 +68,7 @@ div-le : (w a b : ℕ) → 0 < w → a ≤ b → a / w ≤ b / w
 div-le w a b p h = le-div-iff-mul-le p .1 (omega (arith, div-mul-le-self a w))
 
 -- the report states steps and records
-stated : (L : Layout) (x : Lent) (e : End) (t : State) → (n : ℕ) × (leaves L x e t .report ≡ stating (t .steps) n)
+stated : (L : Layout) (x : Lent) (e : End) (t : State) → (n : ℕ) × (outcomeAt L x e t .report ≡ reporting (t .steps) n)
 stated L x Done t = (length (t .ledger .journal), refl)
 stated L x Failed t = (0, refl)
 stated L x Broke t = (0, refl)
@@ -85,7 +85,7 @@ module _ (L : Layout) (x y : Lent) (more : Roomier L x y) where
 
   left-same : (e : End) (t : State) (f : ℕ)
       → (e ≡ Done → length (concat (map (writeRecord L) (reverse (t .ledger .journal)))) ≤ length (x .journal))
-      → Same L x y more (leaves L x e t) (leaves L y e (fuelled f (roomierState (more .nodesMore) (more .edgesMore) t)))
+      → SameWithRoom L x y more (outcomeAt L x e t) (outcomeAt L y e (fuelled f (roomierState (more .nodesMore) (more .edgesMore) t)))
   left-same Done t f h =
       record {
         answer = refl;
@@ -104,7 +104,7 @@ module _ (L : Layout) (x y : Lent) (more : Roomier L x y) where
       record { answer = refl; report = refl; nodes = more .nodes; edges = more .edges; journal = zeros-longer }
 
 module _ (L : Layout) (k : Numbered L) (x : Lent) (b : Lendable x) (h : In (ours L .run x .answer) (0 ∷ 1 ∷ 6 ∷ [])) where
-  starts : refusal L x ≡ none
+  starts : runRefusedWith L x ≡ none
   starts = run-settled L x (settled-low (ours L .run x .answer) h)
 
   abbrev a : Good L x
@@ -116,8 +116,8 @@ module _ (L : Layout) (k : Numbered L) (x : Lent) (b : Lendable x) (h : In (ours
   abbrev o : Out
   o = end L x p
 
-  left : ours L .run x ≡ leaves L x (o .end) (o .state)
-  left = ours-leaves L x p starts (a .form)
+  left : ours L .run x ≡ outcomeAt L x (o .end) (o .state)
+  left = ours-outcome L x p starts (a .form)
 
   ended : Settling (o .end)
   ended = settling L x (o .end) (o .state) (subst (λ (q : Outcome). In (q .answer) (0 ∷ 1 ∷ 6 ∷ [])) left h)
@@ -132,7 +132,7 @@ module _ (L : Layout) (k : Numbered L) (x : Lent) (b : Lendable x) (h : In (ours
     form-y : program (y .image) ≡ some p
     form-y = ap program (more .image) ∙ a .form
 
-    starts-y : refusal L y ≡ none
+    starts-y : runRefusedWith L y ≡ none
     starts-y =
         good-starts L y
         (record {
@@ -182,8 +182,8 @@ module _ (L : Layout) (k : Numbered L) (x : Lent) (b : Lendable x) (h : In (ours
     roomy-fuel : exec (L .atoms) room′ (p .rules) (p .main) begin .state .fuel ≡ o .state .fuel
     roomy-fuel = ap (λ (q : Out). q .state .fuel) roomy
 
-    left-y : ours L .run y ≡ leaves L y (end L y p .end) (end L y p .state)
-    left-y = ours-leaves L y p starts-y form-y
+    left-y : ours L .run y ≡ outcomeAt L y (end L y p .end) (end L y p .state)
+    left-y = ours-outcome L y p starts-y form-y
 
     end-y : end L y p ≡ exec (L .atoms) room′ (p .rules) (p .main) (fuelled (y .fuel) begin)
     end-y = ap (exec (L .atoms) room′ (p .rules) (p .main)) start-y
@@ -205,18 +205,18 @@ module _ (L : Layout) (k : Numbered L) (x : Lent) (b : Lendable x) (h : In (ours
     fits-x : o .end ≡ Done → length (concat (map (writeRecord L) (reverse (o .state .ledger .journal)))) ≤ length (x .journal)
     fits-x e = written-fits L k x b a
 
-    same-y : o .state .steps ≤ y .fuel → Same L x y more (ours L .run x) (ours L .run y)
+    same-y : o .state .steps ≤ y .fuel → SameWithRoom L x y more (ours L .run x) (ours L .run y)
     same-y l =
         let t = enough-y l in
-        let q : ours L .run y ≡ leaves L y (o .end) (fuelled (t .0) (roomierState (more .nodesMore) (more .edgesMore) (o .state))) =
-        left-y ∙ ap (λ (z : Out). leaves L y (z .end) (z .state)) (t .1) in
-        subst (λ (z : Outcome). Same L x y more z (ours L .run y)) (sym left)
-        (subst (λ (z : Outcome). Same L x y more (leaves L x (o .end) (o .state)) z) (sym q)
+        let q : ours L .run y ≡ outcomeAt L y (o .end) (fuelled (t .0) (roomierState (more .nodesMore) (more .edgesMore) (o .state))) =
+        left-y ∙ ap (λ (z : Out). outcomeAt L y (z .end) (z .state)) (t .1) in
+        subst (λ (z : Outcome). SameWithRoom L x y more z (ours L .run y)) (sym left)
+        (subst (λ (z : Outcome). SameWithRoom L x y more (outcomeAt L x (o .end) (o .state)) z) (sym q)
         (left-same L x y more (o .end) (o .state) (t .0) fits-x))
 
     out-y : y .fuel < o .state .steps → ours L .run y .answer ≡ 2
     out-y l =
-        ap (λ (z : Outcome). z .answer) left-y ∙ ap (λ (e : End). leaves L y e (end L y p .state) .answer) (short-y l)
+        ap (λ (z : Outcome). z .answer) left-y ∙ ap (λ (e : End). outcomeAt L y e (end L y p .state) .answer) (short-y l)
 
   pub settled : Settled L (ours L) x
   settled =
@@ -235,7 +235,7 @@ pub demand3 : (L : Layout) → Numbered L → Demand3 L (ours L)
 demand3 L k = record { settled = λ x b h. settled L k x b h }
 
 -- Demand 3 leaves one count of steps: what an interpreter that meets it states where ours starts is what ours states.
-module _ (L : Layout) (k : Numbered L) (x : Lent) (b : Lendable x) (e : refusal L x ≡ none) where
+module _ (L : Layout) (k : Numbered L) (x : Lent) (b : Lendable x) (e : runRefusedWith L x ≡ none) where
   pub entered-is : (s : ℕ) → Entered L x s → take 4 (ours L .run x .report) ≡ bytes 4 s
   entered-is s n =
       let a = good L x e in
@@ -243,10 +243,10 @@ module _ (L : Layout) (k : Numbered L) (x : Lent) (b : Lendable x) (e : refusal 
       let i : n .tree ≡ a .tree = some-inj (n .tree) (a .tree) (sym (n .image) ∙ a .form) in
       let m : Means L x (a .tree) (n .end) (n .state) = subst (λ (p : Program). Means L x p (n .end) (n .state)) i (n .means) in
       let q =
-      runs-one (L .atoms) (length (x .journal) / recordLength L) (a .tree .rules) (rules-sound L k x b a) m (last-means L k x b a) in
+      executes-one (L .atoms) (length (x .journal) / recordLength L) (a .tree .rules) (rules-sound L k x b a) m (last-means L k x b a) in
       let r = stated L x (o .end) (o .state) in
       let t : o .state .steps ≡ s = sym (ap (λ (t : State). t .steps) (q .1)) ∙ n .steps in
-      ap (λ (z : Outcome). take 4 (z .report)) (ours-leaves L x (a .tree) e (a .form)) ∙ ap (take 4) (r .1)
+      ap (λ (z : Outcome). take 4 (z .report)) (ours-outcome L x (a .tree) e (a .form)) ∙ ap (take 4) (r .1)
       ∙ take-at (bytes 4 (o .state .steps)) _ 4 (length-bytes 4 (o .state .steps)) ∙ ap (bytes 4) t
 
   pub one-count : (I : Interpreter) → Demand3 L I → In (I .run x .answer) (0 ∷ 1 ∷ 6 ∷ [])

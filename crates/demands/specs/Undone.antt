@@ -12,9 +12,9 @@ use borrow.Author.Tests.{leb-true}
 use lib.ListN.{length, getD, take, drop, length-take, length-drop}
 use Rattle.meaning.specs.Basics.{choose, every, concat}
 use Rattle.meaning.specs.Layout.{Tables, Change, ofNode, ofEdge, put, undone, nodeLength, edgeLength, recordLength, pieces, cut, slotOf, readRecord, keepsRecord}
-use Rattle.meaning.specs.Calls.{LentBack, Left, answerNumber, counted, keepsRecords, tablesUndone, undoOn}
-use Rattle.demands.specs.Demands.{undoRefusal, recordAt, before, withSlot, storedBack, StoredBack}
-use Rattle.demands.specs.Ours.{ours, undoing-none, undo-leaves}
+use Rattle.meaning.specs.Calls.{LentUndo, Returned, answerNumber, counted, keepsRecords, tablesUndone, undoOn}
+use Rattle.demands.specs.Demands.{undoRefusedWith, recordAt, before, withSlot, storedBack, StoredBack}
+use Rattle.demands.specs.Ours.{ours, undoing-none, undo-outcome}
 use Rattle.meaning.specs.Laws.Tests.{both-true, every-append, choose-eq, choose-ne}
 use Rattle.meaning.specs.Laws.Checks.{firstFailing-none}
 use Rattle.laws.specs.Pieces.{fits-length, concat-cut, pieces-suc, stored, cut-stored, length-stored, slot-within}
@@ -151,7 +151,7 @@ module _ (L : Layout) (journal : List ℕ) where
           ap (λ (t : Tables (List ℕ) (List ℕ)). (concat (t .nodes), concat (t .edges))) u ∙ again nodes s g ∙ sym (back-edge n nodes edges (c .0))
 
 -- what is known of an accepted undo
-fit : (L : Layout) (y : LentBack) → undoRefusal L y ≡ none → Fit L (y .journal) (y .count) (y .nodes) (y .edges)
+fit : (L : Layout) (y : LentUndo) → undoRefusedWith L y ≡ none → Fit L (y .journal) (y .count) (y .nodes) (y .edges)
 unfolding keepsRecords
 fit L y e =
     let t1 = firstFailing-none _ _ _ e in
@@ -169,15 +169,15 @@ fit L y e =
       keeps = k .1;
     }
 
-pub ours-undoes : (L : Layout) (y : LentBack) → undoRefusal L y ≡ none → StoredBack L y (ours L .undo y)
+pub ours-undoes : (L : Layout) (y : LentUndo) → undoRefusedWith L y ≡ none → StoredBack L y (ours L .undo y)
 unfolding undoOn answerNumber
 ours-undoes L y e =
-    let l = undo-leaves L y (undoing-none L y e) in
+    let l = undo-outcome L y (undoing-none L y e) in
     let t = same-tables L (y .journal) (y .count) (y .nodes) (y .edges) (fit L y e) in
     record {
-      answer = ap (λ (o : Left). answerNumber (o .answer)) l;
-      nodes = ap (λ (o : Left). o .nodes) l ∙ ap (λ (p : List ℕ × List ℕ). p .0) t;
-      edges = ap (λ (o : Left). o .edges) l ∙ ap (λ (p : List ℕ × List ℕ). p .1) t;
-      journal = ap (λ (o : Left). o .journal) l;
-      report = ap (λ (o : Left). o .report) l;
+      answer = ap (λ (o : Returned). answerNumber (o .answer)) l;
+      nodes = ap (λ (o : Returned). o .nodes) l ∙ ap (λ (p : List ℕ × List ℕ). p .0) t;
+      edges = ap (λ (o : Returned). o .edges) l ∙ ap (λ (p : List ℕ × List ℕ). p .1) t;
+      journal = ap (λ (o : Returned). o .journal) l;
+      report = ap (λ (o : Returned). o .report) l;
     }

@@ -9,11 +9,11 @@ use lib.ListN.{length, getD, take, drop, replicate}
 use Rattle.meaning.specs.Basics.{choose}
 use Rattle.meaning.specs.Numbers.{number}
 use Rattle.meaning.specs.Layout.{Slot, free, live, Node, base}
-use Rattle.meaning.specs.Image.{Rule, Command, ruleSet, sequence, guarded, loop, skip, fail, break, Commands, stop, then}
-use Rattle.meaning.specs.Commands.{State, Out, ends, back, enter, firstRule, next, rounds, call, exec}
+use Rattle.meaning.specs.Image.{Rule, Command, ruleSet, sequence, guarded, loop, skip, fail, break, Commands, noMore, then}
+use Rattle.meaning.specs.Commands.{State, Out, ends, back, enter, firstRule, next, rounds, ruleCall, exec}
 use Rattle.meaning.specs.Computing.{computing}
-use Rattle.meaning.specs.ProvedSet.{Case, plainNode, onPlainNode, results, ends as endsIn, field, calls, marks, skipField, failField}
-use Rattle.demands.specs.Demands.{Outcome, Interpreter, stating, Roomier, Demand1, Demand2, Demand3}
+use Rattle.meaning.specs.ProvedSet.{Case, plainNode, onPlainNode, results, noResult, fieldBytes, ruleSetField, marksRed, skipField, failField}
+use Rattle.demands.specs.Demands.{Outcome, Interpreter, reporting, Roomier, Demand1, Demand2, Demand3}
 use Rattle.demands.specs.Ours.{ours}
 use Rattle.demands.specs.First.{run-settled}
 use Rattle.demands.specs.Cases.{lent, caseAt, lendable, running, runsOn, by, breaks2, atCase, breaks3}
@@ -28,7 +28,7 @@ use Rattle.meaning.specs.declared.End.the-variants.{Done, Failed, Broke, Stoppe
 abbrev pub refusesAll : Interpreter
 refusesAll =
     running
-    (λ x. record { answer = 16; nodes = x .nodes; edges = x .edges; journal = x .journal; report = stating 0 0 })
+    (λ x. record { answer = 16; nodes = x .nodes; edges = x .edges; journal = x .journal; report = reporting 0 0 })
 
 pub refusing-all : Demand2 base refusesAll → ⊥
 unfolding computing
@@ -40,7 +40,7 @@ abbrev pub failsAlways : Interpreter
 failsAlways =
     running
     (λ x.
-    record { answer = 1; nodes = x .nodes; edges = x .edges; journal = replicate (length (x .journal)) 0; report = stating 1 0 })
+    record { answer = 1; nodes = x .nodes; edges = x .edges; journal = replicate (length (x .journal)) 0; report = reporting 1 0 })
 
 pub failing-always : Demand2 base failsAlways → ⊥
 unfolding computing
@@ -72,8 +72,8 @@ unfoldable mutual
   firstOnly break = break
 
   pub onlyFirst : Commands → Commands
-  onlyFirst stop = stop
-  onlyFirst (then c cs) = then (firstOnly c) stop
+  onlyFirst noMore = noMore
+  onlyFirst (then c cs) = then (firstOnly c) noMore
 
 abbrev pub runsFirst : Interpreter
 runsFirst = by (λ most room rules c s. exec most room rules (firstOnly c) s)
@@ -140,7 +140,7 @@ afterGuard (Stopped w) keep s t yes′ no′ = ends (Stopped w) t
 module _ (most room : ℕ) (rules : List Rule) where
   unfoldable mutual
     pub carelessly : Command → State → Out
-    carelessly (ruleSet l) s = call most room rules (firstRule rules (s .ledger .host) l) s
+    carelessly (ruleSet l) s = ruleCall most room rules (firstRule rules (s .ledger .host) l) s
     carelessly (sequence cs) s = allCarelessly cs s
     carelessly (guarded keep g a b) s =
         let o = enter (λ t. carelessly g t) s in
@@ -151,7 +151,7 @@ module _ (most room : ℕ) (rules : List Rule) where
     carelessly break s = ends Broke s
 
     pub allCarelessly : Commands → State → Out
-    allCarelessly stop s = ends Done s
+    allCarelessly noMore s = ends Done s
     allCarelessly (then c cs) s = let o = enter (λ t. carelessly c t) s in next (o .end) (o .state) (λ t. allCarelessly cs t)
 
 abbrev pub keepsMarks : Interpreter
@@ -160,7 +160,7 @@ keepsMarks = by (λ most room rules c s. enter (λ t. carelessly most room rules
 -- on one plain node; ours leaves it unmarked
 abbrev failedTry : Case
 failedTry =
-    onPlainNode 100 (marks ++ field 0x53 (field 0x51 (calls 0 ++ failField) ++ skipField ++ skipField)) (results 5 0 plainNode [] [])
+    onPlainNode 100 (marksRed ++ fieldBytes 0x53 (fieldBytes 0x51 (ruleSetField 0 ++ failField) ++ skipField ++ skipField)) (results 5 0 plainNode [] [])
 
 pub keeping-marks : Demand2 base keepsMarks → ⊥
 unfolding computing runsOn carelessly allCarelessly afterGuard withMark withMarks
@@ -180,7 +180,7 @@ inventsSteps =
       nodes = o .nodes;
       edges = o .edges;
       journal = o .journal;
-      report = stating (number (take 4 (o .report)) + 1) (number (drop 4 (o .report)));
+      report = reporting (number (take 4 (o .report)) + 1) (number (drop 4 (o .report)));
     })
 
 pub inventing-steps : Demand3 base inventsSteps → ⊥
@@ -203,7 +203,7 @@ countsTwice =
       nodes = o .nodes;
       edges = o .edges;
       journal = o .journal;
-      report = stating (number (take 4 (o .report)) * 2) (number (drop 4 (o .report)));
+      report = reporting (number (take 4 (o .report)) * 2) (number (drop 4 (o .report)));
     })
 
 pub counting-twice : Demand3 base countsTwice → ⊥
@@ -252,7 +252,7 @@ leavesHalf =
     record { answer = o .answer; nodes = q .nodes; edges = q .edges; journal = o .journal; report = o .report })
 
 abbrev cutShort : Case
-cutShort = onPlainNode 2 (marks ++ field 0x51 (calls 0 ++ skipField)) (endsIn 2 2 plainNode [])
+cutShort = onPlainNode 2 (marksRed ++ fieldBytes 0x51 (ruleSetField 0 ++ skipField)) (noResult 2 2 plainNode [])
 
 pub leaving-half : Demand1 base leavesHalf → ⊥
 unfolding computing runsOn madeDone

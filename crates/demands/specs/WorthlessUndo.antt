@@ -10,14 +10,14 @@ use lib.ListN.{length, getD, replicate}
 use lib.Dec.{eqb}
 use Rattle.meaning.specs.Basics.{choose, both, concat}
 use Rattle.meaning.specs.Layout.{base, Tables, undone, nodeLength, edgeLength, cut, readRecord, keepsLayout}
-use Rattle.meaning.specs.Calls.{LentBack, counted}
+use Rattle.meaning.specs.Calls.{LentUndo, counted}
 use Rattle.meaning.specs.Computing.{computing}
 use Rattle.demands.specs.Demands.{Outcome, Interpreter, storedBack, Demand1}
 use Rattle.demands.specs.Ours.{ours}
-use Rattle.demands.specs.Cases.{lendableBack}
+use Rattle.demands.specs.Cases.{lendableUndo}
 
 -- an interpreter that has our run
-abbrev undoing : (LentBack → Outcome) → Interpreter
+abbrev undoing : (LentUndo → Outcome) → Interpreter
 undoing f = record { run = ours base .run; undo = f }
 
 -- One that empties all buffers where no run has left the tables, at one free slot that isn't all zero, with nothing to store back.
@@ -30,16 +30,16 @@ emptiesRest =
     choose (both (not (keepsLayout base (y .nodes) (y .edges))) (eqb (o .answer) 0))
     (record { answer = 0; nodes = []; edges = []; journal = []; report = [] }) o)
 
-abbrev broken : LentBack
+abbrev broken : LentUndo
 broken = record { nodes = 0 ∷ 1 ∷ replicate 18 0; edges = []; journal = []; count = 0; report = replicate 8 7 }
 
 pub emptying-rest : Demand1 base emptiesRest → ⊥
 unfolding computing storedBack
-emptying-rest d = let z = ap length (d .undoes broken (lendableBack broken refl) refl .nodes) in omega arith
+emptying-rest d = let z = ap length (d .undoes broken (lendableUndo broken refl) refl .nodes) in omega arith
 
 -- One that stores back from first to last, at a slot that was free, then live, and is free.
 
-abbrev twice : LentBack
+abbrev twice : LentUndo
 twice =
     record {
       nodes = replicate 20 0;
@@ -62,7 +62,7 @@ firstToLast =
 pub first-to-last : Demand1 base firstToLast → ⊥
 unfolding computing storedBack
 first-to-last d =
-    let z = ap (λ (l : List ℕ). getD l 0 0) (d .undoes twice (lendableBack twice refl) refl .nodes) in omega arith
+    let z = ap (λ (l : List ℕ). getD l 0 0) (d .undoes twice (lendableUndo twice refl) refl .nodes) in omega arith
 
 -- One that leaves the journal, at the same.
 
@@ -76,4 +76,4 @@ keepsJournal =
 pub keeping-journal : Demand1 base keepsJournal → ⊥
 unfolding computing storedBack
 keeping-journal d =
-    let z = ap (λ (l : List ℕ). getD l 0 0) (d .undoes twice (lendableBack twice refl) refl .journal) in omega arith
+    let z = ap (λ (l : List ℕ). getD l 0 0) (d .undoes twice (lendableUndo twice refl) refl .journal) in omega arith

@@ -12,7 +12,7 @@ use lib.ListN.{length, getD, take, drop, length-drop, length-append, drop-of-len
 use lib.Seq.{length-take-le, getD-drop, drop-drop}
 use Rattle.meaning.specs.Basics.{choose, both, either, every, isEmpty, isSome, ensure, _>>_, _>>=_}
 use Rattle.meaning.specs.Layout.{isNodeMark, isEdgeMark}
-use Rattle.meaning.specs.Image.{RuleNode, Rule, Command, Field, Read, Pair, stated, field, expect, leading, only, anyTag, constant, oneByte, operand, asPair, twoOperands, element, label, ruleNode, ruleEdge, ruleGraph, relation, condition, test, isType, types, rule, leaf, asRuleSet, asSequence, asGuarded, asLoop, command, program}
+use Rattle.meaning.specs.Image.{RuleNode, Rule, Command, Field, Read, Pair, stated, field, expect, leading, only, passesAll, constant, oneByte, operand, asPair, twoOperands, element, label, ruleNode, ruleEdge, ruleGraph, relation, condition, test, isType, types, rule, leaf, asRuleSet, asSequence, asGuarded, asLoop, command, program}
 use Rattle.meaning.specs.Tags.{anyMark, breakTag, constantTag, differenceTag, edgeTag, edgeTestTag, failTag, ifTag, inDegreeTag, loopTag, nodeTag, outDegreeTag, relationTag, ruleSetTag, ruleTag, sequenceTag, skipTag, sumTag, tryTag, variableTag}
 use Rattle.meaning.specs.Image.Command.{skip, fail, break}
 use Rattle.meaning.specs.declared.Operand.{Operand}
@@ -108,7 +108,7 @@ pub expect-other : (tag : ℕ) (bs : List ℕ) (d : Field) → field bs ≡ some
 unfolding expect
 expect-other tag bs d e h = bind-yes _ _ d e ∙ ensure-no _ _ (ne-eqb _ _ h)
 
--- Runs of fields: one step.
+-- Series of fields: one step.
 
 module _ {A : Type 0} (passes : ℕ → Bool) (item : ℕ → List ℕ → Option A) where
   pub leading-other : (n : ℕ) (bs : List ℕ) → passes (getD bs 0 0) ≡ false → leading passes item n bs ≡ some (record { items = []; rest = bs })
@@ -138,7 +138,7 @@ module _ {A : Type 0} (passes : ℕ → Bool) (item : ℕ → List ℕ → Optio
   leading-step n [] d a h e q = let i = field-is [] d e .long in absurd (omega arith)
   leading-step n (t ∷ bs) d a h e q = choose-true _ _ _ h ∙ bind-yes _ _ d e ∙ bind-yes _ _ a q
 
--- what is behind a run of fields is the end of the bytes
+-- what is behind a series of fields is the end of the bytes
 pub record Led {A : Type 0} (n : ℕ) (bs : List ℕ) (r : Read A) : Type 0 where
   pub few : length (r .items) ≤ n
   pub inside : length (r .rest) ≤ length bs
@@ -171,7 +171,7 @@ leading-led {A} passes item (suc n) (t ∷ bs) r e = at (passes t) refl (λ cs x
           rest = l .rest ∙ ap (drop (length (u .0 .rest) - length (w .0 .rest))) (i .rest) ∙ drop-drop (length (u .0 .rest) - length (w .0 .rest)) (3 + length (u .0 .payload)) (t ∷ bs) ∙ ap (λ (m : ℕ). drop m (t ∷ bs)) s;
         })
 
--- Runs of fields: from a place in them on.
+-- Series of fields: from a place in them on.
 
 abbrev pub behind : {A : Type 0} → List A → Read A → Read A
 behind l r = record { items = l ++ r .items; rest = r .rest }
@@ -206,7 +206,7 @@ module _ {A : Type 0} {passes : ℕ → Bool} {item : ℕ → List ℕ → Optio
       record { items = []; counted = refl; few = omega arith; inside = omega arith; same = rw z (behind-none (leading passes item bound bs)) }
 
   module _ {bound : ℕ} {bs : List ℕ} {at n : ℕ} (r : Reading passes item bound bs at n) where
-    -- the run ends at the place
+    -- the series ends at the place
     abbrev pub stopped : Option (Read A)
     stopped = some (record { items = r .items; rest = drop at bs })
 
@@ -407,19 +407,19 @@ module _ (n tag : ℕ) (bs : List ℕ) where
   unfolding command choose
   command-ruleSet h = rw h
 
-  pub command-sequence : tag ≡ sequenceTag → command (suc n) tag bs ≡ (only anyTag (command n) 16 bs >>= asSequence)
+  pub command-sequence : tag ≡ sequenceTag → command (suc n) tag bs ≡ (only passesAll (command n) 16 bs >>= asSequence)
   unfolding command choose
   command-sequence h = rw h
 
-  pub command-if : tag ≡ ifTag → command (suc n) tag bs ≡ (only anyTag (command n) 16 bs >>= asGuarded false)
+  pub command-if : tag ≡ ifTag → command (suc n) tag bs ≡ (only passesAll (command n) 16 bs >>= asGuarded false)
   unfolding command choose
   command-if h = rw h
 
-  pub command-try : tag ≡ tryTag → command (suc n) tag bs ≡ (only anyTag (command n) 16 bs >>= asGuarded true)
+  pub command-try : tag ≡ tryTag → command (suc n) tag bs ≡ (only passesAll (command n) 16 bs >>= asGuarded true)
   unfolding command choose
   command-try h = rw h
 
-  pub command-loop : tag ≡ loopTag → command (suc n) tag bs ≡ (only anyTag (command n) 16 bs >>= asLoop)
+  pub command-loop : tag ≡ loopTag → command (suc n) tag bs ≡ (only passesAll (command n) 16 bs >>= asLoop)
   unfolding command choose
   command-loop h = rw h
 

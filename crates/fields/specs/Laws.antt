@@ -1,5 +1,5 @@
 -- Laws of Fields: what each answer of the reader says of the field in the bytes, and which answer there is; the items of
--- a run by the numbers of their fields; numbers of two and four bytes. Rests on Fields and Image.
+-- a series by the numbers of their fields; numbers of two and four bytes. Rests on Fields and Image.
 use mathlib.Core.Path.{_≡_, refl, sym, _∙_, ap}
 use mathlib.Core.Option.{Option, some, none}
 use mathlib.Core.List.{List, _∷_}
@@ -185,7 +185,7 @@ later-next (suc n) bs f g tag start end h e q =
     let z : suc n - 1 ≡ n = omega arith in
     rw (z, e) (later-start n bs end g q)
 
--- the item of a run that was read from a field
+-- the item of a series that was read from a field
 pub record ReadFrom {A : Type 0} (item : ℕ → List ℕ → Option A) (bs : List ℕ) (a : A) (f : Found) : Type 0 where
   pub tag : ℕ
   pub start : ℕ

@@ -13,7 +13,7 @@ use lib.ListN.{length, getD, drop}
 use Rattle.meaning.specs.Basics.{either, every, isEmpty, _>>=_}
 use Rattle.meaning.specs.Numbers.{number}
 use Rattle.meaning.specs.Layout.{isNodeMark, isEdgeMark}
-use Rattle.meaning.specs.Image.{limits, RuleEdge, RuleGraph, Program, Commands, stop, then, inOrder, RuleNode, Rule, Command, Field, Read, Pair, field, expect, leading, only, anyTag, constant, oneByte, operand, asPair, twoOperands, element, label, ruleNode, ruleEdge, ruleGraph, relation, condition, test, isType, types, rule, leaf, asRuleSet, asSequence, asGuarded, asLoop, command}
+use Rattle.meaning.specs.Image.{limits, RuleEdge, RuleGraph, Program, Commands, noMore, then, inOrder, RuleNode, Rule, Command, Field, Read, Pair, field, expect, leading, only, passesAll, constant, oneByte, operand, asPair, twoOperands, element, label, ruleNode, ruleEdge, ruleGraph, relation, condition, test, isType, types, rule, leaf, asRuleSet, asSequence, asGuarded, asLoop, command}
 use Rattle.meaning.specs.Tags.{anyMark, breakTag, constantTag, differenceTag, edgeTag, edgeTestTag, failTag, ifTag, inDegreeTag, interfaceTag, leftTag, loopTag, nodeTag, outDegreeTag, rightTag, ruleSetTag, ruleTag, sequenceTag, skipTag, sumTag, testsTag, tryTag, variableTag, variablesTag}
 use Rattle.meaning.specs.Image.Command.{ruleSet, sequence, guarded, loop, skip, fail, break}
 use Rattle.meaning.specs.declared.Operand.{Operand}
@@ -27,7 +27,7 @@ use Rattle.meaning.specs.Laws.Every.{Every}
 use Rattle.meaning.specs.Laws.Tests.{both-true, empty-true, choose-eq, choose-true, choose-false, choose-ne, some-inj, bind-some, ensure-some}
 use Rattle.fields.specs.Image.{leading-led, command-no-depth, command-ruleSet, command-sequence, command-if, command-try, command-loop, command-skip, command-fail, command-break, command-other}
 
--- Runs of fields.
+-- Series of fields.
 
 same-read : {A : Type 0} (r : Read A) (l : List A) (bs : List ℕ) → r .items ≡ l → r .rest ≡ bs → r ≡ record { items = l; rest = bs }
 same-read r l bs e f = rw (← e, ← f)
@@ -43,7 +43,7 @@ module _ {A : Type 0} (passes : ℕ → Bool) (item : ℕ → List ℕ → Optio
   pub only-few : (n : ℕ) (bs : List ℕ) (l : List A) → only passes item n bs ≡ some l → length l ≤ n
   only-few n bs l e = leading-led passes item n bs _ (only-is n bs l e) .few
 
--- the first item of a run that has one
+-- the first item of a series that has one
 pub record Head {A : Type 0} (passes : ℕ → Bool) (item : ℕ → List ℕ → Option A) (n : ℕ) (bs : List ℕ) (a : A) (l : List A) (behind : List ℕ) : Type 0 where
   pub whole : Field
   pub is : field bs ≡ some whole
@@ -112,12 +112,12 @@ module _ (bs : List ℕ) where
 
   pub label-few : (l : List Element) → label bs ≡ some l → length l ≤ limits .elements
   unfolding label
-  label-few l e = only-few anyTag element (limits .elements) bs l e
+  label-few l e = only-few passesAll element (limits .elements) bs l e
 
-  pub twoOperands-is : (p : Pair) → twoOperands bs ≡ some p → only anyTag operand 2 bs ≡ some (p .first ∷ p .second ∷ [])
+  pub twoOperands-is : (p : Pair) → twoOperands bs ≡ some p → only passesAll operand 2 bs ≡ some (p .first ∷ p .second ∷ [])
   unfolding twoOperands
   twoOperands-is p e =
-      let t = bind-some (only anyTag operand 2 bs) asPair p e in
+      let t = bind-some (only passesAll operand 2 bs) asPair p e in
       t .1 ∙ ap some (pair-is (t .0) p (t .2))
 
 module _ (tag : ℕ) (bs : List ℕ) where
@@ -290,7 +290,7 @@ pub record IsRule (bs : List ℕ) (x : Rule) : Type 0 where
   pub left : ruleGraph (l .payload) ≡ some (x .left)
   pub right : ruleGraph (r .payload) ≡ some (x .right)
   pub interface : oneByte (k .payload) ≡ some (x .interface)
-  pub tests : only anyTag test (limits .tests) (t .payload) ≡ some (x .tests)
+  pub tests : only passesAll test (limits .tests) (t .payload) ≡ some (x .tests)
 
 pub rule-is : (bs : List ℕ) (x : Rule) → rule bs ≡ some x → IsRule bs x
 unfolding rule
@@ -305,7 +305,7 @@ rule-is bs x e =
     let b = bind-some (ruleGraph (l .0 .payload)) _ x (a .2) in
     let c = bind-some (ruleGraph (r .0 .payload)) _ x (b .2) in
     let d = bind-some (oneByte (k .0 .payload)) _ x (c .2) in
-    let f = bind-some (only anyTag test (limits .tests) (t .0 .payload)) _ x (d .2) in
+    let f = bind-some (only passesAll test (limits .tests) (t .0 .payload)) _ x (d .2) in
     rw (← (some-inj _ x (f .2))) (record { v = v .0; l = l .0; r = r .0; k = k .0; t = t .0; at-v = v .1; at-l = l .1; at-r = r .1; at-k = k .1; at-t = t .1; last = empty-true _ (z .0); variables = a .1; left = b .1; right = c .1; interface = d .1; tests = f .1 })
 
 pub record Few (x : Rule) : Type 0 where
@@ -322,7 +322,7 @@ rule-few bs x e =
     let v = types-is _ _ (i .variables) in
     let l = ruleGraph-is _ _ (i .left) in
     let r = ruleGraph-is _ _ (i .right) in
-    record { variables = rw (v .0) (v .1); leftNodes = l .fewNodes; leftEdges = l .fewEdges; rightNodes = r .fewNodes; rightEdges = r .fewEdges; tests = only-few anyTag test 4 _ _ (i .tests) }
+    record { variables = rw (v .0) (v .1); leftNodes = l .fewNodes; leftEdges = l .fewEdges; rightNodes = r .fewNodes; rightEdges = r .fewEdges; tests = only-few passesAll test 4 _ _ (i .tests) }
 
 -- Commands, by tag.
 
@@ -357,27 +357,27 @@ module _ (n tag : ℕ) (bs : List ℕ) (x : Command) (e : command (suc n) tag bs
       let b = both-true (leb 1 (length bs)) _ (t .0) in
       (sym (some-inj _ x (t .1)), leb-true _ _ (b .0), leb-true _ _ (b .1))
 
-  pub sequence-read : tag ≡ sequenceTag → (l : List Command) × (only anyTag (command n) (limits .commands) bs ≡ some l) × (1 ≤ length l) × (length l ≤ limits .commands) × (x ≡ sequence (inOrder l))
+  pub sequence-read : tag ≡ sequenceTag → (l : List Command) × (only passesAll (command n) (limits .commands) bs ≡ some l) × (1 ≤ length l) × (length l ≤ limits .commands) × (x ≡ sequence (inOrder l))
   sequence-read h =
-      let t = bind-some (only anyTag (command n) (limits .commands) bs) _ x (sym (command-sequence n tag bs h) ∙ e) in
+      let t = bind-some (only passesAll (command n) (limits .commands) bs) _ x (sym (command-sequence n tag bs h) ∙ e) in
       let s = asSequence-is (t .0) x (t .2) in
-      (t .0, t .1, s .0, only-few anyTag (command n) (limits .commands) bs (t .0) (t .1), s .1)
+      (t .0, t .1, s .0, only-few passesAll (command n) (limits .commands) bs (t .0) (t .1), s .1)
 
-  three : (keep : Bool) → command (suc n) tag bs ≡ (only anyTag (command n) (limits .commands) bs >>= asGuarded keep) → (a b c : Command) × (only anyTag (command n) (limits .commands) bs ≡ some (a ∷ b ∷ c ∷ [])) × (x ≡ guarded keep a b c)
+  three : (keep : Bool) → command (suc n) tag bs ≡ (only passesAll (command n) (limits .commands) bs >>= asGuarded keep) → (a b c : Command) × (only passesAll (command n) (limits .commands) bs ≡ some (a ∷ b ∷ c ∷ [])) × (x ≡ guarded keep a b c)
   three keep h =
-      let t = bind-some (only anyTag (command n) (limits .commands) bs) _ x (sym h ∙ e) in
+      let t = bind-some (only passesAll (command n) (limits .commands) bs) _ x (sym h ∙ e) in
       let s = asGuarded-is keep (t .0) x (t .2) in
       (s .0, s .1, s .2, t .1 ∙ ap some (s .3), s .4)
 
-  pub if-read : tag ≡ ifTag → (a b c : Command) × (only anyTag (command n) (limits .commands) bs ≡ some (a ∷ b ∷ c ∷ [])) × (x ≡ guarded false a b c)
+  pub if-read : tag ≡ ifTag → (a b c : Command) × (only passesAll (command n) (limits .commands) bs ≡ some (a ∷ b ∷ c ∷ [])) × (x ≡ guarded false a b c)
   if-read h = three false (command-if n tag bs h)
 
-  pub try-read : tag ≡ tryTag → (a b c : Command) × (only anyTag (command n) (limits .commands) bs ≡ some (a ∷ b ∷ c ∷ [])) × (x ≡ guarded true a b c)
+  pub try-read : tag ≡ tryTag → (a b c : Command) × (only passesAll (command n) (limits .commands) bs ≡ some (a ∷ b ∷ c ∷ [])) × (x ≡ guarded true a b c)
   try-read h = three true (command-try n tag bs h)
 
-  pub loop-read : tag ≡ loopTag → (c : Command) × (only anyTag (command n) (limits .commands) bs ≡ some (c ∷ [])) × (x ≡ loop c)
+  pub loop-read : tag ≡ loopTag → (c : Command) × (only passesAll (command n) (limits .commands) bs ≡ some (c ∷ [])) × (x ≡ loop c)
   loop-read h =
-      let t = bind-some (only anyTag (command n) (limits .commands) bs) _ x (sym (command-loop n tag bs h) ∙ e) in
+      let t = bind-some (only passesAll (command n) (limits .commands) bs) _ x (sym (command-loop n tag bs h) ∙ e) in
       let s = asLoop-is (t .0) x (t .2) in
       (s .0, t .1 ∙ ap some (s .1), s .2)
 
@@ -422,7 +422,7 @@ unfoldable mutual
   height break = 1
 
   pub heights : Commands → ℕ
-  heights stop = 0
+  heights noMore = 0
   heights (then c cs) = max (height c) (heights cs)
 
 -- The whole.

@@ -9,12 +9,12 @@ use borrow.Author.Tests.{lt-leb, le-leb, eq-eqb, ne-eqb}
 use lib.Dec.{leb, eqb}
 use lib.ListN.{getD, take, drop}
 use lib.Seq.{getD-take}
-use Rattle.meaning.specs.Basics.{both, either, any, absent}
+use Rattle.meaning.specs.Basics.{both, either, exists, absent}
 use Rattle.meaning.specs.Layout.{Host, liveAt}
 use Rattle.meaning.specs.Image.{Rule}
-use Rattle.meaning.specs.Matching.{edgeAt, leftNodes, total, nodeSlot, touches}
+use Rattle.meaning.specs.Matching.{edgeAt, leftNodes, total, nodeSlot, edgeTouches}
 use Rattle.meaning.specs.FirstMatch.{touchesGone, dangles}
-use Rattle.meaning.specs.Laws.Tests.{both-yes, both-no, both-of, either-left, either-right, any-of, any-no}
+use Rattle.meaning.specs.Laws.Tests.{both-yes, both-no, both-of, either-left, either-right, exists-of, exists-no}
 use Rattle.fitting.specs.Fitting.{goneAt, Numbers}
 use Rattle.plan.specs.Plan.{edgesAt, interfaceAt, nodesAt}
 
@@ -32,11 +32,11 @@ module _ (k : ℕ) (at : List ℕ) (s t : ℕ) where
       go true = rw (ne-eqb s (getD at y 0) d, ne-eqb t (getD at y 0) f)
       go false = refl
 
-  pub gone-source : (n y : ℕ) → k ≤ y → y < n → s ≡ getD at y 0 → true ≡ any (goneAt k at s t) n
-  gone-source n y h l e = sym (any-of (goneAt k at s t) n y l (both-of _ _ (le-leb k y h) (either-left _ _ (eq-eqb _ _ e))))
+  pub gone-source : (n y : ℕ) → k ≤ y → y < n → s ≡ getD at y 0 → true ≡ exists (goneAt k at s t) n
+  gone-source n y h l e = sym (exists-of (goneAt k at s t) n y l (both-of _ _ (le-leb k y h) (either-left _ _ (eq-eqb _ _ e))))
 
-  pub gone-target : (n y : ℕ) → k ≤ y → y < n → t ≡ getD at y 0 → true ≡ any (goneAt k at s t) n
-  gone-target n y h l e = sym (any-of (goneAt k at s t) n y l (both-of _ _ (le-leb k y h) (either-right _ _ (eq-eqb _ _ e))))
+  pub gone-target : (n y : ℕ) → k ≤ y → y < n → t ≡ getD at y 0 → true ≡ exists (goneAt k at s t) n
+  gone-target n y h l e = sym (exists-of (goneAt k at s t) n y l (both-of _ _ (le-leb k y h) (either-right _ _ (eq-eqb _ _ e))))
 
   pub gone-next : (j : ℕ) → ((y : ℕ) → y < j → goneAt k at s t y ≡ false) → (s ≡ getD at j 0 → ⊥) → (t ≡ getD at j 0 → ⊥)
       → (y : ℕ) → y < j + 1 → goneAt k at s t y ≡ false
@@ -46,15 +46,15 @@ module _ (k : ℕ) (at : List ℕ) (s t : ℕ) where
       go (yes e) = rw e (gone-not j d f)
       go (no e) = n y (omega arith)
 
-  pub gone-end : (n j : ℕ) → n ≤ j → ((y : ℕ) → y < j → goneAt k at s t y ≡ false) → false ≡ any (goneAt k at s t) n
-  gone-end n j h f = sym (any-no (goneAt k at s t) n (λ y l. f y (omega arith)))
+  pub gone-end : (n j : ℕ) → n ≤ j → ((y : ℕ) → y < j → goneAt k at s t y ≡ false) → false ≡ exists (goneAt k at s t) n
+  gone-end n j h f = sym (exists-no (goneAt k at s t) n (λ y l. f y (omega arith)))
 
 -- An edge that dangles.
 
-any-same : (f g : ℕ → Bool) (n : ℕ) → ((j : ℕ) → j < n → f j ≡ g j) → any f n ≡ any g n
-unfolding any
-any-same f g zero h = refl
-any-same f g (suc n) h = rw (h n (omega arith), any-same f g n (λ j k. h j (omega arith)))
+exists-same : (f g : ℕ → Bool) (n : ℕ) → ((j : ℕ) → j < n → f j ≡ g j) → exists f n ≡ exists g n
+unfolding exists
+exists-same f g zero h = refl
+exists-same f g (suc n) h = rw (h n (omega arith), exists-same f g n (λ j k. h j (omega arith)))
 
 module _ (h : Host) (r : Rule) (plan at : List ℕ) (x : ℕ) (e : Numbers plan r) where
   abbrev whole : List ℕ
@@ -62,23 +62,23 @@ module _ (h : Host) (r : Rule) (plan at : List ℕ) (x : ℕ) (e : Numbers plan 
 
   -- where the edge is live, it touches a node that goes where one of its ends does
   touched : liveAt (h .edges) x ≡ true → (s t : ℕ) → s ≡ edgeAt h x .source → t ≡ edgeAt h x .target
-      → any (touchesGone h r whole x) (leftNodes r) ≡ any (goneAt (getD plan interfaceAt 0) at s t) (getD plan nodesAt 0)
-  unfolding touchesGone touches
+      → exists (touchesGone h r whole x) (leftNodes r) ≡ exists (goneAt (getD plan interfaceAt 0) at s t) (getD plan nodesAt 0)
+  unfolding touchesGone edgeTouches
   touched l s t p q =
-      any-same (touchesGone h r whole x) (goneAt (getD plan interfaceAt 0) at s t) (leftNodes r) (λ j k.
+      exists-same (touchesGone h r whole x) (goneAt (getD plan interfaceAt 0) at s t) (leftNodes r) (λ j k.
       rw (both-yes (liveAt (h .edges) x) (either (eqb (edgeAt h x .source) (nodeSlot whole j)) (eqb (edgeAt h x .target) (nodeSlot whole j))) l, getD-take (total r) at j 0 (omega arith), p, q, e .interface))
-      ∙ ap (any (goneAt (getD plan interfaceAt 0) at s t)) (sym (e .nodes))
+      ∙ ap (exists (goneAt (getD plan interfaceAt 0) at s t)) (sym (e .nodes))
 
   module _ (l : Bool) (i : l ≡ liveAt (h .edges) x) where
     pub dangles-free : l ≡ false → false ≡ dangles h r whole x
-    unfolding dangles touchesGone touches both
-    dangles-free d = sym (both-no _ _ (any-no (touchesGone h r whole x) (leftNodes r) (λ j k. go (leb (r .interface) j) j)))
+    unfolding dangles touchesGone edgeTouches both
+    dangles-free d = sym (both-no _ _ (exists-no (touchesGone h r whole x) (leftNodes r) (λ j k. go (leb (r .interface) j) j)))
       where
         go : (b : Bool) (j : ℕ) → both b (both (liveAt (h .edges) x) (either (eqb (edgeAt h x .source) (nodeSlot whole j)) (eqb (edgeAt h x .target) (nodeSlot whole j)))) ≡ false
         go true j = rw (sym i ∙ d)
         go false j = refl
 
-    module _ (d : l ≡ true) (s t : ℕ) (p : s ≡ edgeAt h x .source) (q : t ≡ edgeAt h x .target) (g : Bool) (f : g ≡ any (goneAt (getD plan interfaceAt 0) at s t) (getD plan nodesAt 0)) where
+    module _ (d : l ≡ true) (s t : ℕ) (p : s ≡ edgeAt h x .source) (q : t ≡ edgeAt h x .target) (g : Bool) (f : g ≡ exists (goneAt (getD plan interfaceAt 0) at s t) (getD plan nodesAt 0)) where
       pub dangles-far : g ≡ false → false ≡ dangles h r whole x
       unfolding dangles
       dangles-far z = sym (both-no _ _ (touched (sym i ∙ d) s t p q ∙ sym f ∙ z))

@@ -5,17 +5,17 @@ use mathlib.Core.List.{List}
 use Prim.Native.Nat.{ℕ, _+_, max}
 use native.Mathlib.Omega.{arith}
 use lib.ListN.{length, getD}
-use Rattle.meaning.specs.Basics.{any}
+use Rattle.meaning.specs.Basics.{exists}
 use Rattle.meaning.specs.Layout.{Host}
 use Rattle.meaning.specs.Image.{Rule}
-use Rattle.meaning.specs.Matching.{edgeAt, leftEdge, nodeSlot, runs}
+use Rattle.meaning.specs.Matching.{edgeAt, leftEdge, nodeSlot, edgeRuns}
 use Rattle.meaning.specs.FirstMatch.{marksAgree, joins, linked}
 use Rattle.meaning.specs.Laws.Tests.{both-yes, both-no, choose-eq, choose-ne}
 use Rattle.plan.specs.Plan.{Laid, HasItem, HasEdge, Marked, nodesAt}
 use Rattle.fitting.specs.Fitting.{joinsAt}
 use Rattle.agreeing.specs.Placed.{slotOf, Tried}
 
-module _ (h : Host) (r : Rule) (k s t x : ℕ) (a : Bool) (e : a ≡ runs h s t x) where
+module _ (h : Host) (r : Rule) (k s t x : ℕ) (a : Bool) (e : a ≡ edgeRuns h s t x) where
   pub joined : a ≡ true → (m n : ℕ) (b : Bool) → m ≡ leftEdge r k .mark → n ≡ edgeAt h x .mark → b ≡ marksAgree m n → b ≡ joinsAt h r k s t x
   joined y m n b p q g = g ∙ rw (p, q) (sym (both-yes _ _ (sym e ∙ y)))
 
@@ -32,7 +32,7 @@ edge-mark {k = k} w q e =
     e .edge k (omega (arith, q .items .edges, w .laid .items .edges, w .there)) (omega arith)
 
 module _ {h : Host} {bs plan at : List ℕ} {i c : ℕ} (w : Tried h bs plan at i c) (k s t : ℕ) (p : s ≡ leftEdge (w .trial .rule) k .source) (q : t ≡ leftEdge (w .trial .rule) k .target) where
-  pub linked-near : max s t ≡ i → (x y : ℕ) (b : Bool) → x ≡ slotOf at i c s → y ≡ slotOf at i c t → b ≡ any (joinsAt h (w .trial .rule) k x y) (length (h .edges))
+  pub linked-near : max s t ≡ i → (x y : ℕ) (b : Bool) → x ≡ slotOf at i c s → y ≡ slotOf at i c t → b ≡ exists (joinsAt h (w .trial .rule) k x y) (length (h .edges))
       → b ≡ linked h (w .trial .rule) (w .trial .placed) i k
   unfolding linked joins
   linked-near m x y b e f g =

@@ -9,7 +9,7 @@ use lib.Dec.{eqb, leb}
 use Rattle.meaning.specs.Basics.{both, either}
 use Rattle.meaning.specs.Layout.{Host, liveAt}
 use Rattle.meaning.specs.Image.{Rule, mostItems}
-use Rattle.meaning.specs.Matching.{nodeAt, edgeAt, leftNodes, leftEdges, leftNode, leftEdge, rootsAgree, runs}
+use Rattle.meaning.specs.Matching.{nodeAt, edgeAt, leftNodes, leftEdges, leftNode, leftEdge, rootsAgree, edgeRuns}
 use Rattle.meaning.specs.FirstMatch.{marksAgree, nodeFits}
 use Rattle.plan.specs.Plan.{labelOf, edgesAt, interfaceAt, nodesAt, planLength}
 use Rattle.agreeing.specs.Placed.{Trial}
@@ -39,7 +39,7 @@ pub record HasRoom (plan at : List ℕ) : Type 0 where
 
 -- host edge x can stand for left edge k, whose ends are at slots s and t, as far as its mark and ends go
 abbrev pub joinsAt : Host → Rule → ℕ → ℕ → ℕ → ℕ → Bool
-joinsAt h r k s t x = both (runs h s t x) (marksAgree (leftEdge r k .mark) (edgeAt h x .mark))
+joinsAt h r k s t x = both (edgeRuns h s t x) (marksAgree (leftEdge r k .mark) (edgeAt h x .mark))
 
 -- slot s or slot t is that of item j, which is not one of the first k
 abbrev pub goneAt : ℕ → List ℕ → ℕ → ℕ → ℕ → Bool

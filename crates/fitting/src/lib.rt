@@ -4,7 +4,7 @@ ghost use mathlib.Core.Path.{_≡_};
 ghost use mathlib.Core.Bool.{true};
 ghost use Prim.Native.Nat.{_+_, _-_, _<_, _≤_};
 ghost use lib.ListN.{length, getD, take, drop};
-ghost use Rattle.meaning.specs.Basics.{any, all, count, absent};
+ghost use Rattle.meaning.specs.Basics.{exists, all, count, absent};
 ghost use Rattle.meaning.specs.Layout.{Host, hostOf};
 ghost use Rattle.meaning.specs.Image.{Rule, mostItems};
 ghost use Rattle.meaning.specs.Matching.{leftNodes, leftEdges, leftNode, leftEdge, nodeSlot, total};
@@ -85,7 +85,7 @@ fn any_joins(
 ) -> bool
     requires { ⌜ Legal l (now nodes) (now edges) ⌝ }
     requires { ⌜ HasEdge (now rule) (now plan) k ⌝ }
-    ensures { λ b. ⌜ For (now (rule .entry)) (now (plan .entry)) (λ r. b ≡ any (joinsAt (hostOf l (now (nodes .entry)) (now (edges .entry))) r k s t) (length (hostOf l (now (nodes .entry)) (now (edges .entry)) .edges))) ⌝ }
+    ensures { λ b. ⌜ For (now (rule .entry)) (now (plan .entry)) (λ r. b ≡ exists (joinsAt (hostOf l (now (nodes .entry)) (now (edges .entry))) r k s t) (length (hostOf l (now (nodes .entry)) (now (edges .entry)) .edges))) ⌝ }
 {
     let n = graph::edge_slots(l, edges);
     let mut x: usize = 0;
@@ -326,7 +326,7 @@ pub fn edge_likely(
 // Whether slot s or slot t is that of a left node that goes.
 fn touches_gone(plan: &[usize; At::LENGTH], at: &[usize; Room::ITEMS], s: usize, t: usize) -> bool
     requires { ⌜ HasRoom (now plan) (now at) ⌝ }
-    ensures { λ r. ⌜ r ≡ any (goneAt (getD (now (plan .entry)) interfaceAt 0) (now (at .entry)) s t) (getD (now (plan .entry)) nodesAt 0) ⌝ }
+    ensures { λ r. ⌜ r ≡ exists (goneAt (getD (now (plan .entry)) interfaceAt 0) (now (at .entry)) s t) (getD (now (plan .entry)) nodesAt 0) ⌝ }
 {
     let n = plan[At::NODES];
     let mut j = plan[At::INTERFACE];
@@ -379,7 +379,7 @@ pub fn any_dangles(
 ) -> bool
     requires { ⌜ Legal l (now nodes) (now edges) ⌝ }
     requires { ⌜ HasRoom (now plan) (now at) ⌝ }
-    ensures { λ b. ⌜ ((r : Rule) → Numbers (now (plan .entry)) r → b ≡ any (isDangling (hostOf l (now (nodes .entry)) (now (edges .entry))) r (take (total r) (now (at .entry)))) (length (hostOf l (now (nodes .entry)) (now (edges .entry)) .edges))) ⌝ }
+    ensures { λ b. ⌜ ((r : Rule) → Numbers (now (plan .entry)) r → b ≡ exists (isDangling (hostOf l (now (nodes .entry)) (now (edges .entry))) r (take (total r) (now (at .entry)))) (length (hostOf l (now (nodes .entry)) (now (edges .entry)) .edges))) ⌝ }
 {
     let n = graph::edge_slots(l, edges);
     let mut x: usize = 0;

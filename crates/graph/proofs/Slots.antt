@@ -11,7 +11,7 @@ use native.Mathlib.Decide.{ℕ-discrete}
 use lib.ListN.{length, getD, set, take, drop}
 use lib.Seq.{getD-drop}
 use Rattle.meaning.specs.Numbers.{number, whole}
-use Rattle.meaning.specs.Layout.{Slot, free, isLive, Node, Edge, Sized, statePlace, markPlace, rootPlace, lengthPlace, headLength, mostAtoms, sourcePlace, targetPlace, edgeAtoms, nodeLength, edgeLength, pieces, cut, atoms, readNode, readEdge, readNodes, readEdges, keepsNode, keepsEdge}
+use Rattle.meaning.specs.Layout.{Slot, free, isLive, Node, Edge, Sized, statePlace, markPlace, rootPlace, lengthPlace, headLength, mostAtoms, sourcePlace, targetPlace, edgeAtoms, nodeLength, edgeLength, pieces, cut, readAtoms, readNode, readEdge, readNodes, readEdges, keepsNode, keepsEdge}
 use Rattle.meaning.specs.Matching.{nodeIn, edgeIn}
 use Rattle.laws.specs.Pieces.{getD-map, length-pieces, length-read}
 use Rattle.laws.specs.Layout.{getD-zeros, length-atoms, readNode-free, readNode-live, keepsNode-free, keepsNode-live, readEdge-free, readEdge-live, keepsEdge-free, keepsEdge-live, kept-node, kept-edge}
@@ -54,7 +54,7 @@ number-zero (suc w) (a ∷ l) h = rw (h 0, number-zero w l (λ i. h (suc i)), ze
 end-zero : (w n : ℕ) (l : List ℕ) → Zero l → number (take w (drop n l)) ≡ 0
 end-zero w n l h = number-zero w (drop n l) (λ i. getD-drop n l i 0 ∙ h (n + i))
 
-label-zero : (n : ℕ) (l : List ℕ) → n ≡ 0 → atoms n l ≡ []
+label-zero : (n : ℕ) (l : List ℕ) → n ≡ 0 → readAtoms n l ≡ []
 unfolding pieces
 label-zero n l e = rw e
 
@@ -66,7 +66,7 @@ pub record NodeBytes (L : Layout) (b : List ℕ) (s : Slot Node) : Type 0 where
   pub mark : getD b markPlace 0 ≡ nodeIn s .mark
   pub root : getD b rootPlace 0 ≡ nodeIn s .root
   pub size : getD b lengthPlace 0 ≤ L .atoms
-  pub label : atoms (getD b lengthPlace 0) (drop headLength b) ≡ nodeIn s .label
+  pub label : readAtoms (getD b lengthPlace 0) (drop headLength b) ≡ nodeIn s .label
 
 -- the length of its label among it
 pub node-long : {L : Layout} {b : List ℕ} {s : Slot Node} → NodeBytes L b s → getD b lengthPlace 0 ≡ length (nodeIn s .label)
@@ -107,7 +107,7 @@ pub record EdgeBytes (L : Layout) (b : List ℕ) (s : Slot Edge) : Type 0 where
   pub source : number (take (L .width) (drop (sourcePlace L) b)) ≡ edgeIn s .source
   pub target : number (take (L .width) (drop (targetPlace L) b)) ≡ edgeIn s .target
   pub size : getD b lengthPlace 0 ≤ L .atoms
-  pub label : atoms (getD b lengthPlace 0) (drop (edgeAtoms L) b) ≡ edgeIn s .label
+  pub label : readAtoms (getD b lengthPlace 0) (drop (edgeAtoms L) b) ≡ edgeIn s .label
 
 -- the length of its label among it
 pub edge-long : {L : Layout} {b : List ℕ} {s : Slot Edge} → EdgeBytes L b s → getD b lengthPlace 0 ≡ length (edgeIn s .label)
@@ -169,11 +169,11 @@ module _ {L : Layout} {nodes edges : List ℕ} (h : Legal L nodes edges) (x : �
 
 -- Copying a slot's label out: one atom more, and all of them.
 
-module _ (b : List ℕ) (start n j : ℕ) (l : List ℕ) (few : n ≤ mostAtoms) (f : Filled (atoms n (drop start b)) j l) (e : n ≡ getD b lengthPlace 0) where
-  pub read-more : (v : ℕ) → v ≡ getD (atoms (getD b lengthPlace 0) (drop start b)) j 0 → v < whole → j < n → Filled (atoms n (drop start b)) (j + 1) (set l j v)
+module _ (b : List ℕ) (start n j : ℕ) (l : List ℕ) (few : n ≤ mostAtoms) (f : Filled (readAtoms n (drop start b)) j l) (e : n ≡ getD b lengthPlace 0) where
+  pub read-more : (v : ℕ) → v ≡ getD (readAtoms (getD b lengthPlace 0) (drop start b)) j 0 → v < whole → j < n → Filled (readAtoms n (drop start b)) (j + 1) (set l j v)
   read-more v q s k =
       let i = length-atoms n (drop start b) in
       filled-more _ l j v f (omega arith) (omega arith) s (rw e q)
 
-  pub read-all : j ≡ n → Holds (atoms (getD b lengthPlace 0) (drop start b)) (record { len = n; atoms = l })
+  pub read-all : j ≡ n → Holds (readAtoms (getD b lengthPlace 0) (drop start b)) (record { len = n; atoms = l })
   read-all q = rw (← e) (filled-all _ l n (rw q at f) few (sym (length-atoms n (drop start b))))

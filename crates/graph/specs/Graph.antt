@@ -4,7 +4,7 @@ use mathlib.Core.Bool.{Bool, true}
 use mathlib.Core.List.{List}
 use Prim.Native.Nat.{ℕ, _≤_}
 use Rattle.meaning.specs.Layout.{Host, Sized, mostAtoms, nodeLength, edgeLength, fitsTable, keepsLayout}
-use Rattle.meaning.specs.Matching.{leaves, arrives, touches}
+use Rattle.meaning.specs.Matching.{edgeLeaves, edgeArrives, edgeTouches}
 use Rattle.meaning.specs.declared.Layout.{Layout}
 use Rattle.graph.specs.declared.Incidence.{Incidence}
 use Rattle.graph.specs.declared.Incidence.the-variants.{Leaving, Arriving, Touching}
@@ -20,6 +20,6 @@ module _ (L : Layout) (nodes edges : List ℕ) where
 
 -- edge x counts at slot c
 abbrev pub counts : Incidence → Host → ℕ → ℕ → Bool
-counts Leaving = leaves
-counts Arriving = arrives
-counts Touching = touches
+counts Leaving = edgeLeaves
+counts Arriving = edgeArrives
+counts Touching = edgeTouches

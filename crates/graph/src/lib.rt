@@ -2,9 +2,9 @@
 ghost use mathlib.Core.Path.{_≡_};
 ghost use Prim.Native.Nat.{_<_, _≤_};
 ghost use lib.ListN.{length, getD, drop};
-ghost use Rattle.meaning.specs.Basics.{any, count};
-ghost use Rattle.meaning.specs.Layout.{Sized, lengthPlace, mostAtoms, atoms, liveAt, readNodes, readEdges, hostOf};
-ghost use Rattle.meaning.specs.Matching.{nodeAt, edgeAt, runs, leaves, arrives, inDegree, outDegree, touches};
+ghost use Rattle.meaning.specs.Basics.{exists, count};
+ghost use Rattle.meaning.specs.Layout.{Sized, lengthPlace, mostAtoms, readAtoms, liveAt, readNodes, readEdges, hostOf};
+ghost use Rattle.meaning.specs.Matching.{nodeAt, edgeAt, edgeRuns, edgeLeaves, edgeArrives, inDegree, outDegree, edgeTouches};
 ghost use Rattle.labels.specs.Labels.{Holds};
 ghost use Rattle.slots.specs.Slots.{labelEnd};
 ghost use Rattle.graph.specs.Graph.{Legal, counts};
@@ -23,7 +23,7 @@ pub enum Incidence {
 // The label of a slot whose atoms begin at a place, copied out.
 fn read_label(b: &[u8], start: usize) -> Label
     requires { ⌜ (lengthPlace < length (now b)) × (getD (now b) lengthPlace 0 ≤ mostAtoms) × (labelEnd start (now b) ≤ length (now b)) ⌝ }
-    ensures { λ r. ⌜ Holds (atoms (getD (now (b .entry)) lengthPlace 0) (drop start (now (b .entry)))) r ⌝ }
+    ensures { λ r. ⌜ Holds (readAtoms (getD (now (b .entry)) lengthPlace 0) (drop start (now (b .entry)))) r ⌝ }
 {
     let len = held::atom_count(b);
     let mut atoms = [0u32; labels::MOST];
@@ -172,7 +172,7 @@ pub fn edge_atom(l: Layout, nodes: &[u8], edges: &[u8], x: usize, k: usize) -> u
 pub fn edge_runs(l: Layout, nodes: &[u8], edges: &[u8], s: usize, t: usize, x: usize) -> bool
     requires { ⌜ Legal l (now nodes) (now edges) ⌝ }
     requires { ⌜ x < length (hostOf l (now nodes) (now edges) .edges) ⌝ }
-    ensures { λ r. ⌜ r ≡ runs (hostOf l (now (nodes .entry)) (now (edges .entry))) s t x ⌝ }
+    ensures { λ r. ⌜ r ≡ edgeRuns (hostOf l (now (nodes .entry)) (now (edges .entry))) s t x ⌝ }
 {
     if edge_live(l, nodes, edges, x) {
         if edge_source(l, nodes, edges, x) == s {
@@ -186,7 +186,7 @@ pub fn edge_runs(l: Layout, nodes: &[u8], edges: &[u8], s: usize, t: usize, x: u
 pub fn edge_leaves(l: Layout, nodes: &[u8], edges: &[u8], s: usize, x: usize) -> bool
     requires { ⌜ Legal l (now nodes) (now edges) ⌝ }
     requires { ⌜ x < length (hostOf l (now nodes) (now edges) .edges) ⌝ }
-    ensures { λ r. ⌜ r ≡ leaves (hostOf l (now (nodes .entry)) (now (edges .entry))) s x ⌝ }
+    ensures { λ r. ⌜ r ≡ edgeLeaves (hostOf l (now (nodes .entry)) (now (edges .entry))) s x ⌝ }
 {
     if edge_live(l, nodes, edges, x) {
         return edge_source(l, nodes, edges, x) == s;
@@ -198,7 +198,7 @@ pub fn edge_leaves(l: Layout, nodes: &[u8], edges: &[u8], s: usize, x: usize) ->
 pub fn edge_arrives(l: Layout, nodes: &[u8], edges: &[u8], t: usize, x: usize) -> bool
     requires { ⌜ Legal l (now nodes) (now edges) ⌝ }
     requires { ⌜ x < length (hostOf l (now nodes) (now edges) .edges) ⌝ }
-    ensures { λ r. ⌜ r ≡ arrives (hostOf l (now (nodes .entry)) (now (edges .entry))) t x ⌝ }
+    ensures { λ r. ⌜ r ≡ edgeArrives (hostOf l (now (nodes .entry)) (now (edges .entry))) t x ⌝ }
 {
     if edge_live(l, nodes, edges, x) {
         if edge_target(l, nodes, edges, x) == t {
@@ -212,7 +212,7 @@ pub fn edge_arrives(l: Layout, nodes: &[u8], edges: &[u8], t: usize, x: usize) -
 pub fn edge_touches(l: Layout, nodes: &[u8], edges: &[u8], c: usize, x: usize) -> bool
     requires { ⌜ Legal l (now nodes) (now edges) ⌝ }
     requires { ⌜ x < length (hostOf l (now nodes) (now edges) .edges) ⌝ }
-    ensures { λ r. ⌜ r ≡ touches (hostOf l (now (nodes .entry)) (now (edges .entry))) c x ⌝ }
+    ensures { λ r. ⌜ r ≡ edgeTouches (hostOf l (now (nodes .entry)) (now (edges .entry))) c x ⌝ }
 {
     if edge_live(l, nodes, edges, x) {
         if edge_source(l, nodes, edges, x) == c {
@@ -228,7 +228,7 @@ pub fn edge_touches(l: Layout, nodes: &[u8], edges: &[u8], c: usize, x: usize) -
 // Whether some edge runs from slot s to slot t.
 pub fn any_runs(l: Layout, nodes: &[u8], edges: &[u8], s: usize, t: usize) -> bool
     requires { ⌜ Legal l (now nodes) (now edges) ⌝ }
-    ensures { λ r. ⌜ r ≡ any (runs (hostOf l (now (nodes .entry)) (now (edges .entry))) s t) (length (hostOf l (now (nodes .entry)) (now (edges .entry)) .edges)) ⌝ }
+    ensures { λ r. ⌜ r ≡ exists (edgeRuns (hostOf l (now (nodes .entry)) (now (edges .entry))) s t) (length (hostOf l (now (nodes .entry)) (now (edges .entry)) .edges)) ⌝ }
 {
     let n = edge_slots(l, edges);
     let mut x: usize = 0;
@@ -292,7 +292,7 @@ pub fn in_degree(l: Layout, nodes: &[u8], edges: &[u8], t: usize) -> usize
 // How many edges touch slot c, a loop counted once.
 pub fn degree(l: Layout, nodes: &[u8], edges: &[u8], c: usize) -> usize
     requires { ⌜ Legal l (now nodes) (now edges) ⌝ }
-    ensures { λ r. ⌜ r ≡ count (touches (hostOf l (now (nodes .entry)) (now (edges .entry))) c) (length (hostOf l (now (nodes .entry)) (now (edges .entry)) .edges)) ⌝ }
+    ensures { λ r. ⌜ r ≡ count (edgeTouches (hostOf l (now (nodes .entry)) (now (edges .entry))) c) (length (hostOf l (now (nodes .entry)) (now (edges .entry)) .edges)) ⌝ }
 {
     count_edges(l, nodes, edges, Incidence::Touching, c)
 }

@@ -14,7 +14,7 @@ use lib.Seq.{drop-cons, drop-drop}
 use Rattle.meaning.specs.Basics.{both, either, every, isEmpty, isSome, _>>=_}
 use Rattle.meaning.specs.Layout.{isNodeMark, isEdgeMark}
 use Rattle.meaning.specs.Tags.{constantTag, variableTag, sumTag, differenceTag, edgeTestTag, inDegreeTag, outDegreeTag, relationTag, equalRelation, lessRelation, blueMark, greyMark, dashedMark, anyMark}
-use Rattle.meaning.specs.Image.{Command, limits, only, anyTag, operand, twoOperands, element, label, ruleNode, ruleEdge, condition, test, isType, types, leaf, command}
+use Rattle.meaning.specs.Image.{Command, limits, only, passesAll, operand, twoOperands, element, label, ruleNode, ruleEdge, condition, test, isType, types, leaf, command}
 use Rattle.meaning.specs.Laws.Tests.{both-no, both-yes, both-true}
 use Rattle.fields.specs.Image.{isSome-no, isSome-after, first-at, operand-constant, operand-variable, operand-other, element-constant, element-variable, element-sum, element-difference, element-other, ruleNode-ok, ruleEdge-ok, related-ok, condition-edge, condition-in, condition-out, condition-relation, test-ok, types-ok, leaf-ok, command-no-depth}
 use Rattle.image.specs.declared.Row.{Row}
@@ -194,5 +194,5 @@ module _ (depth tag : ℕ) (bs : List ℕ) (d : depth ≡ 0 → ⊥) where
   a-leaf c e = as-is (leaf c bs) e (is-empty bs ∙ sym (leaf-ok c bs))
 
   -- a command of commands
-  pub of-parts : (row : Row) (make : List Command → Option Command) → rank row ≡ suc (depth - 1) → command (suc (depth - 1)) tag bs ≡ (only anyTag (command (depth - 1)) (limits .commands) bs >>= make) → fits row bs ≡ isSome (only anyTag (command (depth - 1)) (limits .commands) bs >>= make) → Holds (suc depth) (isSome (command depth tag bs)) bs row 0
-  of-parts row make z e q = record { lower = omega arith; inside = omega arith; same = as-is (only anyTag (command (depth - 1)) (limits .commands) bs >>= make) e q }
+  pub of-parts : (row : Row) (make : List Command → Option Command) → rank row ≡ suc (depth - 1) → command (suc (depth - 1)) tag bs ≡ (only passesAll (command (depth - 1)) (limits .commands) bs >>= make) → fits row bs ≡ isSome (only passesAll (command (depth - 1)) (limits .commands) bs >>= make) → Holds (suc depth) (isSome (command depth tag bs)) bs row 0
+  of-parts row make z e q = record { lower = omega arith; inside = omega arith; same = as-is (only passesAll (command (depth - 1)) (limits .commands) bs >>= make) e q }

@@ -12,7 +12,7 @@ use lib.Dec.{eqb, leb, lit<, lit≤, leb·zero, leb·suc-zero, leb·suc-suc, eqb
 use lib.ListN.{length}
 use Rattle.meaning.specs.Basics.{choose, both, isEmpty, isSome, ensure, _>>_, _>>=_}
 use Rattle.meaning.specs.Tags.{variablesTag, leftTag, rightTag, interfaceTag, testsTag, ruleTag, nodeTag, edgeTag}
-use Rattle.meaning.specs.Image.{Field, Read, Rule, RuleNode, limits, field, expect, leading, only, anyTag, operand, asPair, twoOperands, element, label, ruleNode, ruleEdge, ruleGraph, types, oneByte, test, rule, asSequence, asGuarded, asLoop, command, program}
+use Rattle.meaning.specs.Image.{Field, Read, Rule, RuleNode, limits, field, expect, leading, only, passesAll, operand, asPair, twoOperands, element, label, ruleNode, ruleEdge, ruleGraph, types, oneByte, test, rule, asSequence, asGuarded, asLoop, command, program}
 use Rattle.meaning.specs.declared.Operand.{Operand}
 use Rattle.meaning.specs.Laws.Tests.{both-no, both-yes, both-last}
 use Rattle.fields.specs.Image.{field-small, field-is, isSome-no, isSome-map, isSome-after, isSome-then, asSequence-ok, asGuarded-ok, asLoop-ok, ruleGraph-no, ruleGraph-ok, program-no-rules, program-no-field, program-ok}
@@ -168,15 +168,15 @@ module _ {A : Type 0} (passes : ℕ → Bool) (item : ℕ → List ℕ → Optio
 module _ (bs : List ℕ) where
   pub label-fits : fits Elements bs ≡ isSome (label bs)
   unfolding behind label
-  label-fits = all-of anyTag element (limits .elements) bs
+  label-fits = all-of passesAll element (limits .elements) bs
 
-  pub tests-fit : fits Tests bs ≡ isSome (only anyTag test (limits .tests) bs)
+  pub tests-fit : fits Tests bs ≡ isSome (only passesAll test (limits .tests) bs)
   unfolding behind
-  tests-fit = all-of anyTag test (limits .tests) bs
+  tests-fit = all-of passesAll test (limits .tests) bs
 
   pub operands-fit : fits Operands bs ≡ isSome (twoOperands bs)
   unfolding behind twoOperands
-  operands-fit = exact anyTag operand 2 2 (lit≤ tt) bs ∙ sized anyTag operand (λ k. eqb k 2) 2 bs asPair asPair-ok
+  operands-fit = exact passesAll operand 2 2 (lit≤ tt) bs ∙ sized passesAll operand (λ k. eqb k 2) 2 bs asPair asPair-ok
 
   pub graph-fits : fits Nodes bs ≡ isSome (ruleGraph bs)
   unfolding behind met
@@ -189,17 +189,17 @@ module _ (bs : List ℕ) where
 -- Commands in a command.
 
 module _ (depth : ℕ) (bs : List ℕ) where
-  pub sequence-fits : fits (Sequence depth) bs ≡ isSome (only anyTag (command depth) (limits .commands) bs >>= asSequence)
+  pub sequence-fits : fits (Sequence depth) bs ≡ isSome (only passesAll (command depth) (limits .commands) bs >>= asSequence)
   unfolding behind
-  sequence-fits = sized anyTag (command depth) (leb 1) (limits .commands) bs asSequence asSequence-ok
+  sequence-fits = sized passesAll (command depth) (leb 1) (limits .commands) bs asSequence asSequence-ok
 
-  pub guarded-fits : (keep : Bool) → fits (Guarded depth) bs ≡ isSome (only anyTag (command depth) (limits .commands) bs >>= asGuarded keep)
+  pub guarded-fits : (keep : Bool) → fits (Guarded depth) bs ≡ isSome (only passesAll (command depth) (limits .commands) bs >>= asGuarded keep)
   unfolding behind
-  guarded-fits keep = exact anyTag (command depth) 3 (limits .commands) (lit≤ tt) bs ∙ sized anyTag (command depth) (λ k. eqb k 3) (limits .commands) bs (asGuarded keep) (asGuarded-ok keep)
+  guarded-fits keep = exact passesAll (command depth) 3 (limits .commands) (lit≤ tt) bs ∙ sized passesAll (command depth) (λ k. eqb k 3) (limits .commands) bs (asGuarded keep) (asGuarded-ok keep)
 
-  pub loop-fits : fits (Loop depth) bs ≡ isSome (only anyTag (command depth) (limits .commands) bs >>= asLoop)
+  pub loop-fits : fits (Loop depth) bs ≡ isSome (only passesAll (command depth) (limits .commands) bs >>= asLoop)
   unfolding behind
-  loop-fits = exact anyTag (command depth) 1 (limits .commands) (lit≤ tt) bs ∙ sized anyTag (command depth) (λ k. eqb k 1) (limits .commands) bs asLoop asLoop-ok
+  loop-fits = exact passesAll (command depth) 1 (limits .commands) (lit≤ tt) bs ∙ sized passesAll (command depth) (λ k. eqb k 1) (limits .commands) bs asLoop asLoop-ok
 
 -- Rules: five fields.
 
@@ -231,7 +231,7 @@ module _ (bs : List ℕ) where
       after (expect rightTag (l .rest)) λ r.
       after (expect interfaceTag (r .rest)) λ k.
       after (expect testsTag (k .rest)) λ t.
-      both (isEmpty (t .rest)) (both (isSome (types (v .payload))) (both (isSome (ruleGraph (l .payload))) (both (isSome (ruleGraph (r .payload))) (both (isSome (oneByte (k .payload))) (isSome (only anyTag test (limits .tests) (t .payload)))))))
+      both (isEmpty (t .rest)) (both (isSome (types (v .payload))) (both (isSome (ruleGraph (l .payload))) (both (isSome (ruleGraph (r .payload))) (both (isSome (oneByte (k .payload))) (isSome (only passesAll test (limits .tests) (t .payload)))))))
 
   rule-parts : isSome (rule bs) ≡ parts
   unfolding rule
@@ -251,7 +251,7 @@ module _ (bs : List ℕ) where
       section _ leftTag ruleGraph _ (v .rest) _ (λ l.
       section _ rightTag ruleGraph _ (l .rest) _ (λ r.
       section _ interfaceTag oneByte _ (r .rest) _ (λ k.
-      section _ testsTag (only anyTag test (limits .tests)) isEmpty (k .rest) _ (λ t. both-turned _ _ _ _ _ _)))))
+      section _ testsTag (only passesAll test (limits .tests)) isEmpty (k .rest) _ (λ t. both-turned _ _ _ _ _ _)))))
       ∙ sym rule-parts
 
 -- The whole image.
@@ -266,4 +266,4 @@ program-fits bs = at (leading (eqb ruleTag) (λ tag. rule) (limits .rules) bs) r
 
     at : (o : Option (Read Rule)) → leading (eqb ruleTag) (λ tag. rule) (limits .rules) bs ≡ o → met (leb 0) (opens Main isEmpty) o ≡ isSome (program bs)
     at none e = sym (isSome-no _ (program-no-rules bs e))
-    at (some r) e = both-yes _ _ (leb·zero (length (r .items))) ∙ one anyTag (command (limits .depth)) isEmpty (r .rest) ∙ main (field (r .rest)) r e refl
+    at (some r) e = both-yes _ _ (leb·zero (length (r .items))) ∙ one passesAll (command (limits .depth)) isEmpty (r .rest) ∙ main (field (r .rest)) r e refl

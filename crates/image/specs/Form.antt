@@ -9,7 +9,7 @@ use lib.ListN.{length, getD, drop}
 use lib.Dec.{eqb, leb, ltb}
 use Rattle.meaning.specs.Basics.{both, isEmpty}
 use Rattle.meaning.specs.Tags.{ruleTag, variablesTag, leftTag, rightTag, interfaceTag, testsTag, nodeTag, edgeTag}
-use Rattle.meaning.specs.Image.{Read, RuleNode, RuleEdge, RuleGraph, Rule, Command, limits, leading, only, anyTag, oneByte, operand, element, ruleNode, ruleEdge, ruleGraph, test, types, rule, command}
+use Rattle.meaning.specs.Image.{Read, RuleNode, RuleEdge, RuleGraph, Rule, Command, limits, leading, only, passesAll, oneByte, operand, element, ruleNode, ruleEdge, ruleGraph, test, types, rule, command}
 use Rattle.meaning.specs.declared.Operand.{Operand}
 use Rattle.meaning.specs.declared.Element.{Element}
 use Rattle.meaning.specs.declared.Test.{Test}
@@ -45,7 +45,7 @@ read Variables tag bs = types bs
 read Left tag bs = ruleGraph bs
 read Right tag bs = ruleGraph bs
 read Interface tag bs = oneByte bs
-read Conditions tag bs = only anyTag test (limits .tests) bs
+read Conditions tag bs = only passesAll test (limits .tests) bs
 read Nodes tag bs = ruleNode bs
 read Edges tag bs = ruleEdge bs
 read Tests tag bs = test tag bs

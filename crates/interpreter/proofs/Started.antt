@@ -12,7 +12,7 @@ use Rattle.meaning.specs.Basics.{choose, concat, padded}
 use Rattle.meaning.specs.Layout.{recordLength, fitsTable, pieces, readNodes, readEdges, writeNodes, writeEdges, writeRecord}
 use Rattle.meaning.specs.Applying.{Ledger}
 use Rattle.meaning.specs.Commands.{Out, exec}
-use Rattle.meaning.specs.Calls.{answerNumber, refusalNumber, reportOf, mostFuel, refused, runRefusal, journalRoom, givenBack, finished, run, lending, Leaves}
+use Rattle.meaning.specs.Calls.{answerNumber, refusalNumber, reportOf, mostFuel, refused, runRefusal, journalRoom, givenBack, finished, run, lending, Yields}
 use Rattle.laws.specs.Numbers.{Bytes}
 use Rattle.laws.specs.Calls.{Accepted, accepted, run-refused, run-started, starting, ending}
 use Rattle.laws.specs.Commands.{exec-from}
@@ -45,11 +45,11 @@ fits-blank w most a h = rw (length-replicate {A = ℕ} (length a) 0) h
 module _ (L : Layout) (nodes edges journal image : List ℕ) (fuel : ℕ) (report : List ℕ) where
   pub leaves-refused : (w : Refusal) (report′ : List ℕ) → runRefusal L (lending nodes edges journal image fuel report) ≡ some w
       → report′ ≡ choose (eqb (length report) 8) (reportOf 0 0) report
-      → Leaves (run L (lending nodes edges journal image fuel report)) (refusalNumber w) nodes edges journal report′
+      → Yields (run L (lending nodes edges journal image fuel report)) (refusalNumber w) nodes edges journal report′
   unfolding refused answerNumber
   leaves-refused w report′ e r =
       rw (run-refused L (lending nodes edges journal image fuel report) w e)
-      (record { numbered = refl; nodesLeft = refl; edgesLeft = refl; journalLeft = refl; reportLeft = r })
+      (record { numbered = refl; nodesReturned = refl; edgesReturned = refl; journalReturned = refl; reportReturned = r })
 
   module _ (fit : RunLayout L) (bn : Bytes nodes) (be : Bytes edges) (bi : Bytes image) (e : runRefusal L (lending nodes edges journal image fuel report) ≡ none) where
     input : Accepted L (lending nodes edges journal image fuel report)
@@ -104,17 +104,17 @@ module _ (L : Layout) (nodes edges journal image : List ℕ) (fuel : ℕ) (repor
       module _ (a : Answer) (nodes″ edges″ journal″ report″ : List ℕ) (long : length journal″ ≡ length journal) where
         -- a result: tables and journal as they are
         leaves-result : Stays L nodes′ edges′ journal′ (r .tally .steps) (r .tally .records) a nodes″ edges″ journal″ report″
-            → Leaves (finished L Done o nodes edges journal) (answerNumber a) nodes″ edges″ journal″ report″
+            → Yields (finished L Done o nodes edges journal) (answerNumber a) nodes″ edges″ journal″ report″
         unfolding finished
         leaves-result s =
             let h = ran .running .held in
             let m : length journal′ ≡ length journal = sym (ap length (s .journalStays)) ∙ long in
             record {
               numbered = ap answerNumber (s .answer);
-              nodesLeft = s .nodesStay ∙ sym (h .nodesWritten);
-              edgesLeft = s .edgesStay ∙ sym (h .edgesWritten);
-              journalLeft = s .journalStays ∙ rw m at (sym (h .written));
-              reportLeft = s .states ∙ ap (reportOf (r .tally .steps)) (sym (records-count L nodes′ edges′ journal′ (r .tally .records)));
+              nodesReturned = s .nodesStay ∙ sym (h .nodesWritten);
+              edgesReturned = s .edgesStay ∙ sym (h .edgesWritten);
+              journalReturned = s .journalStays ∙ rw m at (sym (h .written));
+              reportReturned = s .states ∙ ap (reportOf (r .tally .steps)) (sym (records-count L nodes′ edges′ journal′ (r .tally .records)));
             }
 
         -- no result: everything as it came, and no record
@@ -138,21 +138,21 @@ module _ (L : Layout) (nodes edges journal image : List ℕ) (fuel : ℕ) (repor
               ∙ (λ i. padded (long i) (concat (map (writeRecord L) (reverse (no-records L journal″ i)))))
               ∙ ap (λ (n : ℕ). replicate n 0) z
 
-          leaves-back : Leaves (givenBack L b (r .tally .steps) nodes edges journal) (answerNumber a) nodes″ edges″ journal″ report″
+          leaves-back : Yields (givenBack L b (r .tally .steps) nodes edges journal) (answerNumber a) nodes″ edges″ journal″ report″
           leaves-back =
               record {
                 numbered = ap answerNumber (s .answer);
-                nodesLeft =
+                nodesReturned =
                     sym (again .1 .held .nodesWritten) ∙ ap (λ (g : Ledger). writeNodes L (g .host .nodes)) (again .0) ∙ start-running .held .nodesWritten;
-                edgesLeft =
+                edgesReturned =
                     sym (again .1 .held .edgesWritten) ∙ ap (λ (g : Ledger). writeEdges L (g .host .edges)) (again .0) ∙ start-running .held .edgesWritten;
-                journalLeft = journal-back;
-                reportLeft = s .states;
+                journalReturned = journal-back;
+                reportReturned = s .states;
               }
 
         -- by the end
         leaves-end : (d : End) → Finishes L nodes′ edges′ journal′ (r .tally .steps) (r .tally .records) a nodes″ edges″ journal″ report″ d
-            → Leaves (finished L d o nodes edges journal) (answerNumber a) nodes″ edges″ journal″ report″
+            → Yields (finished L d o nodes edges journal) (answerNumber a) nodes″ edges″ journal″ report″
         unfolding finished Finishes
         leaves-end Done s = leaves-result s
         leaves-end Failed s = leaves-back Fail s
@@ -160,5 +160,5 @@ module _ (L : Layout) (nodes edges journal image : List ℕ) (fuel : ℕ) (repor
         leaves-end (Stopped w) s = leaves-back (stoppedBy w) s
 
         pub leaves-finished : Finishes L nodes′ edges′ journal′ (r .tally .steps) (r .tally .records) a nodes″ edges″ journal″ report″ (r .end)
-            → Leaves (run L (lending nodes edges journal image fuel report)) (answerNumber a) nodes″ edges″ journal″ report″
+            → Yields (run L (lending nodes edges journal image fuel report)) (answerNumber a) nodes″ edges″ journal″ report″
         leaves-finished s = rw run-is (leaves-end (r .end) s)

@@ -1,5 +1,5 @@
 // The calls, for a driver in C: byte buffers and numbers in, a number out. What each leaves is fixed on all inputs.
-ghost use Rattle.meaning.specs.Calls.{lending, lendingBack, RunPromise, UndoPromise};
+ghost use Rattle.meaning.specs.Calls.{lending, lendingUndo, RunPromise, UndoPromise};
 use meaning::Layout;
 
 pub mod running;
@@ -37,7 +37,7 @@ pub extern "C" fn nhiemavut_undo(
     count: u32,
     report: &mut [u8],
 ) -> u32
-    ensures { λ r. ⌜ UndoPromise (lendingBack (now (nodes .entry)) (now (edges .entry)) (now (journal .entry)) count (now (report .entry))) r (now (nodes .exit)) (now (edges .exit)) (now (journal .exit)) (now (report .exit)) ⌝ }
+    ensures { λ r. ⌜ UndoPromise (lendingUndo (now (nodes .entry)) (now (edges .entry)) (now (journal .entry)) count (now (report .entry))) r (now (nodes .exit)) (now (edges .exit)) (now (journal .exit)) (now (report .exit)) ⌝ }
 {
     answers::answer_number(undo::undo_call(Layout::base(), nodes, edges, journal, count, report))
 }

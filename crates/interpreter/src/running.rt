@@ -1,7 +1,7 @@
 // The call run, over a layout: what is refused, and running the program of what is not.
 ghost use mathlib.Core.Path.{_≡_};
 ghost use mathlib.Core.Option.{none};
-ghost use Rattle.meaning.specs.Calls.{answerNumber, runRefusal, run, lending, Leaves};
+ghost use Rattle.meaning.specs.Calls.{answerNumber, runRefusal, run, lending, Yields};
 ghost use Rattle.interpreter.specs.Run.{RunLayout};
 use answers::Checked;
 use meaning::Answer;
@@ -20,7 +20,7 @@ fn start(
 ) -> Answer
     requires { ⌜ RunLayout l ⌝ }
     requires { ⌜ runRefusal l (lending (now nodes) (now edges) (now journal) (now image) fuel (now report)) ≡ none ⌝ }
-    ensures { λ r. ⌜ Leaves (run l (lending (now (nodes .entry)) (now (edges .entry)) (now (journal .entry)) (now (image .entry)) fuel (now (report .entry)))) (answerNumber r) (now (nodes .exit)) (now (edges .exit)) (now (journal .exit)) (now (report .exit)) ⌝ }
+    ensures { λ r. ⌜ Yields (run l (lending (now (nodes .entry)) (now (edges .entry)) (now (journal .entry)) (now (image .entry)) fuel (now (report .entry)))) (answerNumber r) (now (nodes .exit)) (now (edges .exit)) (now (journal .exit)) (now (report .exit)) ⌝ }
 {
     slots::bytes::clear(journal);
     let ran = commands::run_program(l, image, nodes, edges, journal, Tally::new(fuel as usize));
@@ -41,7 +41,7 @@ pub fn run_call(
     report: &mut [u8],
 ) -> Answer
     requires { ⌜ RunLayout l ⌝ }
-    ensures { λ r. ⌜ Leaves (run l (lending (now (nodes .entry)) (now (edges .entry)) (now (journal .entry)) (now (image .entry)) fuel (now (report .entry)))) (answerNumber r) (now (nodes .exit)) (now (edges .exit)) (now (journal .exit)) (now (report .exit)) ⌝ }
+    ensures { λ r. ⌜ Yields (run l (lending (now (nodes .entry)) (now (edges .entry)) (now (journal .entry)) (now (image .entry)) fuel (now (report .entry)))) (answerNumber r) (now (nodes .exit)) (now (edges .exit)) (now (journal .exit)) (now (report .exit)) ⌝ }
 {
     let check = refusal::run_check(
         l,

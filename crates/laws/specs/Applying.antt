@@ -8,7 +8,7 @@ use mathlib.Core.Option.{Option, some, none}
 use native.Mathlib.Omega.{arith}
 use borrow.Author.Tests.{leb-true}
 use lib.ListN.{length, getD, take, length-append, length-take, length-drop, length-map}
-use Rattle.meaning.specs.Basics.{choose, any, each, firstFailing}
+use Rattle.meaning.specs.Basics.{choose, exists, each, firstFailing}
 use Rattle.meaning.specs.Layout.{Slot, live, Node, Edge, Host, Change, ofNode, ofEdge, put}
 use Rattle.meaning.specs.Image.{RuleNode, Rule}
 use Rattle.meaning.specs.Matching.{leftNodes, leftEdges, Assignment}
@@ -132,16 +132,16 @@ pub record Applies (most room : ℕ) (r : Rule) (p : List ℕ) (g g′ : Ledger)
   pub edgeRoom : length (r .right .edges) ≤ freeSlots (g .host .edges) + leftEdges r
   pub recordRoom : length (g .journal) + recordsOf r ≤ room
   pub changes : g′ ≡ changed r p right g
-  pub attached : any (onFreeNode (g′ .host)) (length (g′ .host .edges)) ≡ false
+  pub attached : exists (onFreeNode (g′ .host)) (length (g′ .host .edges)) ≡ false
 
 tested-applied : (g g′ : Ledger) → tested g ≡ applied g′
-    → (g′ ≡ g) × (any (onFreeNode (g′ .host)) (length (g′ .host .edges)) ≡ false)
+    → (g′ ≡ g) × (exists (onFreeNode (g′ .host)) (length (g′ .host .edges)) ≡ false)
 unfolding tested choose
-tested-applied g g′ e = at (any (onFreeNode (g .host)) (length (g .host .edges))) refl e
+tested-applied g g′ e = at (exists (onFreeNode (g .host)) (length (g .host .edges))) refl e
   where
-    at : (b : Bool) → any (onFreeNode (g .host)) (length (g .host .edges)) ≡ b
+    at : (b : Bool) → exists (onFreeNode (g .host)) (length (g .host .edges)) ≡ b
         → choose b (hindered EdgeOnFreeNode) (applied g) ≡ applied g′
-        → (g′ ≡ g) × (any (onFreeNode (g′ .host)) (length (g′ .host .edges)) ≡ false)
+        → (g′ ≡ g) × (exists (onFreeNode (g′ .host)) (length (g′ .host .edges)) ≡ false)
     at true q e = let z : _≡_ {A = ℕ} 0 1 = cc in absurd (omega arith)
     at false q e = let h : g′ ≡ g = cc in (h, rw h q)
 
@@ -202,7 +202,7 @@ hindrance-some most room r p g w e = checks-some _ _ _ _ w e
 
 tested-hindered : (g : Ledger) (w : Stop) → tested g ≡ hindered w → w ≡ OutOfFuel → ⊥
 unfolding tested choose
-tested-hindered g w e q = at (any (onFreeNode (g .host)) (length (g .host .edges))) e
+tested-hindered g w e q = at (exists (onFreeNode (g .host)) (length (g .host .edges))) e
   where
     at : (b : Bool) → choose b (hindered EdgeOnFreeNode) (applied g) ≡ hindered w → ⊥
     at true e = let z : _≡_ {A = ℕ} 0 1 = cc in omega arith

@@ -14,7 +14,7 @@ use Rattle.meaning.specs.Image.{Program, limits, program}
 use Rattle.meaning.specs.References.{references}
 use Rattle.meaning.specs.Placement.{placement}
 use Rattle.meaning.specs.Commands.{State, Out, beginning, exec}
-use Rattle.meaning.specs.Calls.{Lent, LentBack, mostFuel, refused, referencesHold, placementHolds, runRefusal, journalRoom, finished, started, runOn, run, undoRefusal, undoOn, undo}
+use Rattle.meaning.specs.Calls.{Lent, LentUndo, mostFuel, refused, referencesHold, placementHolds, runRefusal, journalRoom, finished, started, runOn, run, undoRefusal, undoOn, undo}
 use Rattle.meaning.specs.Laws.Tests.{isSome-true}
 use Rattle.meaning.specs.Laws.Checks.{firstFailing-none}
 use Rattle.meaning.specs.declared.Layout.{Layout}
@@ -102,7 +102,7 @@ module _ (L : Layout) (x : Lent) where
   unfolding run runOn started
   run-started p e q = rw (e, q)
 
-module _ (L : Layout) (y : LentBack) where
+module _ (L : Layout) (y : LentUndo) where
   pub undo-refused : (w : Refusal) → undoRefusal L y ≡ some w
       → undo L y ≡ refused w (y .nodes) (y .edges) (y .journal) (y .report)
   unfolding undo undoOn

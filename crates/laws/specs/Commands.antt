@@ -10,11 +10,11 @@ use native.Mathlib.Omega.{arith}
 use lib.ListN.{length, getD}
 use Rattle.meaning.specs.Basics.{choose}
 use Rattle.meaning.specs.Layout.{Host}
-use Rattle.meaning.specs.Image.{Rule, Command, ruleSet, sequence, guarded, loop, skip, fail, break, Commands, stop, then}
+use Rattle.meaning.specs.Image.{Rule, Command, ruleSet, sequence, guarded, loop, skip, fail, break, Commands, noMore, then}
 use Rattle.meaning.specs.Matching.{leftNodes, leftEdges}
 use Rattle.meaning.specs.FirstMatch.{candidates, fits, complete, firstMatch}
 use Rattle.meaning.specs.Applying.{Ledger, Applied, applied, hindered, apply}
-use Rattle.meaning.specs.Commands.{State, Out, ends, back, enterAt, enter, Chosen, orLater, ruleAt, firstRule, afterApplying, next, decide, again, rounds, call, work, works, exec, stateAt}
+use Rattle.meaning.specs.Commands.{State, Out, ends, back, enterAt, enter, Chosen, orLater, ruleAt, firstRule, afterApplying, next, decide, again, rounds, ruleCall, work, works, exec, stateAt}
 use Rattle.meaning.specs.Placement.{breaksLie, allBreaksLie}
 use Rattle.meaning.specs.Laws.Tests.{both-true}
 use Rattle.laws.specs.Search.{Low, deep-low}
@@ -105,7 +105,7 @@ module _ (most room : ℕ) (rules : List Rule) where
     pub trans : (s t u : State) → R s t → R t u → R s u
     pub enters : (s : State) (f : ℕ) → s .fuel ≡ suc f → R s (entered f s)
     pub undoes : (s t : State) → R s t → R s (back s t)
-    pub calls : (l : List ℕ) (s : State) → R s (call most room rules (firstRule rules (s .ledger .host) l) s .state)
+    pub calls : (l : List ℕ) (s : State) → R s (ruleCall most room rules (firstRule rules (s .ledger .host) l) s .state)
 
   module _ (R : State → State → Type 0) (κ : Kept R) where
     enterAt-kept : (f : ℕ) (k : State → Out) → ((t : State) → R t (k t .state)) → (s : State) → s .fuel ≡ f
@@ -163,7 +163,7 @@ module _ (most room : ℕ) (rules : List Rule) where
       work-kept break s = κ .same s
 
       pub works-kept : (cs : Commands) (s : State) → R s (works most room rules cs s .state)
-      works-kept stop s = κ .same s
+      works-kept noMore s = κ .same s
       works-kept (then c cs) s = next-kept _ s _ _ (enter-kept _ (λ t. work-kept c t) s) (λ u. works-kept cs u)
 
     pub exec-kept : (c : Command) (s : State) → R s (exec most room rules c s .state)
@@ -173,8 +173,8 @@ module _ (most room : ℕ) (rules : List Rule) where
   pub call-either : (o : Option Chosen) (s : State) (P : State → Type 0) → P s
       → ((c : Chosen) (g : Ledger) → o ≡ some c → apply most room (c .rule) (c .slots) (s .ledger) ≡ applied g
       → P (stateAt g (s .fuel) (s .steps)))
-      → P (call most room rules o s .state)
-  unfolding call afterApplying
+      → P (ruleCall most room rules o s .state)
+  unfolding ruleCall afterApplying
   call-either none s P p k = p
   call-either (some c) s P p k = at (apply most room (c .rule) (c .slots) (s .ledger)) refl
     where
@@ -268,8 +268,8 @@ after-unbroken (applied g) s = tt
 after-unbroken (hindered w) s = tt
 
 module _ (most room : ℕ) (rules : List Rule) where
-  pub call-unbroken : (o : Option Chosen) (s : State) → Unbroken (call most room rules o s .end)
-  unfolding call
+  pub call-unbroken : (o : Option Chosen) (s : State) → Unbroken (ruleCall most room rules o s .end)
+  unfolding ruleCall
   call-unbroken none s = tt
   call-unbroken (some c) s = after-unbroken _ s
 
@@ -293,7 +293,7 @@ module _ (most room : ℕ) (rules : List Rule) where
 
     pub works-unbroken : (cs : Commands) (s : State) → allBreaksLie cs false ≡ true
         → Unbroken (works most room rules cs s .end)
-    works-unbroken stop s b = tt
+    works-unbroken noMore s b = tt
     works-unbroken (then c cs) s b =
         let l = both-true _ _ b in
         next-unbroken _ _ _ (enter-unbroken (s .fuel) _ (λ t. work-unbroken c t (l .0)) s) (λ u. works-unbroken cs u (l .1))

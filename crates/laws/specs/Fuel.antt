@@ -7,9 +7,9 @@ use mathlib.Core.Bool.{Bool}
 use mathlib.Core.Option.{Option, some, none}
 use native.Mathlib.Omega.{arith}
 use native.Mathlib.Nat.{le-refl}
-use Rattle.meaning.specs.Image.{Rule, Command, ruleSet, sequence, guarded, loop, skip, fail, break, Commands, stop, then}
+use Rattle.meaning.specs.Image.{Rule, Command, ruleSet, sequence, guarded, loop, skip, fail, break, Commands, noMore, then}
 use Rattle.meaning.specs.Applying.{Applied, applied, hindered, apply}
-use Rattle.meaning.specs.Commands.{State, Out, ends, enterAt, enter, Chosen, afterApplying, next, decide, again, rounds, call, work, works, exec}
+use Rattle.meaning.specs.Commands.{State, Out, ends, enterAt, enter, Chosen, afterApplying, next, decide, again, rounds, ruleCall, work, works, exec}
 use Rattle.laws.specs.Applying.{apply-hindered}
 use Rattle.laws.specs.Commands.{entered, Kept, call-either, work-kept, works-kept, exec-kept}
 use Rattle.meaning.specs.declared.Stop.{Stop}
@@ -143,8 +143,8 @@ rounds-spent (suc n) body b h s k =
 
 module _ (most room : ℕ) (rules : List Rule) where
   -- a rule set does not run out of fuel
-  pub call-enough : (o : Option Chosen) (s : State) (P : Type 0) → AtOut (call most room rules o s .end) P
-  unfolding call afterApplying
+  pub call-enough : (o : Option Chosen) (s : State) (P : Type 0) → AtOut (ruleCall most room rules o s .end) P
+  unfolding ruleCall afterApplying
   call-enough none s P = tt
   call-enough (some c) s P = at (apply most room (c .rule) (c .slots) (s .ledger)) refl
     where
@@ -170,7 +170,7 @@ module _ (most room : ℕ) (rules : List Rule) where
     work-spent break s = tt
 
     works-spent : (cs : Commands) (s : State) → Spent (works most room rules cs s)
-    works-spent stop s = tt
+    works-spent noMore s = tt
     works-spent (then c cs) s = next-spent _ _ _ (enter-spent (s .fuel) _ (λ t. work-spent c t) s refl) (works-spent cs _)
 
 -- The rounds of a loop do not depend on their bound where that is at least the fuel.

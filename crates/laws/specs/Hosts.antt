@@ -11,7 +11,7 @@ use lib.ListN.{length, getD, drop, replicate, length-append, List·getD-eq-defau
 use lib.Seq.{drop-at, drop-drop}
 use Rattle.meaning.specs.Basics.{zeros}
 use Rattle.meaning.specs.Numbers.{bytes}
-use Rattle.meaning.specs.Layout.{Slot, free, live, Node, Edge, Host, isLive, liveAt, isNodeMark, isEdgeMark, nodeLength, edgeLength, cut, atoms, readNode, readEdge, readNodes, readEdges, atomBytes, nodeBytes, edgeBytes, writeNode, writeEdge, writeNodes, writeEdges, keepsNode, keepsEdge, keepsLayout}
+use Rattle.meaning.specs.Layout.{Slot, free, live, Node, Edge, Host, isLive, liveAt, isNodeMark, isEdgeMark, nodeLength, edgeLength, cut, readAtoms, readNode, readEdge, readNodes, readEdges, atomBytes, nodeBytes, edgeBytes, writeNode, writeEdge, writeNodes, writeEdges, keepsNode, keepsEdge, keepsLayout}
 use Rattle.meaning.specs.declared.Layout.{Layout}
 use Rattle.meaning.specs.Laws.Tests.{both-of, zeros-of}
 use Rattle.laws.specs.Numbers.{Bytes, Bytes-drop, length-bytes, number-bytes, number-take-lt}
@@ -130,7 +130,7 @@ module _ (L : Layout) where
       readEdge-live L (writeEdge L (live e)) (λ q. omega arith)
       ∙ (λ i. live (record { mark = e .mark; source = written-source e h i; target = written-target e h i; label = label i }))
     where
-      label : atoms (length (e .label)) (drop (4 + 2 * L .width) (writeEdge L (live e))) ≡ e .label
+      label : readAtoms (length (e .label)) (drop (4 + 2 * L .width) (writeEdge L (live e))) ≡ e .label
       label = rw (drop-ends e) (atoms-atomBytes (e .label) (filling e) (h .words))
 
   pub keepsEdge-writeEdge : (nodes : List (Slot Node)) (s : Slot Edge) → OnLive (LegalEdge L) s → OnLive (Attached nodes) s

@@ -13,7 +13,7 @@ use lib.ListN.{length, getD, take, drop, length-append, length-take, length-drop
 use lib.Seq.{take-add, drop-drop}
 use Rattle.meaning.specs.Basics.{choose, clauses, zeros, concat, padded}
 use Rattle.meaning.specs.Numbers.{number, bytes, whole}
-use Rattle.meaning.specs.Layout.{Sized, base, Slot, free, live, isLive, Node, Edge, liveAt, isNodeMark, isEdgeMark, nodeLength, edgeLength, pieces, cut, atoms, readNode, readEdge, readNodes, readEdges, atomBytes, nodeBytes, edgeBytes, writeNode, writeEdge, writeNodes, writeEdges, keepsNode, keepsEdge, keepsLayout}
+use Rattle.meaning.specs.Layout.{Sized, base, Slot, free, live, isLive, Node, Edge, liveAt, isNodeMark, isEdgeMark, nodeLength, edgeLength, pieces, cut, readAtoms, readNode, readEdge, readNodes, readEdges, atomBytes, nodeBytes, edgeBytes, writeNode, writeEdge, writeNodes, writeEdges, keepsNode, keepsEdge, keepsLayout}
 use Rattle.meaning.specs.declared.Layout.{Layout}
 use Rattle.meaning.specs.Laws.Tests.{both-true, both-of, choose-eq, choose-ne, every-true, zeros-true, zeros-of}
 use Rattle.laws.specs.References.{clauses-true}
@@ -46,17 +46,17 @@ padded-take n k l b p e h =
 abbrev pub Words : List ℕ → Type 0
 Words l = (i : ℕ) → getD l i 0 < whole
 
-pub length-atoms : (n : ℕ) (bs : List ℕ) → length (atoms n bs) ≡ n
+pub length-atoms : (n : ℕ) (bs : List ℕ) → length (readAtoms n bs) ≡ n
 length-atoms n bs = length-map (pieces 4 n bs) number ∙ length-pieces 4 n bs
 
-pub Words-atoms : (n : ℕ) (bs : List ℕ) → Bytes bs → Words (atoms n bs)
+pub Words-atoms : (n : ℕ) (bs : List ℕ) → Bytes bs → Words (readAtoms n bs)
 unfolding pieces
 Words-atoms zero bs h i = omega arith
 Words-atoms (suc n) bs h zero = number-take-lt 4 bs h
 Words-atoms (suc n) bs h (suc i) = Words-atoms n (drop 4 bs) (Bytes-drop 4 bs h) i
 
 -- atom j, from its own bytes
-pub getD-atoms : (n : ℕ) (bs : List ℕ) (j : ℕ) → j < n → getD (atoms n bs) j 0 ≡ number (take 4 (drop (j * 4) bs))
+pub getD-atoms : (n : ℕ) (bs : List ℕ) (j : ℕ) → j < n → getD (readAtoms n bs) j 0 ≡ number (take 4 (drop (j * 4) bs))
 getD-atoms n bs j h = getD-map number (pieces 4 n bs) j [] 0 (rw (length-pieces 4 n bs) h) ∙ ap number (getD-pieces 4 n bs j h)
 
 Wide-bytes : (w : ℕ) (l : List ℕ) → Wide w (map (bytes w) l)
@@ -66,7 +66,7 @@ pub length-atomBytes : (l : List ℕ) → length (atomBytes l) ≡ length l * 4
 length-atomBytes l = rw (length-concat 4 (map (bytes 4) l) (Wide-bytes 4 l), length-map l (bytes 4))
 
 -- the bytes of atoms that were read
-pub atomBytes-atoms : (n : ℕ) (bs : List ℕ) → Bytes bs → n * 4 ≤ length bs → atomBytes (atoms n bs) ≡ take (n * 4) bs
+pub atomBytes-atoms : (n : ℕ) (bs : List ℕ) → Bytes bs → n * 4 ≤ length bs → atomBytes (readAtoms n bs) ≡ take (n * 4) bs
 atomBytes-atoms n bs h k = ap concat (map-back number (bytes 4) (pieces 4 n bs) [] same) ∙ concat-pieces 4 n bs
   where
     same : (i : ℕ) → i < length (pieces 4 n bs) → bytes 4 (number (getD (pieces 4 n bs) i [])) ≡ getD (pieces 4 n bs) i []
@@ -76,9 +76,9 @@ atomBytes-atoms n bs h k = ap concat (map-back number (bytes 4) (pieces 4 n bs) 
         ∙ bytes-number (getD (pieces 4 n bs) i []) (Bytes-pieces 4 n bs i h m)
 
 -- the atoms of bytes that were written, whatever stands behind them
-pub atoms-atomBytes : (l bs : List ℕ) → Words l → atoms (length l) (atomBytes l ++ bs) ≡ l
+pub atoms-atomBytes : (l bs : List ℕ) → Words l → readAtoms (length l) (atomBytes l ++ bs) ≡ l
 atoms-atomBytes l bs h =
-    ap (λ (n : ℕ). atoms n (atomBytes l ++ bs)) (sym (length-map l (bytes 4)))
+    ap (λ (n : ℕ). readAtoms n (atomBytes l ++ bs)) (sym (length-map l (bytes 4)))
     ∙ ap (map number) (pieces-concat 4 (map (bytes 4) l) bs (Wide-bytes 4 l))
     ∙ map-back (bytes 4) number l 0 (λ i k. number-bytes 4 (getD l i 0) (h i))
 
@@ -90,7 +90,7 @@ readNode-free b e = choose-eq (getD b 0 0) 0 _ _ e
 
 -- the node that a slot's bytes hold where its state is not 0
 abbrev pub nodeOf : List ℕ → Node
-nodeOf b = record { mark = getD b 1 0; root = getD b 2 0; label = atoms (getD b 3 0) (drop 4 b) }
+nodeOf b = record { mark = getD b 1 0; root = getD b 2 0; label = readAtoms (getD b 3 0) (drop 4 b) }
 
 pub readNode-live : (b : List ℕ) → (getD b 0 0 ≡ 0 → ⊥) → readNode b ≡ live (nodeOf b)
 unfolding readNode
@@ -173,7 +173,7 @@ module _ (L : Layout) where
 
 -- ends and label that were read are written as they stood
 ends-label : (w n : ℕ) (c : List ℕ) → Bytes c → 2 * w + n * 4 ≤ length c
-    → bytes w (number (take w c)) ++ bytes w (number (take w (drop w c))) ++ atomBytes (atoms n (drop (2 * w) c))
+    → bytes w (number (take w c)) ++ bytes w (number (take w (drop w c))) ++ atomBytes (readAtoms n (drop (2 * w) c))
     ≡ take (2 * w + n * 4) c
 ends-label w n c h k =
     let d : 2 * w ≡ w + w = omega arith in
@@ -198,7 +198,7 @@ module _ (L : Layout) where
         mark = getD b 1 0;
         source = number (take (L .width) (drop 4 b));
         target = number (take (L .width) (drop (4 + L .width) b));
-        label = atoms (getD b 3 0) (drop (4 + 2 * L .width) b);
+        label = readAtoms (getD b 3 0) (drop (4 + 2 * L .width) b);
       }
 
   pub readEdge-live : (b : List ℕ) → (getD b 0 0 ≡ 0 → ⊥) → readEdge L b ≡ live (edgeOf b)

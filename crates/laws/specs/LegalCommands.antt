@@ -9,7 +9,7 @@ use Rattle.meaning.specs.Image.{Rule, Command}
 use Rattle.meaning.specs.References.{variablesExist, endsExist, testNodesExist, interfaceFits, leftPlain, leftSimple, operandsInt, variablesOnLeft, anyPlaced, ruleHolds}
 use Rattle.meaning.specs.Matching.{Match}
 use Rattle.meaning.specs.Applying.{Applied, applied, hindered, apply}
-use Rattle.meaning.specs.Commands.{State, Chosen, ruleAt, firstRule, afterApplying, call, exec}
+use Rattle.meaning.specs.Commands.{State, Chosen, ruleAt, firstRule, afterApplying, ruleCall, exec}
 use Rattle.meaning.specs.Laws.Every.{Every, Every-at}
 use Rattle.laws.specs.FirstMatch.{found-match}
 use Rattle.laws.specs.Commands.{firstRule-some, Kept, call-either, exec-kept}
@@ -68,12 +68,12 @@ module _ (L : Layout) (m n : ℕ) (fewNodes : m ≤ 256 ^ L .width) (fewEdges : 
     after-attached (hindered w) s h = λ e. h (ap hindered e)
 
     call-attached : (l : List ℕ) (s : State) → LegalLedger L m n (s .ledger)
-        → OnStop (λ w. w ≡ EdgeOnFreeNode → ⊥) (call (L .atoms) room rules (firstRule rules (s .ledger .host) l) s .end)
-    unfolding call
+        → OnStop (λ w. w ≡ EdgeOnFreeNode → ⊥) (ruleCall (L .atoms) room rules (firstRule rules (s .ledger .host) l) s .end)
+    unfolding ruleCall
     call-attached l s h = at (firstRule rules (s .ledger .host) l) refl
       where
         at : (o : Option Chosen) → firstRule rules (s .ledger .host) l ≡ o
-            → OnStop (λ w. w ≡ EdgeOnFreeNode → ⊥) (call (L .atoms) room rules o s .end)
+            → OnStop (λ w. w ≡ EdgeOnFreeNode → ⊥) (ruleCall (L .atoms) room rules o s .end)
         at none q = tt
         at (some c) q =
             let t = chosen s l c q in

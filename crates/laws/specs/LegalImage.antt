@@ -11,7 +11,7 @@ use lib.ListN.{length, getD, drop}
 use Rattle.meaning.specs.Tags.{interfaceTag, leftTag, rightTag, testsTag, variablesTag}
 use Rattle.meaning.specs.Basics.{choose, every, _>>=_}
 use Rattle.meaning.specs.Numbers.{number, whole}
-use Rattle.meaning.specs.Image.{RuleNode, RuleEdge, RuleGraph, Rule, Program, limits, Field, Read, stated, field, expect, leading, only, anyTag, constant, oneByte, operand, Pair, asPair, twoOperands, element, label, ruleNode, ruleEdge, ruleGraph, isType, types, relation, condition, test, rule, program}
+use Rattle.meaning.specs.Image.{RuleNode, RuleEdge, RuleGraph, Rule, Program, limits, Field, Read, stated, field, expect, leading, only, passesAll, constant, oneByte, operand, Pair, asPair, twoOperands, element, label, ruleNode, ruleEdge, ruleGraph, isType, types, relation, condition, test, rule, program}
 use Rattle.meaning.specs.References.{conditionOperands, ruleHolds, references}
 use Rattle.meaning.specs.Laws.Tests.{both-true, some-inj, bind-some, ensure-some}
 use Rattle.meaning.specs.Laws.Every.{Every, Every-true, Every-with}
@@ -44,7 +44,7 @@ expect-bytes tag bs d h e =
     let u = ensure-some _ _ d (t .2) in
     rw (← (some-inj (t .0) d (u .1))) (field-bytes bs (t .0) h (t .1))
 
--- Runs of fields: what holds of each item that is read from bytes.
+-- Series of fields: what holds of each item that is read from bytes.
 
 module _ {A : Type 0} (passes : ℕ → Bool) (item : ℕ → List ℕ → Option A) (P : A → Type 0)
     (h : (tag : ℕ) (bs : List ℕ) (a : A) → Bytes bs → item tag bs ≡ some a → P a)
@@ -118,8 +118,8 @@ asPair-legal (a ∷ b ∷ c ∷ l) p h e = let z : _≡_ {A = ℕ} 0 1 = cc in a
 operands-legal : (bs : List ℕ) (p : Pair) → Bytes bs → twoOperands bs ≡ some p → LegalPair p
 unfolding twoOperands
 operands-legal bs p h e =
-    let t = bind-some (only anyTag operand 2 bs) _ p e in
-    asPair-legal (t .0) p (only-every anyTag operand LegalOperand operand-legal 2 bs (t .0) h (t .1)) (t .2)
+    let t = bind-some (only passesAll operand 2 bs) _ p e in
+    asPair-legal (t .0) p (only-every passesAll operand LegalOperand operand-legal 2 bs (t .0) h (t .1)) (t .2)
 
 element-legal : (tag : ℕ) (bs : List ℕ) (a : Element) → Bytes bs → element tag bs ≡ some a → LegalElement a
 unfolding element
@@ -133,7 +133,7 @@ element-legal tag bs a h e =
 
 label-elements : (bs : List ℕ) (l : List Element) → Bytes bs → label bs ≡ some l → Every LegalElement l
 unfolding label
-label-elements bs l h e = only-every anyTag element LegalElement element-legal (limits .elements) bs l h e
+label-elements bs l h e = only-every passesAll element LegalElement element-legal (limits .elements) bs l h e
 
 -- Graphs.
 
@@ -219,7 +219,7 @@ rule-formed bs r h e =
     after (expect rightTag (l .rest)) _ r e (λ g eg e. after (expect interfaceTag (g .rest)) _ r e (λ k ek e.
     after (expect testsTag (k .rest)) _ r e (λ t et e. after (types (v .payload)) _ r (ensure-some _ _ r e .1) (λ a ea e.
     after (ruleGraph (l .payload)) _ r e (λ b eb e. after (ruleGraph (g .payload)) _ r e (λ c ec e.
-    after (oneByte (k .payload)) _ r e (λ i ei e. after (only anyTag test (limits .tests) (t .payload)) _ r e (λ s es e.
+    after (oneByte (k .payload)) _ r e (λ i ei e. after (only passesAll test (limits .tests) (t .payload)) _ r e (λ s es e.
     let hv = expect-bytes variablesTag bs v h ev in
     let hl = expect-bytes leftTag (v .rest) l (hv .1) el in
     let hg = expect-bytes rightTag (l .rest) g (hl .1) eg in
@@ -230,7 +230,7 @@ rule-formed bs r h e =
     (record {
       nodes = q .0;
       edges = q .1;
-      tests = only-every anyTag test LegalTest test-legal (limits .tests) (t .payload) s (ht .0) es;
+      tests = only-every passesAll test LegalTest test-legal (limits .tests) (t .payload) s (ht .0) es;
       types = types-hold (v .payload) a ea;
     })))))))))))
 

@@ -14,7 +14,7 @@ use Rattle.meaning.specs.Layout.{Slot, free, live, Node, Edge, Host, isLive, li
 use Rattle.meaning.specs.Image.{Rule}
 use Rattle.meaning.specs.Matching.{edgeIn, leftNodes, leftEdges, Match}
 use Rattle.meaning.specs.Applying.{Right, rightSide, Ledger, standing, store, stores, lowestFree, freeSlots, edgesGo, nodesChange, addNodes, between, addEdges, changed, newNodes, goneNodes, hindrance, onFreeNode, applied, hindered, tested, unhindered, apply}
-use Rattle.meaning.specs.Laws.Tests.{choose-false, any-no}
+use Rattle.meaning.specs.Laws.Tests.{choose-false, exists-no}
 use Rattle.meaning.specs.Laws.Every.{Every, Every-then}
 use Rattle.laws.specs.Hosts.{LegalNode, LegalEdge, Attached, OnLive, LegalHost, liveAt-lt}
 use Rattle.laws.specs.Records.{LegalChange, Within, Every-append}
@@ -254,7 +254,7 @@ onFreeNode-no L h k x = at (getD (h .edges) x free) (k .ends x)
 
 pub tested-legal : (L : Layout) (g : Ledger) → LegalHost L (g .host) → tested g ≡ applied g
 unfolding tested
-tested-legal L g k = choose-false _ _ _ (any-no (onFreeNode (g .host)) (length (g .host .edges)) (λ x h. onFreeNode-no L (g .host) k x))
+tested-legal L g k = choose-false _ _ _ (exists-no (onFreeNode (g .host)) (length (g .host .edges)) (λ x h. onFreeNode-no L (g .host) k x))
 
 -- Applying.
 

@@ -17,10 +17,10 @@ use Rattle.meaning.specs.Layout.{Host, liveAt}
 use Rattle.meaning.specs.Image.{Rule, isType}
 use Rattle.meaning.specs.Tags.{anyMark}
 use Rattle.meaning.specs.References.{ruleHolds}
-use Rattle.meaning.specs.Matching.{Match, MarksAgree, nodeAt, edgeAt, leftNode, leftEdge, leftNodes, leftEdges, nodeSlot, edgeSlot, runs, testHolds, touches, rootsAgree}
+use Rattle.meaning.specs.Matching.{Match, MarksAgree, nodeAt, edgeAt, leftNode, leftEdge, leftNodes, leftEdges, nodeSlot, edgeSlot, edgeRuns, testHolds, edgeTouches, rootsAgree}
 use Rattle.meaning.specs.Assigned.{assigned}
 use Rattle.meaning.specs.FirstMatch.{marksAgree, labelAgrees, testsSoFar, joins, linked, leftTouches, canGo, nodeFits, edgeFits, fits, candidates, touchesGone, dangles, complete}
-use Rattle.meaning.specs.Laws.Tests.{not-so, both-true, both-yes, both-of, choose-lt, choose-le, choose-eq, choose-ne, absent-true, absent-of, absent-false, any-of, any-true, any-false, any-no, all-of, either-left, either-right, either-true}
+use Rattle.meaning.specs.Laws.Tests.{not-so, both-true, both-yes, both-of, choose-lt, choose-le, choose-eq, choose-ne, absent-true, absent-of, absent-false, exists-of, exists-true, exists-false, exists-no, all-of, either-left, either-right, either-true}
 use Rattle.laws.specs.Hosts.{liveAt-lt}
 use Rattle.laws.specs.Counting.{count-from}
 use Rattle.laws.specs.References.{clauses-true, ends}
@@ -130,7 +130,7 @@ module _ (h : Host) (r : Rule) (p : List ℕ) (size : length p ≡ leftNodes r +
         → (liveAt (h .edges) (edgeSlot r p k) ≡ true) × (edgeAt h (edgeSlot r p k) .source ≡ nodeSlot p (leftEdge r k .source))
         × (edgeAt h (edgeSlot r p k) .target ≡ nodeSlot p (leftEdge r k .target))
         × MarksAgree (leftEdge r k .mark) (edgeAt h (edgeSlot r p k) .mark)
-    unfolding joins runs marksAgree
+    unfolding joins edgeRuns marksAgree
     joined k j =
         let t = both-true _ _ (edge k j 0) in
         let u = both-true _ _ (t .0) in
@@ -140,11 +140,11 @@ module _ (h : Host) (r : Rule) (p : List ℕ) (size : length p ≡ leftNodes r +
     not-dangling : (x j : ℕ) → liveAt (h .edges) x ≡ true → r .interface ≤ j → j < leftNodes r
         → (edgeAt h x .source ≡ nodeSlot p j) ⊎ (edgeAt h x .target ≡ nodeSlot p j)
         → (k : ℕ) × (k < leftEdges r) × (edgeSlot r p k ≡ x)
-    unfolding complete dangles touchesGone touches
+    unfolding complete dangles touchesGone edgeTouches
     not-dangling x j l i k t =
-        let none-dangles = any-false _ _ (not-true _ (both-true _ _ full .0)) x (liveAt-lt (h .edges) x l) in
+        let none-dangles = exists-false _ _ (not-true _ (both-true _ _ full .0)) x (liveAt-lt (h .edges) x l) in
         let touched = equal-of (edgeAt h x .source) (nodeSlot p j) (edgeAt h x .target) (nodeSlot p j) t in
-        let gone = any-of (touchesGone h r p x) (leftNodes r) j k (both-of _ _ (le-leb _ _ i) (both-of _ _ l touched)) in
+        let gone = exists-of (touchesGone h r p x) (leftNodes r) j k (both-of _ _ (le-leb _ _ i) (both-of _ _ l touched)) in
         let a = absent-false x (drop (leftNodes r) p) (sym (both-yes _ _ gone) ∙ none-dangles) in
         (a .0, omega (arith, a .1, length-drop (leftNodes r) p), sym (getD-drop (leftNodes r) p (a .0) 0) ∙ a .2)
 
@@ -185,7 +185,7 @@ module _ (h : Host) (r : Rule) (p : List ℕ) (size : length p ≡ leftNodes r +
     tested = tests-same h r p size holds types (m .assignment) rule-4 (m .tests)
 
     joins-of : (k : ℕ) → k < leftEdges r → joins h r p k (edgeSlot r p k) ≡ true
-    unfolding joins runs marksAgree
+    unfolding joins edgeRuns marksAgree
     joins-of k j =
         both-of _ _ (both-of _ _ (m .edgesLive k j) (both-of _ _ (eq-eqb _ _ (m .sources k j)) (eq-eqb _ _ (m .targets k j))))
         (equal-of (leftEdge r k .mark) anyMark (leftEdge r k .mark) _ (m .edgeMarks k j))
@@ -200,7 +200,7 @@ module _ (h : Host) (r : Rule) (p : List ℕ) (size : length p ≡ leftNodes r +
         at k j (no d) = choose-ne _ _ _ _ d
         at k j (yes d) =
             choose-eq (max (leftEdge r k .source) (leftEdge r k .target)) i _ _ d
-            ∙ any-of _ _ (edgeSlot r p k) (liveAt-lt (h .edges) _ (m .edgesLive k j))
+            ∙ exists-of _ _ (edgeSlot r p k) (liveAt-lt (h .edges) _ (m .edgesLive k j))
             (joins-take (suc i) k (edgeSlot r p k) (omega arith) (omega arith) ∙ joins-of k j)
 
     same-node : (i j : ℕ) → i < leftNodes r → j < leftNodes r → nodeSlot p i ≡ nodeSlot p j → i ≡ j
@@ -218,14 +218,14 @@ module _ (h : Host) (r : Rule) (p : List ℕ) (size : length p ≡ leftNodes r +
 
     -- each host edge at the slot of a node that goes is the slot of a left edge at that node
     can-go : (i : ℕ) → i < leftNodes r → canGo h r i (nodeSlot p i) ≡ true
-    unfolding canGo touches leftTouches
+    unfolding canGo edgeTouches leftTouches
     can-go i l = at (decLt i (r .interface))
       where
         at : Dec (i < r .interface) → canGo h r i (nodeSlot p i) ≡ true
         at (yes d) = either-left _ _ (lt-ltb _ _ d)
         at (no d) = either-right _ _ (le-leb _ _ (count-from _ (leftTouches h r i) (edgeSlot r p) (length (h .edges)) (leftEdges r) from))
           where
-            from : (x : ℕ) → x < length (h .edges) → touches h (nodeSlot p i) x ≡ true
+            from : (x : ℕ) → x < length (h .edges) → edgeTouches h (nodeSlot p i) x ≡ true
                 → (k : ℕ) × (k < leftEdges r) × (leftTouches h r i k ≡ true) × (edgeSlot r p k ≡ x)
             from x j e =
                 let t = both-true _ _ e in
@@ -259,13 +259,13 @@ module _ (h : Host) (r : Rule) (p : List ℕ) (size : length p ≡ leftNodes r +
     )
 
     full : complete h r p ≡ true
-    unfolding complete dangles touchesGone touches
-    full = both-of _ _ (ap not (any-no _ _ (λ x k. not-so _ (no-edge x)))) tested
+    unfolding complete dangles touchesGone edgeTouches
+    full = both-of _ _ (ap not (exists-no _ _ (λ x k. not-so _ (no-edge x)))) tested
       where
         no-edge : (x : ℕ) → dangles h r p x ≡ true → ⊥
         no-edge x e =
             let t = both-true _ _ e in
-            let j = any-true _ _ (t .0) in
+            let j = exists-true _ _ (t .0) in
             let u = both-true _ _ (j .2) in
             let v = both-true _ _ (u .1) in
             let g = m .dangling x (j .0) (v .0) (leb-true _ _ (u .0)) (j .1) (equal-true _ _ _ _ (v .1)) in

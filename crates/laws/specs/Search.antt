@@ -10,7 +10,7 @@ use native.Mathlib.Omega.{arith}
 use native.Mathlib.Nat.{le-refl}
 use native.Mathlib.Decide.{decLt, ℕ-discrete}
 use lib.ListN.{length, getD, take}
-use Rattle.meaning.specs.Search.{pick, leaf, scan, deep, Ext}
+use Rattle.meaning.specs.Search.{pick, foundIf, scan, deep, Ext}
 use Rattle.meaning.specs.Matching.{Before}
 
 abbrev pub From : ℕ → List ℕ → Type 0
@@ -33,13 +33,13 @@ module _ (bound : List ℕ → ℕ) (ok : List ℕ → ℕ → Bool) (full : Lis
   Low m p c none = (q : List ℕ) → In m p c q → ⊥
   Low m p c (some r) = (q : List ℕ) × (r ≡ p ++ q) × In m p c q × ((t : List ℕ) → In m p c t → Before t q → ⊥)
 
-  leaf-low : (p : List ℕ) (c : ℕ) (b : Bool) → full p ≡ b → Low 0 p c (leaf b p)
-  leaf-low p c true e = ([], sym (append-nil p), record { size = refl; good = e; from = tt }, no-before)
+  found-low : (p : List ℕ) (c : ℕ) (b : Bool) → full p ≡ b → Low 0 p c (foundIf b p)
+  found-low p c true e = ([], sym (append-nil p), record { size = refl; good = e; from = tt }, no-before)
     where
       no-before : (t : List ℕ) → In 0 p c t → Before t [] → ⊥
       no-before [] s b = b
       no-before (a ∷ t) s b = b
-  leaf-low p c false e = nothing
+  found-low p c false e = nothing
     where
       nothing : (q : List ℕ) → In 0 p c q → ⊥
       nothing [] s = let g : full p ≡ true = s .good in let z : _≡_ {A = ℕ} 0 1 = cc in omega arith
@@ -99,7 +99,7 @@ module _ (bound : List ℕ → ℕ) (ok : List ℕ → ℕ → Bool) (full : Lis
 
   pub deep-low : (m : ℕ) (p : List ℕ) (c : ℕ) → Low m p c (deep bound ok full m p c)
   unfolding deep
-  deep-low zero p c = leaf-low p c (full p) refl
+  deep-low zero p c = found-low p c (full p) refl
   deep-low (suc m) p c = scan-low m p (λ q. deep-low m q 0) c (bound p - c) refl
 
   -- `Ext` at each level: the slot there, behind those before it

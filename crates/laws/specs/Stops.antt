@@ -5,8 +5,8 @@ use mathlib.Core.Path.{_≡_, refl}
 use mathlib.Core.List.{List}
 use mathlib.Core.Bool.{Bool, true, false}
 use Rattle.meaning.specs.Basics.{choose}
-use Rattle.meaning.specs.Image.{Rule, Command, ruleSet, sequence, guarded, loop, skip, fail, break, Commands, stop, then}
-use Rattle.meaning.specs.Commands.{State, Out, back, enterAt, firstRule, next, decide, again, rounds, call, work, works, exec}
+use Rattle.meaning.specs.Image.{Rule, Command, ruleSet, sequence, guarded, loop, skip, fail, break, Commands, noMore, then}
+use Rattle.meaning.specs.Commands.{State, Out, back, enterAt, firstRule, next, decide, again, rounds, ruleCall, work, works, exec}
 use Rattle.laws.specs.Commands.{Kept, entered, exec-kept}
 use Rattle.meaning.specs.declared.Stop.{Stop}
 use Rattle.meaning.specs.declared.Stop.the-variants.{OutOfFuel}
@@ -22,7 +22,7 @@ OnStop Q (Stopped w) = Q w
 
 module _ (most room : ℕ) (rules : List Rule) (P : State → Type 0) (κ : Kept most room rules (λ s t. P s → P t)) (Q : Stop → Type 0)
     (fuel : Q OutOfFuel)
-    (calls : (l : List ℕ) (s : State) → P s → OnStop Q (call most room rules (firstRule rules (s .ledger .host) l) s .end))
+    (calls : (l : List ℕ) (s : State) → P s → OnStop Q (ruleCall most room rules (firstRule rules (s .ledger .host) l) s .end))
   where
     -- from a state that has P
     abbrev Stops : (State → Out) → Type 0
@@ -82,7 +82,7 @@ module _ (most room : ℕ) (rules : List Rule) (P : State → Type 0) (κ : Kept
       work-stops break s p = tt
 
       works-stops : (cs : Commands) → Stops (works most room rules cs)
-      works-stops stop s p = tt
+      works-stops noMore s p = tt
       works-stops (then c cs) s p =
           next-stops _ _ _ (enter-stops (s .fuel) _ (λ t q. work-stops c t q) s refl p) (kept c s p) (λ t q. works-stops cs t q)
 

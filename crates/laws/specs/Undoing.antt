@@ -16,7 +16,7 @@ use Rattle.meaning.specs.Numbers.{number, bytes, whole}
 use Rattle.meaning.specs.Layout.{Slot, Node, Edge, Host, Change, base, nodeLength, edgeLength, recordLength, fitsTable, readNode, readEdge, hostOf, writeNode, writeEdge, writeNodes, writeEdges, writeRecord, keepsLayout}
 use Rattle.meaning.specs.Image.{Program, program}
 use Rattle.meaning.specs.Commands.{State, Out, beginning, exec}
-use Rattle.meaning.specs.Calls.{Left, reportOf, refused, runRefusal, journalRoom, finished, started, runOn, run, keepsRecords, undoRefusal, tablesUndone, undoOn, undo, lending, lendingBack}
+use Rattle.meaning.specs.Calls.{Returned, reportOf, refused, runRefusal, journalRoom, finished, started, runOn, run, keepsRecords, undoRefusal, tablesUndone, undoOn, undo, lending, lendingUndo}
 use Rattle.meaning.specs.Laws.Tests.{both-of}
 use Rattle.meaning.specs.Laws.Every.{Every}
 use Rattle.laws.specs.Numbers.{Bytes, length-bytes, number-bytes}
@@ -71,9 +71,9 @@ stated-report steps records h =
     rw (drop-at (bytes 4 steps) (bytes 4 records) 4 (length-bytes 4 steps)) (number-bytes 4 records h)
 
 -- undo of what a run left, with the records that its report states, gives back the tables and a journal of zeros
-abbrev pub Restores : Layout → List ℕ → List ℕ → List ℕ → List ℕ → Left → Type 0
+abbrev pub Restores : Layout → List ℕ → List ℕ → List ℕ → List ℕ → Returned → Type 0
 Restores L nodes edges journal report o =
-    undo L (lendingBack (o .nodes) (o .edges) (o .journal) (statedRecords (o .report)) report)
+    undo L (lendingUndo (o .nodes) (o .edges) (o .journal) (statedRecords (o .report)) report)
     ≡ record {
       answer = Result;
       nodes = nodes;
@@ -195,7 +195,7 @@ module _ (L : Layout) (numbered : Numbered L) (nodes edges journal : List ℕ) (
         (from-start (start .ledger) (out .state .ledger) refl (exec-from (L .atoms) (journalRoom L journal) (p .rules) (p .main) start))
 
     -- what undo leaves of it
-    abbrev givenBack : Left
+    abbrev givenBack : Returned
     givenBack =
         record {
           answer = Result;
@@ -206,7 +206,7 @@ module _ (L : Layout) (numbered : Numbered L) (nodes edges journal : List ℕ) (
         }
 
     pub undo-result : (report : List ℕ) → length report ≡ 8
-        → undo L (lendingBack (writeNodes L (after .nodes)) (writeEdges L (after .edges)) journalAfter (length records) report) ≡ givenBack
+        → undo L (lendingUndo (writeNodes L (after .nodes)) (writeEdges L (after .edges)) journalAfter (length records) report) ≡ givenBack
     unfolding undo undoOn undoRefusal firstFailing choose
     undo-result report h =
         rw (
@@ -242,7 +242,7 @@ module _ (L : Layout) (numbered : Numbered L) (nodes edges journal image : List 
     rules a = program-legal image (a .tree) hi (a .form) (a .references)
 
     -- a property of what the call leaves: of what a refused call leaves, and of what a started one does
-    called : (P : Left → Type 0) → ((w : Refusal) → P (refused w nodes edges journal report))
+    called : (P : Returned → Type 0) → ((w : Refusal) → P (refused w nodes edges journal report))
         → ((a : Accepted L (lending nodes edges journal image fuel report)) → P (started L (a .tree) nodes edges journal fuel))
         → P (run L (lending nodes edges journal image fuel report))
     unfolding run runOn

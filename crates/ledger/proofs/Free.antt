@@ -7,11 +7,11 @@ use Prim.Native.Nat.{ℕ, _+_, _/_, _<_}
 use native.Mathlib.Numerals.{add-one}
 use native.Mathlib.Omega.{arith}
 use lib.ListN.{length}
-use Rattle.meaning.specs.Basics.{any, either}
+use Rattle.meaning.specs.Basics.{exists, either}
 use Rattle.meaning.specs.Layout.{Host, Sized, nodeLength, edgeLength, liveAt, readNode, readEdge, readNodes, readEdges}
 use Rattle.meaning.specs.Matching.{edgeAt}
 use Rattle.meaning.specs.Applying.{lowestFree, freeSlots, onFreeNode}
-use Rattle.meaning.specs.Laws.Tests.{both-yes, both-no, any-of}
+use Rattle.meaning.specs.Laws.Tests.{both-yes, both-no, exists-of}
 use Rattle.laws.specs.Slots.{lowestFree-lt}
 use Rattle.laws.specs.Pieces.{length-read}
 use Rattle.meaning.specs.declared.Layout.{Layout}
@@ -62,13 +62,13 @@ module _ (h : Host) (x : ℕ) where
   held-source e f b g = sym (both-yes _ _ e ∙ ap not (both-yes _ _ f ∙ g))
 
 module _ (f : ℕ → Bool) where
-  pub none-yet : false ≡ any f 0
-  unfolding any
+  pub none-yet : false ≡ exists f 0
+  unfolding exists
   none-yet = refl
 
-  pub none-more : (n : ℕ) → false ≡ any f n → f n ≡ false → false ≡ any f (n + 1)
-  unfolding any either
+  pub none-more : (n : ℕ) → false ≡ exists f n → f n ≡ false → false ≡ exists f (n + 1)
+  unfolding exists either
   none-more n e g = rw (add-one n, g) e
 
-  pub found : (n x : ℕ) → x < n → f x ≡ true → true ≡ any f n
-  found n x h e = sym (any-of f n x h e)
+  pub found : (n x : ℕ) → x < n → f x ≡ true → true ≡ exists f n
+  found n x h e = sym (exists-of f n x h e)

@@ -4,7 +4,7 @@ ghost use mathlib.Core.Bool.{true};
 ghost use Prim.Native.Nat.{_+_, _/_, _<_, _≤_};
 ghost use lib.ListN.{length, take, drop};
 ghost use Rattle.meaning.specs.Image.{mostItems};
-ghost use Rattle.meaning.specs.Basics.{any};
+ghost use Rattle.meaning.specs.Basics.{exists};
 ghost use Rattle.meaning.specs.Layout.{Sized, free, live, ofNode, ofEdge, nodeLength, edgeLength, recordLength, readNodes, readEdges};
 ghost use Rattle.meaning.specs.Applying.{store, stores, lowestFree, freeSlots, onFreeNode};
 ghost use Rattle.laws.specs.Hosts.{LegalNode, LegalEdge};
@@ -222,7 +222,7 @@ fn on_free_node(l: Layout, nodes: &[u8], edges: &[u8], x: usize) -> bool
 // Whether some live edge has an end on a free node.
 pub fn edge_on_free_node(l: Layout, nodes: &[u8], edges: &[u8]) -> bool
     requires { ⌜ Sized l ⌝ }
-    ensures { λ r. ⌜ r ≡ any (onFreeNode (record { nodes = readNodes l (now (nodes .entry)); edges = readEdges l (now (edges .entry)) })) (length (readEdges l (now (edges .entry)))) ⌝ }
+    ensures { λ r. ⌜ r ≡ exists (onFreeNode (record { nodes = readNodes l (now (nodes .entry)); edges = readEdges l (now (edges .entry)) })) (length (readEdges l (now (edges .entry)))) ⌝ }
 {
     let n = edges.len() / l.edge;
     let mut x: usize = 0;

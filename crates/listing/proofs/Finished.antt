@@ -9,7 +9,7 @@ use lib.ListN.{length, take, replicate}
 use Rattle.meaning.specs.Layout.{base, nodeLength, edgeLength, recordLength, readNode, readEdge}
 use Rattle.meaning.specs.declared.Layout.{Layout}
 use Rattle.meaning.specs.Image.{program}
-use Rattle.meaning.specs.Calls.{Left, run, runOn, runRefusal, refused, answerNumber, refusalNumber, lending, Leaves}
+use Rattle.meaning.specs.Calls.{Returned, run, runOn, runRefusal, refused, answerNumber, refusalNumber, lending, Yields}
 use Rattle.laws.specs.Numbers.{Bytes}
 use Rattle.laws.specs.Pieces.{fits-length, fits-same, length-read}
 use Rattle.laws.specs.Calls.{Accepted, accepted}
@@ -45,7 +45,7 @@ refusal-answers BadPlacement e = omega arith
 refusal-answers BadRecords e = omega arith
 
 module _ (nodes edges journal image : List ℕ) (fuel : ℕ) (report : List ℕ) (hn : Bytes nodes) (he : Bytes edges) (hi : Bytes image) where
-  abbrev left : Left
+  abbrev left : Returned
   left = run base (lending nodes edges journal image fuel report)
 
   -- a run that came to a result was accepted
@@ -76,13 +76,13 @@ module _ (nodes edges journal image : List ℕ) (fuel : ℕ) (report : List ℕ)
 
 module _ {out : List ℕ} {r : ℕ} where
   pub run-listed : (nodes edges journal program : List ℕ) (fuel : ℕ) (L : Layout) (answer : ℕ) (n e j report : List ℕ) → L ≡ base
-      → Leaves (run base (lending nodes edges journal program fuel (replicate reportSize 0))) answer n e j report
+      → Yields (run base (lending nodes edges journal program fuel (replicate reportSize 0))) answer n e j report
       → (take r out ≡ outcome L answer report n e) × (r ≤ listingRoom) → listingRoom ≤ length out
       → Lists (runOutcome nodes edges journal program fuel) out r
   unfolding runOutcome
   run-listed nodes edges journal program fuel L answer n e j report i x w h =
       lists (runOutcome nodes edges journal program fuel) listingRoom
-      (rw (← (x .numbered), ← (x .reportLeft), ← (x .nodesLeft), ← (x .edgesLeft), ← i) (w .0)) (w .1) h
+      (rw (← (x .numbered), ← (x .reportReturned), ← (x .nodesReturned), ← (x .edgesReturned), ← i) (w .0)) (w .1) h
 
   pub input-listed : (x : Input) (nodes edges journal program : List ℕ) (fuel count : ℕ)
       → nodes ≡ x .nodes → edges ≡ x .edges → count ≡ x .records → journal ≡ replicate (recordLength base * count) 0 → fuel ≡ x .fuel

@@ -4,7 +4,7 @@ use mathlib.Core.Path.{_≡_, refl}
 use mathlib.Core.List.{List, [], _∷_, _++_}
 use Prim.Native.Nat.{ℕ}
 use Rattle.meaning.specs.Computing.{computing}
-use Rattle.meaning.specs.ProvedSet.{field, nodeSlot, edgeSlot, turns, calls}
+use Rattle.meaning.specs.ProvedSet.{fieldBytes, liveNode, liveEdge, turns, ruleSetField}
 use Rattle.writing.specs.Words.{letters, digits, decimal, signed, markName, rootName}
 use Rattle.writing.specs.Lines.{onward}
 use Rattle.run_input.specs.Input.{nodesTag, edgesTag, recordsTag, fuelTag, programTag, input}
@@ -13,11 +13,11 @@ use Rattle.listing.specs.Listing.{runOutcome, listed, listing}
 
 abbrev pub imageP : List ℕ
 imageP =
-    field nodesTag (nodeSlot 4 0 (1 ∷ 0 ∷ 0 ∷ 0 ∷ 5 ∷ []) ++ nodeSlot 4 0 (1 ∷ 0 ∷ 0 ∷ 0 ∷ 7 ∷ []))
-    ++ field edgesTag (edgeSlot 0 1)
-    ++ field recordsTag (0 ∷ 8 ∷ [])
-    ++ field fuelTag (0 ∷ 0 ∷ 0 ∷ 10 ∷ [])
-    ++ field programTag (turns ++ field 0x54 (calls 0))
+    fieldBytes nodesTag (liveNode 4 0 (1 ∷ 0 ∷ 0 ∷ 0 ∷ 5 ∷ []) ++ liveNode 4 0 (1 ∷ 0 ∷ 0 ∷ 0 ∷ 7 ∷ []))
+    ++ fieldBytes edgesTag (liveEdge 0 1)
+    ++ fieldBytes recordsTag (0 ∷ 8 ∷ [])
+    ++ fieldBytes fuelTag (0 ∷ 0 ∷ 0 ∷ 10 ∷ [])
+    ++ fieldBytes programTag (turns ++ fieldBytes 0x54 (ruleSetField 0))
 
 pub case-p : listing imageP ≡ letters "answer 0 steps 3 records 4\nnode 0 red plain 5\nnode 1 blue plain 12\nedge 0 1 0 none\n"
 unfolding computing letters digits decimal signed markName rootName onward nodeLine edgeLine slotLine liveLines outcome input runOutcome listed listing

@@ -5,7 +5,7 @@ use mathlib.Core.Option.{Option, some, none}
 use Prim.Native.Nat.{ℕ, _*_}
 use lib.ListN.{replicate}
 use Rattle.meaning.specs.Layout.{base, recordLength}
-use Rattle.meaning.specs.Calls.{Left, run, answerNumber, lending}
+use Rattle.meaning.specs.Calls.{Returned, run, answerNumber, lending}
 use Rattle.writing.specs.Words.{letters}
 use Rattle.run_input.specs.Input.{Input, input}
 use Rattle.lines.specs.Lines.{reportSize, outcome}
@@ -13,7 +13,7 @@ use Rattle.lines.specs.Lines.{reportSize, outcome}
 -- the outcome of the call `run`, with a report of zeros
 unfoldable pub runOutcome : List ℕ → List ℕ → List ℕ → List ℕ → ℕ → List ℕ
 runOutcome nodes edges journal program fuel =
-    let l : Left = run base (lending nodes edges journal program fuel (replicate reportSize 0)) in
+    let l : Returned = run base (lending nodes edges journal program fuel (replicate reportSize 0)) in
     outcome base (answerNumber (l .answer)) (l .report) (l .nodes) (l .edges)
 
 -- the input is run with a journal of that many records, all zero

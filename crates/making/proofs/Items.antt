@@ -20,7 +20,7 @@ use Rattle.laws.specs.Values.{LegalValue}
 use Rattle.fields.specs.Parsed.{ruleNode-is, IsEdge, ruleEdge-is}
 use Rattle.meaning.specs.declared.Layout.{Layout}
 use Rattle.labels.specs.Labels.{atomsIn}
-use Rattle.parts.specs.Runs.{For}
+use Rattle.parts.specs.Series.{For}
 use Rattle.parts.specs.Rows.{node, edge, graphItem, itemLabel}
 use Rattle.values.specs.Values.{valuesOf, valueIn}
 use Rattle.values.specs.Laws.{value-some}

@@ -14,7 +14,7 @@ use Rattle.meaning.specs.Tags.{anyMark}
 use Rattle.meaning.specs.Matching.{nodeIn, nodeSlot}
 use Rattle.meaning.specs.Applying.{Ledger, store, stores, nodesChange, lowestFree, freeSlots, between, addEdges}
 use Rattle.meaning.specs.declared.Layout.{Layout}
-use Rattle.parts.specs.Runs.{For}
+use Rattle.parts.specs.Series.{For}
 use Rattle.ledger.specs.Running.{ledgerOf, Held, Leads}
 use Rattle.ledger.specs.Changes.{Went, becomes, Changing, changing-none, changing-next, changing-more, coming, Coming, coming-none, coming-next, coming-more, come-none, Joining, joining-none, joining-next, joining-more}
 use Rattle.making.specs.Making.{blankRule, blankRuleEdge, blankNode, blankEdge, Takes, Comes, Joins, Changes, Alters, Grows, Grew, Edges}

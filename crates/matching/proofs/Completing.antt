@@ -7,12 +7,12 @@ use Prim.Native.Nat.{ℕ, _+_, _≤_}
 use native.Mathlib.Omega.{arith}
 use borrow.Author.Tests.{lt-leb}
 use lib.ListN.{length, getD}
-use Rattle.meaning.specs.Basics.{any}
+use Rattle.meaning.specs.Basics.{exists}
 use Rattle.meaning.specs.Layout.{Host}
 use Rattle.meaning.specs.Image.{Rule, mostItems}
 use Rattle.meaning.specs.Matching.{leftNodes}
 use Rattle.meaning.specs.FirstMatch.{touchesGone, dangles}
-use Rattle.meaning.specs.Laws.Tests.{both-no, any-no}
+use Rattle.meaning.specs.Laws.Tests.{both-no, exists-no}
 use Rattle.agreeing.specs.Placed.{Known, Inside, Full}
 use Rattle.agreeing.specs.Trials.{few-items, full}
 use Rattle.fitting.specs.Fitting.{Numbers}
@@ -27,7 +27,7 @@ abbrev pub numbers : {bs plan : List ℕ} (w : Known bs plan) → Numbers plan (
 numbers w = record { nodes = nodes-of _ _ w; edges = edges-of _ _ w; interface = w .planned .laid .interface }
 
 -- where no node goes, no edge dangles
-pub none-dangles : (h : Host) (r : Rule) (p : List ℕ) (n : ℕ) → leftNodes r ≤ r .interface → any (dangles h r p) n ≡ false
+pub none-dangles : (h : Host) (r : Rule) (p : List ℕ) (n : ℕ) → leftNodes r ≤ r .interface → exists (dangles h r p) n ≡ false
 unfolding dangles touchesGone
 none-dangles h r p n k =
-    any-no (dangles h r p) n (λ x l. both-no _ _ (any-no (touchesGone h r p x) (leftNodes r) (λ j m. both-no _ _ (lt-leb (r .interface) j (omega arith)))))
+    exists-no (dangles h r p) n (λ x l. both-no _ _ (exists-no (touchesGone h r p x) (leftNodes r) (λ j m. both-no _ _ (lt-leb (r .interface) j (omega arith)))))

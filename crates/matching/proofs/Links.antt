@@ -11,9 +11,9 @@ use lib.ListN.{length, take, getD, length-map}
 use lib.Seq.{length-take-le}
 use Rattle.meaning.specs.Layout.{Host, readNodes, readEdges, hostOf}
 use Rattle.meaning.specs.Image.{Rule}
-use Rattle.meaning.specs.Matching.{leftNodes, leftEdges, leftEdge, nodeSlot, runs}
+use Rattle.meaning.specs.Matching.{leftNodes, leftEdges, leftEdge, nodeSlot, edgeRuns}
 use Rattle.meaning.specs.FirstMatch.{joins, linked, nodeFits, fits, candidates}
-use Rattle.meaning.specs.Laws.Tests.{not-so, both-true, any-no, all-no, choose-eq, choose-lt, choose-le}
+use Rattle.meaning.specs.Laws.Tests.{not-so, both-true, exists-no, all-no, choose-eq, choose-lt, choose-le}
 use Rattle.laws.specs.Pieces.{length-pieces}
 use Rattle.laws.specs.References.{clauses-true}
 use Rattle.meaning.specs.declared.Layout.{Layout}
@@ -42,7 +42,7 @@ module _ (h : Host) (r : Rule) (at : List ℕ) (i k y : ℕ) (room : i < length 
       let z : _≡_ {A = Bool} true false =
       sym (clauses-true _ f 5)
       ∙ all-no _ (leftEdges r) k inside
-      (choose-eq (max (leftEdge r k .source) (leftEdge r k .target)) i _ _ e ∙ any-no _ _ (λ x l. not-so _ (never x l)))
+      (choose-eq (max (leftEdge r k .source) (leftEdge r k .target)) i _ _ e ∙ exists-no _ _ (λ x l. not-so _ (never x l)))
       in
       let z : _≡_ {A = ℕ} 0 1 = cc in omega arith)
 
@@ -50,7 +50,7 @@ module _ (h : Host) (r : Rule) (at : List ℕ) (i k y : ℕ) (room : i < length 
     -- no edge leads from the slot of an earlier node to slot y
     pub unreached : (s : ℕ) → s ≡ leftEdge r k .source → leftEdge r k .target ≡ i → s < i
         → ((x : ℕ) → x < length (h .edges) → Meets h mark (getD at s 0) true x y → ⊥) → nodeFits h r (take i at) i y ≡ false
-    unfolding joins runs
+    unfolding joins edgeRuns
     unreached s a b l never =
         unlinked (omega arith) (λ x m f.
         let t = both-true _ _ f in
@@ -70,7 +70,7 @@ module _ (h : Host) (r : Rule) (at : List ℕ) (i k y : ℕ) (room : i < length 
     -- or from slot y to the slot of an earlier node
     pub unleft : (t : ℕ) → leftEdge r k .source ≡ i → t ≡ leftEdge r k .target → t < i
         → ((x : ℕ) → x < length (h .edges) → Meets h mark (getD at t 0) false x y → ⊥) → nodeFits h r (take i at) i y ≡ false
-    unfolding joins runs
+    unfolding joins edgeRuns
     unleft t a b l never =
         unlinked (omega arith) (λ x m f.
         let s = both-true _ _ f in

@@ -7,7 +7,7 @@ use mathlib.Core.List.{List, [], _∷_, _++_, map}
 use Prim.Native.Nat.{ℕ, zero, suc, _+_, _-_}
 use lib.ListN.{length, getD, take, drop}
 use lib.Dec.{eqb, leb}
-use Rattle.meaning.specs.Basics.{choose, both, any, concat, isSome, ensure, each, firstFailing, _>>_, _>>=_}
+use Rattle.meaning.specs.Basics.{choose, both, exists, concat, isSome, ensure, each, firstFailing, _>>_, _>>=_}
 use Rattle.meaning.specs.Numbers.{sum, difference}
 use Rattle.meaning.specs.Layout.{Slot, free, live, Node, Edge, Host, Change, ofNode, ofEdge, put, liveAt}
 use Rattle.meaning.specs.Image.{RuleNode, RuleEdge, Rule}
@@ -184,7 +184,7 @@ pub data Applied : Type 0 where
   hindered : Stop → Applied
 
 unfoldable pub tested : Ledger → Applied
-tested g = choose (any (onFreeNode (g .host)) (length (g .host .edges))) (hindered EdgeOnFreeNode) (applied g)
+tested g = choose (exists (onFreeNode (g .host)) (length (g .host .edges))) (hindered EdgeOnFreeNode) (applied g)
 
 unfoldable pub unhindered : Option Stop → Option Right → Rule → List ℕ → Ledger → Applied
 unhindered (some w) right r p g = hindered w

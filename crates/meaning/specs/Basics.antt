@@ -31,9 +31,9 @@ unfoldable pub all : (ℕ → Bool) → ℕ → Bool
 all f zero = true
 all f (suc n) = let r = all f n in both (f n) r
 
-unfoldable pub any : (ℕ → Bool) → ℕ → Bool
-any f zero = false
-any f (suc n) = let r = any f n in either (f n) r
+unfoldable pub exists : (ℕ → Bool) → ℕ → Bool
+exists f zero = false
+exists f (suc n) = let r = exists f n in either (f n) r
 
 -- how many of the numbers below n pass
 unfoldable pub count : (ℕ → Bool) → ℕ → ℕ

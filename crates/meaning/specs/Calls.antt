@@ -68,32 +68,32 @@ lending nodes edges journal image fuel report =
     record { nodes = nodes; edges = edges; journal = journal; image = image; fuel = fuel; report = report }
 
 -- What undo is lent: both tables, the journal, the count of records and the report.
-pub record LentBack : Type 0 where
+pub record LentUndo : Type 0 where
   pub nodes : List ℕ
   pub edges : List ℕ
   pub journal : List ℕ
   pub count : ℕ
   pub report : List ℕ
 
-abbrev pub lendingBack : List ℕ → List ℕ → List ℕ → ℕ → List ℕ → LentBack
-lendingBack nodes edges journal count report =
+abbrev pub lendingUndo : List ℕ → List ℕ → List ℕ → ℕ → List ℕ → LentUndo
+lendingUndo nodes edges journal count report =
     record { nodes = nodes; edges = edges; journal = journal; count = count; report = report }
 
--- What a call leaves: its answer and every buffer.
-pub record Left : Type 0 where
+-- What a call returns: its answer and every buffer.
+pub record Returned : Type 0 where
   pub answer : Answer
   pub nodes : List ℕ
   pub edges : List ℕ
   pub journal : List ℕ
   pub report : List ℕ
 
--- the number and the buffers are those that a call leaves
-pub record Leaves (l : Left) (number : ℕ) (nodes edges journal report : List ℕ) : Type 0 where
+-- the number and the buffers are those that a call returns
+pub record Yields (l : Returned) (number : ℕ) (nodes edges journal report : List ℕ) : Type 0 where
   pub numbered : number ≡ answerNumber (l .answer)
-  pub nodesLeft : nodes ≡ l .nodes
-  pub edgesLeft : edges ≡ l .edges
-  pub journalLeft : journal ≡ l .journal
-  pub reportLeft : report ≡ l .report
+  pub nodesReturned : nodes ≡ l .nodes
+  pub edgesReturned : edges ≡ l .edges
+  pub journalReturned : journal ≡ l .journal
+  pub reportReturned : report ≡ l .report
 
 -- steps and records, four bytes each
 abbrev pub reportOf : ℕ → ℕ → List ℕ
@@ -103,7 +103,7 @@ abbrev pub mostFuel : ℕ
 mostFuel = 1000000
 
 -- a refused call leaves tables and journal as they were, and zeros in the report if it has 8 bytes
-unfoldable pub refused : Refusal → List ℕ → List ℕ → List ℕ → List ℕ → Left
+unfoldable pub refused : Refusal → List ℕ → List ℕ → List ℕ → List ℕ → Returned
 refused w nodes edges journal report =
     record {
       answer = Refused w;
@@ -151,12 +151,12 @@ module _ (L : Layout) where
   journalRoom journal = length journal / recordLength L
 
   -- a run that did not come to a result gives the graph back as it came, and an empty journal
-  abbrev pub givenBack : Answer → ℕ → List ℕ → List ℕ → List ℕ → Left
+  abbrev pub givenBack : Answer → ℕ → List ℕ → List ℕ → List ℕ → Returned
   givenBack a steps nodes edges journal =
       record { answer = a; nodes = nodes; edges = edges; journal = replicate (length journal) 0; report = reportOf steps 0 }
 
   -- what a started run leaves, by its end; no break reaches the end of a program that keeps the placement
-  unfoldable pub finished : End → Out → List ℕ → List ℕ → List ℕ → Left
+  unfoldable pub finished : End → Out → List ℕ → List ℕ → List ℕ → Returned
   finished Done o nodes edges journal =
       record {
         answer = Result;
@@ -169,17 +169,17 @@ module _ (L : Layout) where
   finished Broke o nodes edges journal = givenBack Fail (o .state .steps) nodes edges journal
   finished (Stopped w) o nodes edges journal = givenBack (stoppedBy w) (o .state .steps) nodes edges journal
 
-  unfoldable pub started : Program → List ℕ → List ℕ → List ℕ → ℕ → Left
+  unfoldable pub started : Program → List ℕ → List ℕ → List ℕ → ℕ → Returned
   started p nodes edges journal fuel =
       let o : Out = exec (L .atoms) (journalRoom journal) (p .rules) (p .main) (beginning (hostOf L nodes edges) fuel) in
       finished (o .end) o nodes edges journal
 
-  unfoldable pub runOn : Option Refusal → Option Program → Lent → Left
+  unfoldable pub runOn : Option Refusal → Option Program → Lent → Returned
   runOn (some w) p x = refused w (x .nodes) (x .edges) (x .journal) (x .report)
   runOn none none x = refused BadForm (x .nodes) (x .edges) (x .journal) (x .report)
   runOn none (some p) x = started p (x .nodes) (x .edges) (x .journal) (x .fuel)
 
-  unfoldable pub run : Lent → Left
+  unfoldable pub run : Lent → Returned
   run x = runOn (runRefusal x) (program (x .image)) x
 
   -- Undo.
@@ -193,7 +193,7 @@ module _ (L : Layout) where
       both (leb count (journalRoom journal))
       (every (keepsRecord L (length nodes / nodeLength L) (length edges / edgeLength L)) (counted count journal))
 
-  unfoldable pub undoRefusal : LentBack → Option Refusal
+  unfoldable pub undoRefusal : LentUndo → Option Refusal
   undoRefusal y =
       firstFailing
       (lengthChecks (y .nodes) (y .edges) (y .journal) (y .report)
@@ -206,7 +206,7 @@ module _ (L : Layout) where
       undone (reverse (map (readRecord L) (counted count journal)))
       (record { nodes = cut (nodeLength L) nodes; edges = cut (edgeLength L) edges })
 
-  unfoldable pub undoOn : Option Refusal → LentBack → Left
+  unfoldable pub undoOn : Option Refusal → LentUndo → Returned
   undoOn (some w) y = refused w (y .nodes) (y .edges) (y .journal) (y .report)
   undoOn none y =
       record {
@@ -217,13 +217,13 @@ module _ (L : Layout) where
         report = reportOf 0 (y .count);
       }
 
-  unfoldable pub undo : LentBack → Left
+  unfoldable pub undo : LentUndo → Returned
   undo y = undoOn (undoRefusal y) y
 
 -- What the exported calls promise, with document 01's layout: the number that is answered, and what lies in every buffer then.
 
 abbrev pub RunPromise : Lent → ℕ → List ℕ → List ℕ → List ℕ → List ℕ → Type 0
-RunPromise x number nodes edges journal report = Leaves (run base x) number nodes edges journal report
+RunPromise x number nodes edges journal report = Yields (run base x) number nodes edges journal report
 
-abbrev pub UndoPromise : LentBack → ℕ → List ℕ → List ℕ → List ℕ → List ℕ → Type 0
-UndoPromise y number nodes edges journal report = Leaves (undo base y) number nodes edges journal report
+abbrev pub UndoPromise : LentUndo → ℕ → List ℕ → List ℕ → List ℕ → List ℕ → Type 0
+UndoPromise y number nodes edges journal report = Yields (undo base y) number nodes edges journal report

@@ -8,7 +8,7 @@ use Prim.Native.Nat.{ℕ, zero, suc, _-_}
 use lib.ListN.{getD}
 use Rattle.meaning.specs.Basics.{choose}
 use Rattle.meaning.specs.Layout.{Host}
-use Rattle.meaning.specs.Image.{Rule, Command, ruleSet, sequence, guarded, loop, skip, fail, break, Commands, stop, then}
+use Rattle.meaning.specs.Image.{Rule, Command, ruleSet, sequence, guarded, loop, skip, fail, break, Commands, noMore, then}
 use Rattle.meaning.specs.FirstMatch.{firstMatch}
 use Rattle.meaning.specs.Applying.{Ledger, ledgerAt, Applied, applied, hindered, apply}
 use Rattle.meaning.specs.declared.Stop.the-variants.{OutOfFuel}
@@ -103,14 +103,14 @@ rounds (suc n) body s = let o = body s in again (o .end) s (o .state) (λ t. rou
 
 -- most: the atoms that a label holds; room: the records that the journal holds
 module _ (most room : ℕ) (rules : List Rule) where
-  unfoldable pub call : Option Chosen → State → Out
-  call none s = ends Failed s
-  call (some c) s = afterApplying (apply most room (c .rule) (c .slots) (s .ledger)) s
+  unfoldable pub ruleCall : Option Chosen → State → Out
+  ruleCall none s = ends Failed s
+  ruleCall (some c) s = afterApplying (apply most room (c .rule) (c .slots) (s .ledger)) s
 
   unfoldable mutual
     -- what a command does once it is entered
     pub work : Command → State → Out
-    work (ruleSet l) s = call (firstRule rules (s .ledger .host) l) s
+    work (ruleSet l) s = ruleCall (firstRule rules (s .ledger .host) l) s
     work (sequence cs) s = works cs s
     work (guarded keep g a b) s =
         let o = enter (λ t. work g t) s in
@@ -122,7 +122,7 @@ module _ (most room : ℕ) (rules : List Rule) where
 
     -- commands in order
     pub works : Commands → State → Out
-    works stop s = ends Done s
+    works noMore s = ends Done s
     works (then c cs) s = let o = enter (λ t. work c t) s in next (o .end) (o .state) (λ t. works cs t)
 
   abbrev pub exec : Command → State → Out

@@ -6,8 +6,8 @@ use Prim.Native.Nat.{ℕ, _*_}
 use lib.ListN.{replicate}
 use Rattle.meaning.specs.Layout.{base, edgeLength, recordLength}
 use Rattle.meaning.specs.Tags.{ruleTag, variablesTag, leftTag, rightTag, interfaceTag, testsTag, constantTag, sumTag, outDegreeTag, ifTag, loopTag}
-use Rattle.meaning.specs.Calls.{Left, run, undo, reportOf, lending, lendingBack}
-use Rattle.meaning.specs.ProvedSet.{Case, given, nodeSlot, freeNode, edgeSlot, nodeRecord, edgeRecord, plainNode, redNode, field, ruleField, nodeField, edgeField, variable, calls, marks, skipField, breakField, ends, results, onPlainNode}
+use Rattle.meaning.specs.Calls.{Returned, run, undo, reportOf, lending, lendingUndo}
+use Rattle.meaning.specs.ProvedSet.{Case, given, liveNode, freeNode, liveEdge, nodeRecord, edgeRecord, plainNode, redNode, fieldBytes, ruleField, nodeField, edgeField, variableField, ruleSetField, marksRed, skipField, breakField, noResult, results, onPlainNode}
 use Rattle.meaning.specs.Computing.{computing}
 use Rattle.meaning.specs.declared.Answer.the-variants.{Result}
 
@@ -21,18 +21,18 @@ deletesLooped = ruleField [] (nodeField 0 [] ++ edgeField 0 0) [] 0
 -- M, where no edge leaves the node
 abbrev marksLone : List ℕ
 marksLone =
-    field ruleTag
-    (field variablesTag []
-    ++ field leftTag (nodeField 0 [])
-    ++ field rightTag (nodeField 1 [])
-    ++ field interfaceTag (1 ∷ [])
-    ++ field testsTag (field outDegreeTag (0 ∷ 0 ∷ 0 ∷ 0 ∷ [])))
+    fieldBytes ruleTag
+    (fieldBytes variablesTag []
+    ++ fieldBytes leftTag (nodeField 0 [])
+    ++ fieldBytes rightTag (nodeField 1 [])
+    ++ fieldBytes interfaceTag (1 ∷ [])
+    ++ fieldBytes testsTag (fieldBytes outDegreeTag (0 ∷ 0 ∷ 0 ∷ 0 ∷ [])))
 
 -- x becomes x + 1
 abbrev adds : List ℕ
 adds =
-    ruleField (1 ∷ []) (nodeField 0 (variable 0))
-    (nodeField 0 (field sumTag (variable 0 ++ field constantTag (0 ∷ 0 ∷ 0 ∷ 1 ∷ []))))
+    ruleField (1 ∷ []) (nodeField 0 (variableField 0))
+    (nodeField 0 (fieldBytes sumTag (variableField 0 ++ fieldBytes constantTag (0 ∷ 0 ∷ 0 ∷ 1 ∷ []))))
     1
 
 -- a node comes
@@ -41,23 +41,23 @@ addsNode = ruleField [] [] (nodeField 0 []) 0
 
 -- a root without mark and label
 abbrev rootNode : List ℕ
-rootNode = nodeSlot 0 1 (0 ∷ [])
+rootNode = liveNode 0 1 (0 ∷ [])
 
 -- the largest atom
 abbrev largest : List ℕ
-largest = nodeSlot 0 0 (1 ∷ 127 ∷ 255 ∷ 255 ∷ 255 ∷ [])
+largest = liveNode 0 0 (1 ∷ 127 ∷ 255 ∷ 255 ∷ 255 ∷ [])
 
 abbrev examples : List Case
 examples =
     -- no break stands in a guard, whatever stands around it
-    onPlainNode 100 (field loopTag (field ifTag (breakField ++ skipField ++ skipField)))
+    onPlainNode 100 (fieldBytes loopTag (fieldBytes ifTag (breakField ++ skipField ++ skipField)))
     (record { answer = 18; nodes = plainNode; edges = []; journal = replicate (8 * recordLength base) 1; report = reportOf 0 0 })
     -- a label that can't be held is answered before records that don't fit
     ∷ record {
       nodes = largest;
       edges = [];
       records = 0;
-      image = adds ++ calls 0;
+      image = adds ++ ruleSetField 0;
       fuel = 100;
       expected = record { answer = 6; nodes = largest; edges = []; journal = []; report = reportOf 1 0 };
     }
@@ -66,25 +66,25 @@ examples =
       nodes = plainNode;
       edges = freeEdge;
       records = 8;
-      image = marksLone ++ calls 0;
+      image = marksLone ++ ruleSetField 0;
       fuel = 100;
       expected = results 1 1 redNode freeEdge (nodeRecord 0 plainNode);
     }
     -- a loop is one edge at its node
     ∷ record {
       nodes = plainNode;
-      edges = edgeSlot 0 0;
+      edges = liveEdge 0 0;
       records = 8;
-      image = deletesLooped ++ calls 0;
+      image = deletesLooped ++ ruleSetField 0;
       fuel = 100;
-      expected = results 1 2 freeNode freeEdge (edgeRecord 0 (edgeSlot 0 0) ++ nodeRecord 0 plainNode);
+      expected = results 1 2 freeNode freeEdge (edgeRecord 0 (liveEdge 0 0) ++ nodeRecord 0 plainNode);
     }
     -- document 01's case 13: a node comes, and the table is full
-    ∷ onPlainNode 100 (addsNode ++ calls 0) (ends 3 1 plainNode [])
+    ∷ onPlainNode 100 (addsNode ++ ruleSetField 0) (noResult 3 1 plainNode [])
     -- case 14: the largest atom and 1
-    ∷ record { nodes = largest; edges = []; records = 8; image = adds ++ calls 0; fuel = 100; expected = ends 6 1 largest [] }
+    ∷ record { nodes = largest; edges = []; records = 8; image = adds ++ ruleSetField 0; fuel = 100; expected = noResult 6 1 largest [] }
     -- case 15: M, and the node is a root
-    ∷ record { nodes = rootNode; edges = []; records = 8; image = marks ++ calls 0; fuel = 100; expected = ends 1 1 rootNode [] }
+    ∷ record { nodes = rootNode; edges = []; records = 8; image = marksRed ++ ruleSetField 0; fuel = 100; expected = noResult 1 1 rootNode [] }
     ∷ []
 
 pub as-expected : map given examples ≡ map (λ c. c .expected) examples
@@ -97,10 +97,10 @@ unfolding computing
 short-report = refl
 
 -- undo puts the counted records back from last to first, and zeros them: the slot was plain, then red, and is free
-abbrev restored : Left
+abbrev restored : Returned
 restored =
     record { answer = Result; nodes = plainNode; edges = []; journal = replicate (2 * recordLength base) 0; report = reportOf 0 2 }
 
-pub records-back : undo base (lendingBack freeNode [] (nodeRecord 0 plainNode ++ nodeRecord 0 redNode) 2 (replicate 8 7)) ≡ restored
+pub records-back : undo base (lendingUndo freeNode [] (nodeRecord 0 plainNode ++ nodeRecord 0 redNode) 2 (replicate 8 7)) ≡ restored
 unfolding computing
 records-back = refl

@@ -8,12 +8,12 @@ use mathlib.Core.List.{List, [], _∷_, _++_, map}
 use Prim.Native.Nat.{ℕ, zero, suc, _+_, _-_, max}
 use lib.ListN.{length, drop}
 use lib.Dec.{eqb, leb, ltb}
-use Rattle.meaning.specs.Basics.{choose, both, either, clauses, all, any, count, every, absent, same, concat}
+use Rattle.meaning.specs.Basics.{choose, both, either, clauses, all, exists, count, every, absent, same, concat}
 use Rattle.meaning.specs.Layout.{Host, liveAt}
 use Rattle.meaning.specs.Image.{Rule}
 use Rattle.meaning.specs.Tags.{anyMark}
 use Rattle.meaning.specs.References.{operandNames, conditionOperands, conditionNodes, labels, lists}
-use Rattle.meaning.specs.Matching.{nodeAt, edgeAt, leftNode, leftEdge, leftNodes, leftEdges, total, nodeSlot, Assignment, instance, runs, touches, testHolds, rootsAgree}
+use Rattle.meaning.specs.Matching.{nodeAt, edgeAt, leftNode, leftEdge, leftNodes, leftEdges, total, nodeSlot, Assignment, instance, edgeRuns, edgeTouches, testHolds, rootsAgree}
 use Rattle.meaning.specs.Assigned.{isVariable, assigned}
 use Rattle.meaning.specs.Search.{deep}
 use Rattle.meaning.specs.declared.Element.{Element}
@@ -63,13 +63,13 @@ module _ (h : Host) (r : Rule) where
   -- host edge x can stand for left edge k, as far as its mark and its ends' slots in p go
   unfoldable pub joins : List ℕ → ℕ → ℕ → Bool
   joins p k x =
-      both (runs h (nodeSlot p (leftEdge r k .source)) (nodeSlot p (leftEdge r k .target)) x)
+      both (edgeRuns h (nodeSlot p (leftEdge r k .source)) (nodeSlot p (leftEdge r k .target)) x)
       (marksAgree (leftEdge r k .mark) (edgeAt h x .mark))
 
   -- some host edge can stand for left edge k, if left node i is the later of its ends
   unfoldable pub linked : List ℕ → ℕ → ℕ → Bool
   linked p i k =
-      let found = any (joins p k) (length (h .edges)) in
+      let found = exists (joins p k) (length (h .edges)) in
       choose (eqb (max (leftEdge r k .source) (leftEdge r k .target)) i) found true
 
   unfoldable pub leftTouches : ℕ → ℕ → Bool
@@ -78,7 +78,7 @@ module _ (h : Host) (r : Rule) where
   -- left node i stays, or slot c is touched by no more edges than left node i
   unfoldable pub canGo : ℕ → ℕ → Bool
   canGo i c =
-      either (ltb i (r .interface)) (leb (count (touches h c) (length (h .edges))) (count (leftTouches i) (leftEdges r)))
+      either (ltb i (r .interface)) (leb (count (edgeTouches h c) (length (h .edges))) (count (leftTouches i) (leftEdges r)))
 
   -- slot c can stand for left node i behind the prefix p
   unfoldable pub nodeFits : List ℕ → ℕ → ℕ → Bool
@@ -115,15 +115,15 @@ module _ (h : Host) (r : Rule) where
 
   -- edge x touches the slot of left node j, which goes
   unfoldable pub touchesGone : List ℕ → ℕ → ℕ → Bool
-  touchesGone p x j = both (leb (r .interface) j) (touches h (nodeSlot p j) x)
+  touchesGone p x j = both (leb (r .interface) j) (edgeTouches h (nodeSlot p j) x)
 
   -- edge x would dangle: it touches a node that goes, and is not placed itself
   unfoldable pub dangles : List ℕ → ℕ → Bool
-  dangles p x = both (any (touchesGone p x) (leftNodes r)) (absent x (drop (leftNodes r) p))
+  dangles p x = both (exists (touchesGone p x) (leftNodes r)) (absent x (drop (leftNodes r) p))
 
   unfoldable pub complete : List ℕ → Bool
   complete p =
-      both (not (any (dangles p) (length (h .edges)))) (every (testHolds h p (assigned h r p)) (r .tests))
+      both (not (exists (dangles p) (length (h .edges)))) (every (testHolds h p (assigned h r p)) (r .tests))
 
   -- the first match, as its node slots in left order and then its edge slots
   unfoldable pub firstMatch : Option (List ℕ)

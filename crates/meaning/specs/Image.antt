@@ -56,7 +56,7 @@ mutual
     break : Command
 
   pub data Commands : Type 0 where
-    stop : Commands
+    noMore : Commands
     then : Command → Commands → Commands
 
 pub record Program : Type 0 where
@@ -144,8 +144,8 @@ only passes item n bs = do
   ensure (isEmpty (r .rest))
   some (r .items)
 
-abbrev pub anyTag : ℕ → Bool
-anyTag t = true
+abbrev pub passesAll : ℕ → Bool
+passesAll t = true
 
 -- Operands and label elements.
 
@@ -176,7 +176,7 @@ asPair (a ∷ b ∷ c ∷ l) = none
 
 -- exactly two operands
 unfoldable pub twoOperands : List ℕ → Option Pair
-twoOperands bs = only anyTag operand 2 bs >>= asPair
+twoOperands bs = only passesAll operand 2 bs >>= asPair
 
 unfoldable pub element : ℕ → List ℕ → Option Element
 element tag bs =
@@ -186,7 +186,7 @@ element tag bs =
     (choose (eqb tag differenceTag) (twoOperands bs >>= λ p. some (Difference (p .first) (p .second))) none)))
 
 unfoldable pub label : List ℕ → Option (List Element)
-label bs = only anyTag element (limits .elements) bs
+label bs = only passesAll element (limits .elements) bs
 
 -- Graphs. Mark any is legal in form on nodes and edges.
 
@@ -258,13 +258,13 @@ rule bs = do
   left ← ruleGraph (l .payload)
   right ← ruleGraph (r .payload)
   interface ← oneByte (k .payload)
-  tests ← only anyTag test (limits .tests) (t .payload)
+  tests ← only passesAll test (limits .tests) (t .payload)
   some (record { variables = variables; left = left; right = right; interface = interface; tests = tests })
 
 -- Commands, nested at most n deep.
 
 unfoldable pub inOrder : List Command → Commands
-inOrder [] = stop
+inOrder [] = noMore
 inOrder (c ∷ l) = then c (inOrder l)
 
 unfoldable pub leaf : Command → List ℕ → Option Command
@@ -296,7 +296,7 @@ asLoop (c ∷ d ∷ l) = none
 unfoldable pub command : ℕ → ℕ → List ℕ → Option Command
 command zero tag bs = none
 command (suc n) tag bs =
-    let parts = only anyTag (command n) (limits .commands) bs in
+    let parts = only passesAll (command n) (limits .commands) bs in
     choose (eqb tag ruleSetTag) (asRuleSet bs)
     (choose (eqb tag sequenceTag) (parts >>= asSequence)
     (choose (eqb tag ifTag) (parts >>= asGuarded false)

@@ -153,14 +153,14 @@ abbrev pub cut : ℕ → List ℕ → List (List ℕ)
 cut w bs = pieces w (length bs / w) bs
 
 -- n atoms from the front
-abbrev pub atoms : ℕ → List ℕ → List ℕ
-atoms n bs = map number (pieces atomLength n bs)
+abbrev pub readAtoms : ℕ → List ℕ → List ℕ
+readAtoms n bs = map number (pieces atomLength n bs)
 
 -- base: byte 0 state, 1 mark, 2 root, 3 label length, 4 to 19 four atoms of four bytes
 unfoldable pub readNode : List ℕ → Slot Node
 readNode b =
     choose (eqb (getD b statePlace 0) 0) free
-    (live (record { mark = getD b markPlace 0; root = getD b rootPlace 0; label = atoms (getD b lengthPlace 0) (drop headLength b) }))
+    (live (record { mark = getD b markPlace 0; root = getD b rootPlace 0; label = readAtoms (getD b lengthPlace 0) (drop headLength b) }))
 
 module _ (L : Layout) where
   -- base: byte 0 state, 1 mark, 2 zero, 3 label length, 4 and 5 source, 6 and 7 target, 8 to 23 four atoms of four bytes
@@ -171,7 +171,7 @@ module _ (L : Layout) where
         mark = getD b markPlace 0;
         source = number (take (L .width) (drop (sourcePlace L) b));
         target = number (take (L .width) (drop (targetPlace L) b));
-        label = atoms (getD b lengthPlace 0) (drop (edgeAtoms L) b);
+        label = readAtoms (getD b lengthPlace 0) (drop (edgeAtoms L) b);
       }))
 
   -- base: slots of 20 bytes; of 24

@@ -8,7 +8,7 @@ use mathlib.Core.List.{List, [], _∷_, map}
 use Prim.Native.Nat.{ℕ, _+_, _<_, _≤_}
 use lib.ListN.{length, getD}
 use lib.Dec.{eqb}
-use Rattle.meaning.specs.Basics.{choose, both, either, any, count, every, concat}
+use Rattle.meaning.specs.Basics.{choose, both, either, exists, count, every, concat}
 use Rattle.meaning.specs.Numbers.{less}
 use Rattle.meaning.specs.Layout.{Slot, free, live, Node, Edge, Host, liveAt}
 use Rattle.meaning.specs.Image.{RuleNode, RuleEdge, Rule}
@@ -86,28 +86,28 @@ atomOf α (variableOperand v) = getD (α v) 0 0
 
 module _ (h : Host) where
   -- edge x is live and runs from node slot s to node slot t
-  unfoldable pub runs : ℕ → ℕ → ℕ → Bool
-  runs s t x = both (liveAt (h .edges) x) (both (eqb (edgeAt h x .source) s) (eqb (edgeAt h x .target) t))
+  unfoldable pub edgeRuns : ℕ → ℕ → ℕ → Bool
+  edgeRuns s t x = both (liveAt (h .edges) x) (both (eqb (edgeAt h x .source) s) (eqb (edgeAt h x .target) t))
 
   -- edge x is live and touches node slot c
-  unfoldable pub touches : ℕ → ℕ → Bool
-  touches c x = both (liveAt (h .edges) x) (either (eqb (edgeAt h x .source) c) (eqb (edgeAt h x .target) c))
+  unfoldable pub edgeTouches : ℕ → ℕ → Bool
+  edgeTouches c x = both (liveAt (h .edges) x) (either (eqb (edgeAt h x .source) c) (eqb (edgeAt h x .target) c))
 
-  unfoldable pub leaves : ℕ → ℕ → Bool
-  leaves s x = both (liveAt (h .edges) x) (eqb (edgeAt h x .source) s)
+  unfoldable pub edgeLeaves : ℕ → ℕ → Bool
+  edgeLeaves s x = both (liveAt (h .edges) x) (eqb (edgeAt h x .source) s)
 
   -- edge x arrives at slot t from another node
-  unfoldable pub arrives : ℕ → ℕ → Bool
-  arrives t x = both (liveAt (h .edges) x) (both (eqb (edgeAt h x .target) t) (not (eqb (edgeAt h x .source) t)))
+  unfoldable pub edgeArrives : ℕ → ℕ → Bool
+  edgeArrives t x = both (liveAt (h .edges) x) (both (eqb (edgeAt h x .target) t) (not (eqb (edgeAt h x .source) t)))
 
   unfoldable pub outDegree : ℕ → ℕ
-  outDegree s = count (leaves s) (length (h .edges))
+  outDegree s = count (edgeLeaves s) (length (h .edges))
 
   unfoldable pub inDegree : ℕ → ℕ
-  inDegree t = count (arrives t) (length (h .edges))
+  inDegree t = count (edgeArrives t) (length (h .edges))
 
   unfoldable pub conditionHolds : List ℕ → Assignment → Condition → Bool
-  conditionHolds p α (edgeBetween a b) = any (runs (nodeSlot p a) (nodeSlot p b)) (length (h .edges))
+  conditionHolds p α (edgeBetween a b) = exists (edgeRuns (nodeSlot p a) (nodeSlot p b)) (length (h .edges))
   conditionHolds p α (InDegree a n) = eqb (inDegree (nodeSlot p a)) n
   conditionHolds p α (OutDegree a n) = eqb (outDegree (nodeSlot p a)) n
   conditionHolds p α (Equal a b) = eqb (atomOf α a) (atomOf α b)

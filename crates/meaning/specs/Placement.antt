@@ -2,7 +2,7 @@
 -- Rests on Basics and Image.
 use mathlib.Core.Bool.{Bool, true, false}
 use Rattle.meaning.specs.Basics.{both}
-use Rattle.meaning.specs.Image.{Program, Command, ruleSet, sequence, guarded, loop, skip, fail, break, Commands, stop, then}
+use Rattle.meaning.specs.Image.{Program, Command, ruleSet, sequence, guarded, loop, skip, fail, break, Commands, noMore, then}
 
 -- the flag says whether a break may stand here
 unfoldable mutual
@@ -16,7 +16,7 @@ unfoldable mutual
   breaksLie break ok = ok
 
   pub allBreaksLie : Commands → Bool → Bool
-  allBreaksLie stop ok = true
+  allBreaksLie noMore ok = true
   allBreaksLie (then c cs) ok = both (breaksLie c ok) (allBreaksLie cs ok)
 
 unfoldable pub placement : Program → Bool

@@ -7,7 +7,7 @@ use lib.ListN.{length, getD}
 use lib.Dec.{eqb, leb, ltb}
 use Rattle.meaning.specs.Basics.{choose, both, either, clauses, all, every, absent, concat}
 use Rattle.meaning.specs.Tags.{intType, listType, noneMark, anyMark}
-use Rattle.meaning.specs.Image.{RuleGraph, Rule, Program, Command, ruleSet, sequence, guarded, loop, skip, fail, break, Commands, stop, then}
+use Rattle.meaning.specs.Image.{RuleGraph, Rule, Program, Command, ruleSet, sequence, guarded, loop, skip, fail, break, Commands, noMore, then}
 use Rattle.meaning.specs.declared.Operand.{Operand}
 use Rattle.meaning.specs.declared.Operand.the-variants.{Constant as constantOperand, Variable as variableOperand}
 use Rattle.meaning.specs.declared.Element.{Element}
@@ -169,7 +169,7 @@ unfoldable mutual
   rulesExist break n = true
 
   pub allRulesExist : Commands → ℕ → Bool
-  allRulesExist stop n = true
+  allRulesExist noMore n = true
   allRulesExist (then c cs) n = both (rulesExist c n) (allRulesExist cs n)
 
 unfoldable pub references : Program → Bool

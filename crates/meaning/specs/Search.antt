@@ -12,9 +12,9 @@ pick true (some p) later = some p
 pick true none later = later
 pick false here later = later
 
-abbrev pub leaf : Bool → List ℕ → Option (List ℕ)
-leaf true p = some p
-leaf false p = none
+abbrev pub foundIf : Bool → List ℕ → Option (List ℕ)
+foundIf true p = some p
+foundIf false p = none
 
 -- bound: how many candidates there are behind a prefix; ok: a candidate fits behind it; full: the whole is a match
 module _ (bound : List ℕ → ℕ) (ok : List ℕ → ℕ → Bool) (full : List ℕ → Bool) where
@@ -28,7 +28,7 @@ module _ (bound : List ℕ → ℕ) (ok : List ℕ → ℕ → Bool) (full : Lis
 
   -- the first placement of m more slots behind the prefix p, whose next slot is at least c
   unfoldable pub deep : ℕ → List ℕ → ℕ → Option (List ℕ)
-  deep zero p c = leaf (full p) p
+  deep zero p c = foundIf (full p) p
   deep (suc m) p c = scan (λ q. deep m q 0) p c (bound p - c)
 
   -- q goes on behind the prefix p: each slot is below its level's bound and fits, and the whole is full

@@ -19,7 +19,7 @@ use Rattle.answers.specs.Answers.{refusalOf}
 use Rattle.laws.specs.Layout.{base-sized}
 use Rattle.answers.specs.declared.Checked.{Checked}
 use Rattle.answers.specs.declared.Checked.the-variants.{Fine, Refused}
-use Rattle.parts.specs.Runs.{For}
+use Rattle.parts.specs.Series.{For}
 use Rattle.graph.specs.Graph.{Legal}
 use Rattle.plan.specs.Plan.{IsRule}
 use Rattle.matching.specs.Values.{IsFirst}

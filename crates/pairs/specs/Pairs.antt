@@ -13,7 +13,7 @@ use Rattle.meaning.specs.Assigned.{assigned}
 use Rattle.meaning.specs.FirstMatch.{firstMatch}
 use Rattle.meaning.specs.Calls.{runRefusal, reportOf, lending}
 use Rattle.meaning.specs.declared.Refusal.{Refusal}
-use Rattle.parts.specs.Runs.{For}
+use Rattle.parts.specs.Series.{For}
 use Rattle.meaning.specs.Matching.{total}
 use Rattle.matching.specs.Next.{slotsAt}
 use Rattle.values.specs.Values.{valuesOf, Stored}

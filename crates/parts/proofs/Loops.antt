@@ -1,4 +1,4 @@
--- One turn of a loop over fields: what the reader found, as the laws of rows take it. Rests on fields' Finding and on Runs.
+-- One turn of a loop over fields: what the reader found, as the laws of rows take it. Rests on fields' Finding and on Series.
 use mathlib.Core.Path.{_≡_, sym, _∙_}
 use mathlib.Core.Logic.{inl, inr}
 use mathlib.Core.List.{List, []}
@@ -9,7 +9,7 @@ use Rattle.fields.specs.declared.Found.{Found}
 use Rattle.fields.specs.declared.Found.the-variants.{Field, Short, End}
 use Rattle.fields.specs.Fields.{nthField}
 pub use Rattle.fields.proofs.Finding.{NoField, no-field, a-field, part-in, nearer, tail-part}
-use Rattle.parts.specs.Runs.{partOf, tagOf, part-short, part-end, tag-short, tag-end, nth-inside}
+use Rattle.parts.specs.Series.{partOf, tagOf, part-short, part-end, tag-short, tag-end, nth-inside}
 
 pub no-part : (bs : List ℕ) (f g : Found) → f ≡ g → NoField f → [] ≡ partOf bs g
 no-part bs (Field tag start end) g e (inl k) = let z : _≡_ {A = ℕ} 0 1 = k in absurd (omega arith)

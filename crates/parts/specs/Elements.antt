@@ -1,5 +1,5 @@
 -- What the bytes of a label begin with, and which counts are those of its elements. Rests on the meaning's Image and References,
--- and on Runs.
+-- and on Series.
 use mathlib.Core.Path.{_≡_}
 use mathlib.Core.List.{List, [], _∷_}
 use Prim.Native.Nat.{ℕ, _-_, _<_, _≤_}
@@ -7,14 +7,14 @@ use lib.ListN.{length, take, drop}
 use Rattle.meaning.specs.Image.{Rule, element}
 use Rattle.meaning.specs.References.{lists}
 use Rattle.meaning.specs.declared.Element.{Element}
-use Rattle.parts.specs.Runs.{Run}
+use Rattle.parts.specs.Series.{Series}
 use Rattle.parts.specs.declared.Front.{Front}
 use Rattle.parts.specs.declared.Front.the-variants.{First, Nothing}
 use Rattle.parts.specs.declared.Counts.{Counts}
 
 -- the bytes are those of the elements
 abbrev pub Spells : List ℕ → List Element → Type 0
-Spells bs l = Run element l [] bs
+Spells bs l = Series element l [] bs
 
 -- the part of the bytes from a place on
 abbrev pub behind : List ℕ → ℕ → List ℕ

@@ -1,4 +1,4 @@
-pub mod Runs
+pub mod Series
 pub mod Rows
 pub mod Reading
 pub mod Elements

@@ -1,5 +1,5 @@
 -- What is read of operands, elements, conditions and tests is what the definition's reader gives, where it gives something.
--- Rests on the meaning's Image and on Runs.
+-- Rests on the meaning's Image and on Series.
 use mathlib.Core.Path.{_≡_, sym, _∙_, ap}
 use mathlib.Core.Option.{Option, some, none}
 use mathlib.Core.List.{List, []}
@@ -13,7 +13,7 @@ use lib.Seq.{take-all}
 use Rattle.meaning.specs.Tags.{constantTag, differenceTag, edgeTestTag, inDegreeTag, outDegreeTag, relationTag, sumTag, variableTag}
 use Rattle.meaning.specs.Basics.{ensure, _>>_, _>>=_}
 use Rattle.meaning.specs.Numbers.{number}
-use Rattle.meaning.specs.Image.{only, anyTag, constant, operand, twoOperands, element, relation, condition, test}
+use Rattle.meaning.specs.Image.{only, passesAll, constant, operand, twoOperands, element, relation, condition, test}
 use Rattle.meaning.specs.Laws.Tests.{some-inj, bind-some, ensure-some, ensure-yes}
 use Rattle.fields.specs.Image.{operand-other, element-other, condition-relation, condition-other}
 use Rattle.fields.specs.Parsed.{constant-is, twoOperands-is, constant-operand-read, variable-operand-read, constant-read, variable-read, sum-read, difference-read, test-is, edge-test-read, in-degree-read, out-degree-read, relation-1, relation-2, relation-kind}
@@ -22,7 +22,7 @@ use Rattle.meaning.specs.declared.Operand.the-variants.{Constant as constantOpe
 use Rattle.meaning.specs.declared.Element.the-variants.{Constant, Variable, Sum, Difference}
 use Rattle.meaning.specs.declared.Condition.{Condition}
 use Rattle.meaning.specs.declared.Condition.the-variants.{Edge, InDegree, OutDegree, Equal, Less}
-use Rattle.parts.specs.Runs.{For, Run, only-run, nthPart, nthTag, nth-item}
+use Rattle.parts.specs.Series.{For, Series, only-series, nthPart, nthTag, nth-item}
 use Rattle.parts.specs.Rows.{tagItem, count-is}
 
 -- a relation and two operands
@@ -71,7 +71,7 @@ module _ (tag : ℕ) (bs : List ℕ) where
 
 -- the operand of number n, where there are two
 abbrev pub Nth : List ℕ → ℕ → Operand → Type 0
-Nth bs n r = For (only anyTag operand 2 bs) (λ l. n < length l → (d : Operand) → r ≡ getD l n d)
+Nth bs n r = For (only passesAll operand 2 bs) (λ l. n < length l → (d : Operand) → r ≡ getD l n d)
 
 module _ (bs : List ℕ) (a b : Operand) (ha : Nth bs 0 a) (hb : Nth bs 1 b) where
   pair-is : For (twoOperands bs) (λ p. (a ≡ p .first) × (b ≡ p .second))
@@ -167,9 +167,9 @@ module _ (tag : ℕ) (bs : List ℕ) where
       rw (v, w)
 
 -- what is read from the field of a number, of a label or of tests
-pub item-nth : {A : Type 0} (item : ℕ → List ℕ → Option A) (most : ℕ) (bs : List ℕ) (n tag : ℕ) (part : List ℕ) (r : A) → tag ≡ nthTag n bs → part ≡ nthPart n bs → For (item tag part) (λ a. r ≡ a) → For (only anyTag item most bs) (λ l. n < length l → (d : A) → r ≡ getD l n d)
+pub item-nth : {A : Type 0} (item : ℕ → List ℕ → Option A) (most : ℕ) (bs : List ℕ) (n tag : ℕ) (part : List ℕ) (r : A) → tag ≡ nthTag n bs → part ≡ nthPart n bs → For (item tag part) (λ a. r ≡ a) → For (only passesAll item most bs) (λ l. n < length l → (d : A) → r ≡ getD l n d)
 item-nth item most bs n tag part r g h q l e k d =
-    q (getD l n d) (rw (g, h) (nth-item bs item l n d (only-run anyTag item item (λ t b a p x. x) most bs l e) k))
+    q (getD l n d) (rw (g, h) (nth-item bs item l n d (only-series passesAll item item (λ t b a p x. x) most bs l e) k))
 
-pub items-count : {A : Type 0} (item : ℕ → List ℕ → Option A) (most : ℕ) (bs : List ℕ) (r : ℕ) → ((l : List ℕ) → Run tagItem l [] bs → r ≡ length l) → For (only anyTag item most bs) (λ l. r ≡ length l)
-items-count item most bs r h l e = count-is item bs r h l (only-run anyTag item item (λ t b a p x. x) most bs l e)
+pub items-count : {A : Type 0} (item : ℕ → List ℕ → Option A) (most : ℕ) (bs : List ℕ) (r : ℕ) → ((l : List ℕ) → Series tagItem l [] bs → r ≡ length l) → For (only passesAll item most bs) (λ l. r ≡ length l)
+items-count item most bs r h l e = count-is item bs r h l (only-series passesAll item item (λ t b a p x. x) most bs l e)

@@ -1,5 +1,5 @@
 -- What stands in an image as rows of fields: a graph's items, an image's rules and main command, a rule's five parts.
--- Rests on the meaning's Image and on Runs.
+-- Rests on the meaning's Image and on Series.
 use mathlib.Core.Path.{_≡_, refl, sym, _∙_, ap}
 use mathlib.Core.Bool.{Bool, true, false}
 use mathlib.Core.Option.{Option, some, none}
@@ -13,13 +13,13 @@ use lib.ListN.{length, getD, drop, length-append, length-map, List·getD-map, Li
 use lib.Seq.{getD-append-add, getD-at}
 use Rattle.meaning.specs.Tags.{edgeTag, interfaceTag, leftTag, nodeTag, rightTag, ruleTag, testsTag, variablesTag}
 use Rattle.meaning.specs.Basics.{choose, isEmpty, _>>=_}
-use Rattle.meaning.specs.Image.{RuleNode, RuleEdge, RuleGraph, Rule, Command, Program, Field, field, expect, leading, only, anyTag, oneByte, label, ruleNode, ruleEdge, ruleGraph, test, types, rule, command, program}
+use Rattle.meaning.specs.Image.{RuleNode, RuleEdge, RuleGraph, Rule, Command, Program, Field, field, expect, leading, only, passesAll, oneByte, label, ruleNode, ruleEdge, ruleGraph, test, types, rule, command, program}
 use Rattle.meaning.specs.Laws.Tests.{choose-true, choose-eq, choose-ne, some-inj, bind-some, ensure-some, empty-true}
 use Rattle.fields.specs.Image.{field-is, bind-yes}
 use Rattle.fields.specs.Parsed.{oneByte-is, ruleNode-is, ruleEdge-is, ruleGraph-is, types-is, rule-is, command-tag}
 use Rattle.meaning.specs.declared.Element.{Element}
 use Rattle.fields.specs.Laws.{Lies}
-use Rattle.parts.specs.Runs.{Run, For, run-none, run-some, run-there, leading-run, only-run, run-append, run-map, nthPart, nthTag, nth-item}
+use Rattle.parts.specs.Series.{Series, For, series-none, series-some, series-there, leading-series, only-series, series-append, series-map, nthPart, nthTag, nth-item}
 
 -- Tags, and how many at the front are of one kind.
 
@@ -31,16 +31,16 @@ front tag [] = 0
 front tag (t ∷ l) = choose (eqb t tag) (suc (front tag l)) 0
 
 -- the tags of a row
-run-tags : {A : Type 0} (item : ℕ → List ℕ → Option A) (l : List A) (rest bs : List ℕ) → Run item l rest bs → (ts : List ℕ) × (Run tagItem ts rest bs) × (length ts ≡ length l)
-unfolding Run
-run-tags item [] rest bs r = ([], r, refl)
-run-tags item (a ∷ l) rest bs r =
-    let t = run-tags item l rest (r .whole .rest) (r .more) in
+series-tags : {A : Type 0} (item : ℕ → List ℕ → Option A) (l : List A) (rest bs : List ℕ) → Series item l rest bs → (ts : List ℕ) × (Series tagItem ts rest bs) × (length ts ≡ length l)
+unfolding Series
+series-tags item [] rest bs r = ([], r, refl)
+series-tags item (a ∷ l) rest bs r =
+    let t = series-tags item l rest (r .whole .rest) (r .more) in
     (r .whole .tag ∷ t .0, record { whole = r .whole; there = r .there; read = refl; more = t .1 }, ap suc (t .2))
 
 -- a row has no more items than bytes
-run-short : {A : Type 0} (item : ℕ → List ℕ → Option A) (l : List A) (rest bs : List ℕ) → Run item l rest bs → length l ≤ length bs
-unfolding Run
+run-short : {A : Type 0} (item : ℕ → List ℕ → Option A) (l : List A) (rest bs : List ℕ) → Series item l rest bs → length l ≤ length bs
+unfolding Series
 run-short item [] rest bs r = omega arith
 run-short item (a ∷ l) rest bs r =
     let t = run-short item l rest (r .whole .rest) (r .more) in
@@ -49,7 +49,7 @@ run-short item (a ∷ l) rest bs r =
 
 -- a loop that counts them: n are counted, and those from the place on are the others
 pub record Counting (tag : ℕ) (bs : List ℕ) (at n : ℕ) : Type 0 where
-  pub left : (l : List ℕ) → Run tagItem l [] bs → (m : List ℕ) × (Run tagItem m [] (drop at bs)) × (front tag l ≡ n + front tag m)
+  pub left : (l : List ℕ) → Series tagItem l [] bs → (m : List ℕ) × (Series tagItem m [] (drop at bs)) × (front tag l ≡ n + front tag m)
   pub few : n ≤ at
   pub inside : at ≤ length bs
 
@@ -57,24 +57,24 @@ pub counting-start : (tag : ℕ) (bs : List ℕ) → Counting tag bs 0 0
 counting-start tag bs = record { left = λ l r. (l, r, omega arith); few = omega arith; inside = omega arith }
 
 module _ {tag : ℕ} {bs : List ℕ} {at n : ℕ} (w : Counting tag bs at n) where
-  pub counting-done : length bs ≤ at → (l : List ℕ) → Run tagItem l [] bs → n ≡ front tag l
+  pub counting-done : length bs ≤ at → (l : List ℕ) → Series tagItem l [] bs → n ≡ front tag l
   unfolding front
   counting-done h l r =
       let t = w .left l r in
-      let z : front tag (t .0) ≡ 0 = ap (front tag) (run-none tagItem bs at (t .0) (t .1) h) in
+      let z : front tag (t .0) ≡ 0 = ap (front tag) (series-none tagItem bs at (t .0) (t .1) h) in
       omega (arith, t .2)
 
-  pub counting-cut : at < length bs → field (drop at bs) ≡ none → (l : List ℕ) → Run tagItem l [] bs → n ≡ front tag l
-  counting-cut h k l r = let t = w .left l r in absurd (run-there tagItem bs at (t .0) (t .1) h k)
+  pub counting-cut : at < length bs → field (drop at bs) ≡ none → (l : List ℕ) → Series tagItem l [] bs → n ≡ front tag l
+  counting-cut h k l r = let t = w .left l r in absurd (series-there tagItem bs at (t .0) (t .1) h k)
 
   module _ {found start end : ℕ} (h : at < length bs) (k : Lies bs at found start end) where
-    one : (l : List ℕ) (r : Run tagItem l [] bs) → (m : List ℕ) × (Run tagItem m [] (drop end bs)) × (front tag (w .left l r .0) ≡ choose (eqb found tag) (suc (front tag m)) 0)
+    one : (l : List ℕ) (r : Series tagItem l [] bs) → (m : List ℕ) × (Series tagItem m [] (drop end bs)) × (front tag (w .left l r .0) ≡ choose (eqb found tag) (suc (front tag m)) 0)
     unfolding front
     one l r =
         let t = w .left l r in
-        let u = run-some tagItem bs at (t .0) (t .1) h found start end k in
+        let u = series-some tagItem bs at (t .0) (t .1) h found start end k in
         let z : found ≡ u .first = some-inj _ _ (u .read) in
-        (u .others, u .run, ap (front tag) (u .parts) ∙ ap (λ (x : ℕ). choose (eqb x tag) (suc (front tag (u .others))) 0) (sym z))
+        (u .others, u .series, ap (front tag) (u .parts) ∙ ap (λ (x : ℕ). choose (eqb x tag) (suc (front tag (u .others))) 0) (sym z))
 
     pub counting-next : found ≡ tag → Counting tag bs end (n + 1)
     counting-next g = record {
@@ -87,7 +87,7 @@ module _ {tag : ℕ} {bs : List ℕ} {at n : ℕ} (w : Counting tag bs at n) whe
       inside = k .inside;
     }
 
-    pub counting-stop : (found ≡ tag → ⊥) → (l : List ℕ) → Run tagItem l [] bs → n ≡ front tag l
+    pub counting-stop : (found ≡ tag → ⊥) → (l : List ℕ) → Series tagItem l [] bs → n ≡ front tag l
     counting-stop g l r =
         let t = w .left l r in
         let u = one l r in
@@ -96,7 +96,7 @@ module _ {tag : ℕ} {bs : List ℕ} {at n : ℕ} (w : Counting tag bs at n) whe
 
 -- a loop that counts all fields
 pub record Numbering (bs : List ℕ) (at n : ℕ) : Type 0 where
-  pub left : (l : List ℕ) → Run tagItem l [] bs → (m : List ℕ) × (Run tagItem m [] (drop at bs)) × (length l ≡ n + length m)
+  pub left : (l : List ℕ) → Series tagItem l [] bs → (m : List ℕ) × (Series tagItem m [] (drop at bs)) × (length l ≡ n + length m)
   pub few : n ≤ at
   pub inside : at ≤ length bs
 
@@ -104,29 +104,29 @@ pub numbering-start : (bs : List ℕ) → Numbering bs 0 0
 numbering-start bs = record { left = λ l r. (l, r, omega arith); few = omega arith; inside = omega arith }
 
 module _ {bs : List ℕ} {at n : ℕ} (w : Numbering bs at n) where
-  pub numbering-done : length bs ≤ at → (l : List ℕ) → Run tagItem l [] bs → n ≡ length l
+  pub numbering-done : length bs ≤ at → (l : List ℕ) → Series tagItem l [] bs → n ≡ length l
   numbering-done h l r =
       let t = w .left l r in
-      let z : length (t .0) ≡ 0 = ap length (run-none tagItem bs at (t .0) (t .1) h) in
+      let z : length (t .0) ≡ 0 = ap length (series-none tagItem bs at (t .0) (t .1) h) in
       omega (arith, t .2)
 
-  pub numbering-cut : at < length bs → field (drop at bs) ≡ none → (l : List ℕ) → Run tagItem l [] bs → n ≡ length l
-  numbering-cut h k l r = let t = w .left l r in absurd (run-there tagItem bs at (t .0) (t .1) h k)
+  pub numbering-cut : at < length bs → field (drop at bs) ≡ none → (l : List ℕ) → Series tagItem l [] bs → n ≡ length l
+  numbering-cut h k l r = let t = w .left l r in absurd (series-there tagItem bs at (t .0) (t .1) h k)
 
   pub numbering-next : {tag start end : ℕ} → at < length bs → Lies bs at tag start end → Numbering bs end (n + 1)
   numbering-next {tag} {start} {end} h k = record {
     left = λ l r.
         let t = w .left l r in
-        let u = run-some tagItem bs at (t .0) (t .1) h tag start end k in
+        let u = series-some tagItem bs at (t .0) (t .1) h tag start end k in
         let z : length (t .0) ≡ suc (length (u .others)) = ap length (u .parts) in
-        (u .others, u .run, omega (arith, t .2, z));
+        (u .others, u .series, omega (arith, t .2, z));
     few = omega (arith, w .few, k .starts, k .ends);
     inside = k .inside;
   }
 
 -- so many fields as items are read from them
-pub count-is : {A : Type 0} (item : ℕ → List ℕ → Option A) (bs : List ℕ) (r : ℕ) → ((l : List ℕ) → Run tagItem l [] bs → r ≡ length l) → (l : List A) → Run item l [] bs → r ≡ length l
-count-is item bs r h l q = let t = run-tags item l [] bs q in h (t .0) (t .1) ∙ t .2
+pub count-is : {A : Type 0} (item : ℕ → List ℕ → Option A) (bs : List ℕ) (r : ℕ) → ((l : List ℕ) → Series tagItem l [] bs → r ≡ length l) → (l : List A) → Series item l [] bs → r ≡ length l
+count-is item bs r h l q = let t = series-tags item l [] bs q in h (t .0) (t .1) ∙ t .2
 
 -- Fields of one tag.
 
@@ -171,14 +171,14 @@ edge-item tag bs n e =
     let t = tagged-some edgeTag ruleEdge tag bs n e in
     rw (← (t .0)) (bind-yes _ _ n (t .1))
 
-pub graph-run : (bs : List ℕ) (g : RuleGraph) → ruleGraph bs ≡ some g → Run graphItem (items g) [] bs
-graph-run bs g e =
+pub graph-series : (bs : List ℕ) (g : RuleGraph) → ruleGraph bs ≡ some g → Series graphItem (items g) [] bs
+graph-series bs g e =
     let i = ruleGraph-is bs g e in
-    let ns = leading-run (eqb nodeTag) (λ tag. ruleNode) (tagged nodeTag ruleNode) (tagged-yes nodeTag ruleNode) 6 bs _ (i .nodes) in
-    let es = only-run (eqb edgeTag) (λ tag. ruleEdge) (tagged edgeTag ruleEdge) (tagged-yes edgeTag ruleEdge) 6 (i .behind) (g .edges) (i .edges) in
-    run-append graphItem (map node (g .nodes)) (map edge (g .edges)) (i .behind) bs []
-    (run-map (tagged nodeTag ruleNode) graphItem node node-item (g .nodes) (i .behind) bs ns)
-    (run-map (tagged edgeTag ruleEdge) graphItem edge edge-item (g .edges) [] (i .behind) es)
+    let ns = leading-series (eqb nodeTag) (λ tag. ruleNode) (tagged nodeTag ruleNode) (tagged-yes nodeTag ruleNode) 6 bs _ (i .nodes) in
+    let es = only-series (eqb edgeTag) (λ tag. ruleEdge) (tagged edgeTag ruleEdge) (tagged-yes edgeTag ruleEdge) 6 (i .behind) (g .edges) (i .edges) in
+    series-append graphItem (map node (g .nodes)) (map edge (g .edges)) (i .behind) bs []
+    (series-map (tagged nodeTag ruleNode) graphItem node node-item (g .nodes) (i .behind) bs ns)
+    (series-map (tagged edgeTag ruleEdge) graphItem edge edge-item (g .edges) [] (i .behind) es)
 
 -- what an item that is read says of its tag and bytes
 abbrev pub IsItem : ℕ → List ℕ → Item → Type 0
@@ -217,9 +217,9 @@ front-items [] (e ∷ es) = refl
 front-items (n ∷ ns) es = ap suc (front-items ns es)
 
 -- the tags at the front are as many as there are nodes
-pub graph-count : (bs : List ℕ) (r : ℕ) → ((l : List ℕ) → Run tagItem l [] bs → r ≡ front nodeTag l) → For (ruleGraph bs) (λ g. r ≡ length (g .nodes))
+pub graph-count : (bs : List ℕ) (r : ℕ) → ((l : List ℕ) → Series tagItem l [] bs → r ≡ front nodeTag l) → For (ruleGraph bs) (λ g. r ≡ length (g .nodes))
 graph-count bs r h g e =
-    h (map itemTag (items g)) (run-map graphItem tagItem itemTag item-tag (items g) [] bs (graph-run bs g e)) ∙ front-items (g .nodes) (g .edges)
+    h (map itemTag (items g)) (series-map graphItem tagItem itemTag item-tag (items g) [] bs (graph-series bs g e)) ∙ front-items (g .nodes) (g .edges)
 
 -- Nodes and edges, from their bytes.
 
@@ -251,14 +251,14 @@ nth-of f l m i d h = List·getD-append (map f l) m (f d) i (rw (length-map l f) 
 pub nth-node : (bs : List ℕ) (g : RuleGraph) → ruleGraph bs ≡ some g → (i : ℕ) → i < length (g .nodes) → (d : RuleNode) → ruleNode (nthPart i bs) ≡ some (getD (g .nodes) i d)
 nth-node bs g e i h d =
     let k : i < length (items g) = rw (length-append (map node (g .nodes)) (map edge (g .edges)), length-map (g .nodes) node) (omega arith) in
-    let t = nth-item bs graphItem (items g) i (node d) (graph-run bs g e) k in
+    let t = nth-item bs graphItem (items g) i (node d) (graph-series bs g e) k in
     item-is (nthTag i bs) (nthPart i bs) (node (getD (g .nodes) i d)) (t ∙ ap some (nth-of node (g .nodes) (map edge (g .edges)) i d h)) .1
 
 pub nth-edge : (bs : List ℕ) (g : RuleGraph) → ruleGraph bs ≡ some g → (i : ℕ) → i < length (g .edges) → (d : RuleEdge) → ruleEdge (nthPart (length (g .nodes) + i) bs) ≡ some (getD (g .edges) i d)
 nth-edge bs g e i h d =
     let n = length (g .nodes) in
     let k : n + i < length (items g) = rw (length-append (map node (g .nodes)) (map edge (g .edges)), length-map (g .nodes) node, length-map (g .edges) edge) (omega arith) in
-    let t = nth-item bs graphItem (items g) (n + i) (edge d) (graph-run bs g e) k in
+    let t = nth-item bs graphItem (items g) (n + i) (edge d) (graph-series bs g e) k in
     let q : getD (items g) (n + i) (edge d) ≡ edge (getD (g .edges) i d) = rw (← (length-map (g .nodes) node)) (getD-append-add (map node (g .nodes)) (map edge (g .edges)) i (edge d)) ∙ List·getD-map edge (g .edges) i d in
     item-is (nthTag (n + i) bs) (nthPart (n + i) bs) (edge (getD (g .edges) i d)) (t ∙ ap some q) .1
 
@@ -267,10 +267,10 @@ abbrev pub markAt : RuleGraph → ℕ → ℕ
 markAt g i = getD (map (λ n. n .mark) (g .nodes)) i 0
 
 -- all items but the nodes are edges
-module _ (bs : List ℕ) (all n : ℕ) (h : (l : List ℕ) → Run tagItem l [] bs → all ≡ length l) (q : For (ruleGraph bs) (λ g. n ≡ length (g .nodes))) where
+module _ (bs : List ℕ) (all n : ℕ) (h : (l : List ℕ) → Series tagItem l [] bs → all ≡ length l) (q : For (ruleGraph bs) (λ g. n ≡ length (g .nodes))) where
   together : For (ruleGraph bs) (λ g. all ≡ length (g .nodes) + length (g .edges))
   together g e =
-      count-is graphItem bs all h (items g) (graph-run bs g e)
+      count-is graphItem bs all h (items g) (graph-series bs g e)
       ∙ length-append (map node (g .nodes)) (map edge (g .edges))
       ∙ rw (length-map (g .nodes) node, length-map (g .edges) edge)
 
@@ -289,7 +289,7 @@ edge-there bs part i n q p g e h d =
 -- a graph has no more edges than bytes
 pub edge-far : (bs part : List ℕ) (i : ℕ) → length bs ≤ i → For (ruleGraph bs) (λ g. i < length (g .edges) → (d : RuleEdge) → ruleEdge part ≡ some (getD (g .edges) i d))
 edge-far bs part i k g e h d =
-    let f = run-short graphItem (items g) [] bs (graph-run bs g e) in
+    let f = run-short graphItem (items g) [] bs (graph-series bs g e) in
     let a = length-append (map node (g .nodes)) (map edge (g .edges)) in
     let b = length-map (g .nodes) node in
     let c = length-map (g .edges) edge in
@@ -349,19 +349,19 @@ main-item : (tag : ℕ) (bs : List ℕ) (c : Command) → command 16 tag bs ≡ 
 unfolding imagePart
 main-item tag bs c e = choose-ne tag ruleTag _ _ (no-command tag bs c e) ∙ bind-yes _ _ c e
 
-pub image-run : (bs : List ℕ) (p : Program) → program bs ≡ some p → (t : ℕ) × (t ≡ ruleTag → ⊥) × (Run imagePart (imageParts t p) [] bs)
-unfolding program Run
-image-run bs p e =
+pub image-series : (bs : List ℕ) (p : Program) → program bs ≡ some p → (t : ℕ) × (t ≡ ruleTag → ⊥) × (Series imagePart (imageParts t p) [] bs)
+unfolding program Series
+image-series bs p e =
     let t = bind-some (leading (eqb ruleTag) (λ tag. rule) 32 bs) _ p e in
     let u = bind-some (field (t .0 .rest)) _ p (t .2) in
     let v = ensure-some (isEmpty (u .0 .rest)) _ p (u .2) in
     let w = bind-some (command 16 (u .0 .tag) (u .0 .payload)) _ p (v .1) in
-    let rs = leading-run (eqb ruleTag) (λ tag. rule) (tagged ruleTag rule) (tagged-yes ruleTag rule) 32 bs (t .0) (t .1) in
+    let rs = leading-series (eqb ruleTag) (λ tag. rule) (tagged ruleTag rule) (tagged-yes ruleTag rule) 32 bs (t .0) (t .1) in
     rw (← (some-inj (record { rules = t .0 .items; main = w .0 }) p (w .2))) (
       u .0 .tag,
       no-command _ _ (w .0) (w .1),
-      run-append imagePart (map ruleOf (t .0 .items)) (mainOf (u .0 .tag) (w .0) ∷ []) (t .0 .rest) bs []
-          (run-map (tagged ruleTag rule) imagePart ruleOf rule-item (t .0 .items) (t .0 .rest) bs rs)
+      series-append imagePart (map ruleOf (t .0 .items)) (mainOf (u .0 .tag) (w .0) ∷ []) (t .0 .rest) bs []
+          (series-map (tagged ruleTag rule) imagePart ruleOf rule-item (t .0 .items) (t .0 .rest) bs rs)
           (record { whole = u .0; there = u .1; read = main-item _ _ (w .0) (w .1); more = empty-true _ (v .0) }),
     )
 
@@ -380,22 +380,22 @@ front-parts [] t c h = choose-ne t ruleTag _ _ h
 front-parts (x ∷ xs) t c h = ap suc (front-parts xs t c h)
 
 -- the tags at the front are as many as there are rules
-pub rule-count-is : (bs : List ℕ) (r : ℕ) → ((l : List ℕ) → Run tagItem l [] bs → r ≡ front ruleTag l) → For (program bs) (λ p. r ≡ length (p .rules))
+pub rule-count-is : (bs : List ℕ) (r : ℕ) → ((l : List ℕ) → Series tagItem l [] bs → r ≡ front ruleTag l) → For (program bs) (λ p. r ≡ length (p .rules))
 rule-count-is bs r h p e =
-    let t = image-run bs p e in
-    h (map partTag (imageParts (t .0) p)) (run-map imagePart tagItem partTag part-tag (imageParts (t .0) p) [] bs (t .2)) ∙ front-parts (p .rules) (t .0) (p .main) (t .1)
+    let t = image-series bs p e in
+    h (map partTag (imageParts (t .0) p)) (series-map imagePart tagItem partTag part-tag (imageParts (t .0) p) [] bs (t .2)) ∙ front-parts (p .rules) (t .0) (p .main) (t .1)
 
 -- the rule of a number, and the main command behind them
 pub nth-rule : (bs : List ℕ) (p : Program) → program bs ≡ some p → (i : ℕ) → i < length (p .rules) → (d : Rule) → rule (nthPart i bs) ≡ some (getD (p .rules) i d)
 nth-rule bs p e i h d =
-    let r = image-run bs p e in
+    let r = image-series bs p e in
     let k : i < length (imageParts (r .0) p) = rw (length-append (map ruleOf (p .rules)) (mainOf (r .0) (p .main) ∷ []), length-map (p .rules) ruleOf) (omega arith) in
     let t = nth-item bs imagePart (imageParts (r .0) p) i (ruleOf d) (r .2) k in
     part-is (nthTag i bs) (nthPart i bs) (ruleOf (getD (p .rules) i d)) (t ∙ ap some (nth-of ruleOf (p .rules) (mainOf (r .0) (p .main) ∷ []) i d h)) .1
 
 pub main-command : (bs : List ℕ) (p : Program) → program bs ≡ some p → command 16 (nthTag (length (p .rules)) bs) (nthPart (length (p .rules)) bs) ≡ some (p .main)
 main-command bs p e =
-    let r = image-run bs p e in
+    let r = image-series bs p e in
     let n = length (p .rules) in
     let m = mainOf (r .0) (p .main) in
     let k : n < length (imageParts (r .0) p) = rw (length-append (map ruleOf (p .rules)) (m ∷ []), length-map (p .rules) ruleOf) (omega arith) in
@@ -413,7 +413,7 @@ pub record Parted (bs : List ℕ) (x : Rule) : Type 0 where
   pub left : ruleGraph (nthPart 1 bs) ≡ some (x .left)
   pub right : ruleGraph (nthPart 2 bs) ≡ some (x .right)
   pub interface : oneByte (nthPart 3 bs) ≡ some (x .interface)
-  pub tests : only anyTag test 4 (nthPart 4 bs) ≡ some (x .tests)
+  pub tests : only passesAll test 4 (nthPart 4 bs) ≡ some (x .tests)
 
 expected : (tag : ℕ) (bs : List ℕ) (d : Field) → expect tag bs ≡ some d → field bs ≡ some d
 unfolding expect
@@ -422,25 +422,25 @@ expected tag bs d e =
     t .1 ∙ ensure-some (eqb (t .0 .tag) tag) _ d (t .2) .1
 
 five : (bs : List ℕ) (a b c d e : Field) → field bs ≡ some a → field (a .rest) ≡ some b → field (b .rest) ≡ some c → field (c .rest) ≡ some d → field (d .rest) ≡ some e → e .rest ≡ []
-    → Run anything (a .payload ∷ b .payload ∷ c .payload ∷ d .payload ∷ e .payload ∷ []) [] bs
-unfolding Run
+    → Series anything (a .payload ∷ b .payload ∷ c .payload ∷ d .payload ∷ e .payload ∷ []) [] bs
+unfolding Series
 five bs a b c d e ha hb hc hd he h =
     record { whole = a; there = ha; read = refl; more = record { whole = b; there = hb; read = refl; more = record { whole = c; there = hc; read = refl; more = record { whole = d; there = hd; read = refl; more = record { whole = e; there = he; read = refl; more = h } } } } }
 
-nth-payload : (bs : List ℕ) (l : List (List ℕ)) (n : ℕ) → Run anything l [] bs → n < length l → nthPart n bs ≡ getD l n []
+nth-payload : (bs : List ℕ) (l : List (List ℕ)) (n : ℕ) → Series anything l [] bs → n < length l → nthPart n bs ≡ getD l n []
 nth-payload bs l n r h = some-inj _ _ (nth-item bs anything l n [] r h)
 
 pub rule-parted : (bs : List ℕ) (x : Rule) → rule bs ≡ some x → Parted bs x
 rule-parted bs x e =
     let i = rule-is bs x e in
     let l = i .v .payload ∷ i .l .payload ∷ i .r .payload ∷ i .k .payload ∷ i .t .payload ∷ [] in
-    let row : Run anything l [] bs = five bs (i .v) (i .l) (i .r) (i .k) (i .t) (expected variablesTag bs (i .v) (i .at-v)) (expected leftTag (i .v .rest) (i .l) (i .at-l)) (expected rightTag (i .l .rest) (i .r) (i .at-r)) (expected interfaceTag (i .r .rest) (i .k) (i .at-k)) (expected testsTag (i .k .rest) (i .t) (i .at-t)) (i .last) in
+    let row : Series anything l [] bs = five bs (i .v) (i .l) (i .r) (i .k) (i .t) (expected variablesTag bs (i .v) (i .at-v)) (expected leftTag (i .v .rest) (i .l) (i .at-l)) (expected rightTag (i .l .rest) (i .r) (i .at-r)) (expected interfaceTag (i .r .rest) (i .k) (i .at-k)) (expected testsTag (i .k .rest) (i .t) (i .at-t)) (i .last) in
     record {
       variables = ap types (nth-payload bs l 0 row (lit< tt)) ∙ i .variables;
       left = ap ruleGraph (nth-payload bs l 1 row (lit< tt)) ∙ i .left;
       right = ap ruleGraph (nth-payload bs l 2 row (lit< tt)) ∙ i .right;
       interface = ap oneByte (nth-payload bs l 3 row (lit< tt)) ∙ i .interface;
-      tests = ap (only anyTag test 4) (nth-payload bs l 4 row (lit< tt)) ∙ i .tests;
+      tests = ap (only passesAll test 4) (nth-payload bs l 4 row (lit< tt)) ∙ i .tests;
     }
 
 pub variables-are : (bs part : List ℕ) → part ≡ nthPart 0 bs → For (rule bs) (λ x. part ≡ x .variables)

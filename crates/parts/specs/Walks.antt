@@ -1,5 +1,5 @@
 -- Walks along the elements of a label where its bytes lie: a step and the end of one, and counting the elements.
--- Rests on Elements, Runs and fields' Laws.
+-- Rests on Elements, Series and fields' Laws.
 use mathlib.Core.Path.{_≡_, refl, sym, _∙_, ap}
 use mathlib.Core.Bool.{true, false}
 use mathlib.Core.Option.{some, none}
@@ -11,7 +11,7 @@ use borrow.Author.Tests.{eq-eqb, ne-eqb}
 use lib.Dec.{eqb, leb}
 use lib.ListN.{length, take, drop, length-drop}
 use lib.Seq.{length-take-le, take-all}
-use Rattle.meaning.specs.Image.{Rule, field, anyTag, element, label}
+use Rattle.meaning.specs.Image.{Rule, field, passesAll, element, label}
 use Rattle.meaning.specs.References.{takesList, lists}
 use Rattle.meaning.specs.FirstMatch.{lengthFits}
 use Rattle.meaning.specs.Laws.Tests.{choose-true, choose-false}
@@ -20,7 +20,7 @@ use Rattle.fields.specs.Fields.{fieldAt}
 use Rattle.fields.specs.Laws.{found-field, short-none, end-none}
 use Rattle.fields.specs.declared.Found.{Found}
 use Rattle.fields.specs.declared.Found.the-variants.{Field as Lying, Short, End}
-use Rattle.parts.specs.Runs.{only-run, run-none, run-some, run-there}
+use Rattle.parts.specs.Series.{only-series, series-none, series-some, series-there}
 use Rattle.parts.specs.Elements.{Spells, behind, Next, Begins, Opens, Counted}
 use Rattle.parts.specs.declared.Front.{Front}
 use Rattle.parts.specs.declared.Front.the-variants.{First, Nothing}
@@ -30,7 +30,7 @@ use Rattle.parts.specs.declared.Counts.{Counts}
 
 pub spells-label : (bs : List ℕ) (l : List Element) → label bs ≡ some l → Spells bs l
 unfolding label
-spells-label bs l e = only-run anyTag element element (λ tag q a p r. r) 4 bs l e
+spells-label bs l e = only-series passesAll element element (λ tag q a p r. r) 4 bs l e
 
 -- How they begin, from the field that is found.
 
@@ -46,12 +46,12 @@ module _ (bs : List ℕ) (tag start end : ℕ) (f : Lying tag start end ≡ fiel
         onward = h;
         inside = a .inside;
         next = λ l s.
-            let t = run-some element bs 0 l s (omega (arith, a .inside)) tag start end a in
+            let t = series-some element bs 0 l s (omega (arith, a .inside)) tag start end a in
             let g : e ≡ t .first = r _ (rw i (t .read)) in
             let k = length-drop end bs in
             record {
               later = t .others;
-              spelt = rw (take-all (length bs - end) (drop end bs) (omega arith)) (t .run);
+              spelt = rw (take-all (length bs - end) (drop end bs) (omega arith)) (t .series);
               whole = t .parts ∙ ap (λ (d : Element). d ∷ t .others) (sym g);
             };
       }
@@ -65,8 +65,8 @@ begins-not bs f e d l s = go (decLt 0 (length bs))
     none-there End q = end-none bs 0 (sym q ∙ e)
 
     go : Dec (0 < length bs) → l ≡ []
-    go (yes h) = absurd (run-there element bs 0 l s h (none-there f refl))
-    go (no h) = run-none element bs 0 l s (omega arith)
+    go (yes h) = absurd (series-there element bs 0 l s h (none-there f refl))
+    go (no h) = series-none element bs 0 l s (omega arith)
 
 -- a step of a walk
 pub opens-first : (bs : List ℕ) (f : Front) (e : Element) (end : ℕ) → Opens bs f → f ≡ First e end → Begins bs e end

@@ -6,8 +6,8 @@ ghost use mathlib.Core.List.{List, []};
 ghost use Prim.Native.Nat.{ℕ, _<_, _≤_};
 ghost use lib.ListN.{length, getD, drop};
 ghost use Rattle.meaning.specs.Numbers.{number};
-ghost use Rattle.meaning.specs.Image.{Rule, only, anyTag, constant, label, ruleNode, ruleEdge, RuleNode, RuleEdge, ruleGraph, test, rule, program};
-ghost use Rattle.parts.specs.Runs.{For, Run, nthPart, nthTag};
+ghost use Rattle.meaning.specs.Image.{Rule, only, passesAll, constant, label, ruleNode, ruleEdge, RuleNode, RuleEdge, ruleGraph, test, rule, program};
+ghost use Rattle.parts.specs.Series.{For, Series, nthPart, nthTag};
 ghost use Rattle.parts.specs.Rows.{tagItem, front, markAt, graphItem, itemLabel};
 use fields::Found;
 use meaning::Element;
@@ -100,7 +100,7 @@ pub fn nth_tag(p: &[u8], n: usize) -> u8
 
 // How many fields at the front have a tag.
 pub fn count_front(p: &[u8], tag: u8) -> usize
-    ensures { λ r. ⌜ ((l : List ℕ) → Run tagItem l [] (now (p .entry)) → r ≡ front tag l) ⌝ }
+    ensures { λ r. ⌜ ((l : List ℕ) → Series tagItem l [] (now (p .entry)) → r ≡ front tag l) ⌝ }
     ensures { λ r. ⌜ r ≤ length (now (p .entry)) ⌝ }
 {
     let mut at: usize = 0;
@@ -122,7 +122,7 @@ pub fn count_front(p: &[u8], tag: u8) -> usize
 
 // How many fields there are.
 pub fn count_fields(p: &[u8]) -> usize
-    ensures { λ r. ⌜ ((l : List ℕ) → Run tagItem l [] (now (p .entry)) → r ≡ length l) ⌝ }
+    ensures { λ r. ⌜ ((l : List ℕ) → Series tagItem l [] (now (p .entry)) → r ≡ length l) ⌝ }
     ensures { λ r. ⌜ r ≤ length (now (p .entry)) ⌝ }
 {
     let mut at: usize = 0;
@@ -210,7 +210,7 @@ pub fn interface_of(p: &[u8]) -> usize
 }
 
 pub fn tests_part(p: &[u8]) -> &[u8]
-    ensures { λ r. ⌜ For (rule (now (p .entry))) (λ x. only anyTag test 4 (now r) ≡ some (x .tests)) ⌝ }
+    ensures { λ r. ⌜ For (rule (now (p .entry))) (λ x. only passesAll test 4 (now r) ≡ some (x .tests)) ⌝ }
 {
     nth_part(p, 4)
 }
@@ -224,7 +224,7 @@ pub fn element_count(p: &[u8]) -> usize
 }
 
 pub fn test_count(p: &[u8]) -> usize
-    ensures { λ r. ⌜ For (only anyTag test 4 (now (p .entry))) (λ l. r ≡ length l) ⌝ }
+    ensures { λ r. ⌜ For (only passesAll test 4 (now (p .entry))) (λ l. r ≡ length l) ⌝ }
 {
     count_fields(p)
 }

@@ -2,11 +2,11 @@
 ghost use mathlib.Core.Path.{_≡_};
 ghost use Prim.Native.Nat.{_<_};
 ghost use lib.ListN.{length, getD};
-ghost use Rattle.meaning.specs.Image.{only, anyTag, operand, element, label, condition, test};
+ghost use Rattle.meaning.specs.Image.{only, passesAll, operand, element, label, condition, test};
 ghost use Rattle.meaning.specs.declared.Operand.{Operand};
 ghost use Rattle.meaning.specs.declared.Element.{Element};
 ghost use Rattle.meaning.specs.declared.Test.{Test};
-ghost use Rattle.parts.specs.Runs.{For};
+ghost use Rattle.parts.specs.Series.{For};
 ghost use Rattle.parts.specs.Reading.{relationOf};
 use meaning::Condition;
 use meaning::Element;
@@ -26,7 +26,7 @@ pub fn read_operand(tag: u8, p: &[u8]) -> Operand
 
 // The operand of number n in a row of operands.
 pub fn operand_at(p: &[u8], n: usize) -> Operand
-    ensures { λ r. ⌜ For (only anyTag operand 2 (now (p .entry))) (λ l. n < length l → (d : Operand) → r ≡ getD l n d) ⌝ }
+    ensures { λ r. ⌜ For (only passesAll operand 2 (now (p .entry))) (λ l. n < length l → (d : Operand) → r ≡ getD l n d) ⌝ }
 {
     read_operand(crate::nth_tag(p, n), crate::nth_part(p, n))
 }
@@ -98,7 +98,7 @@ pub fn read_test(tag: u8, p: &[u8]) -> Test
 
 // The test of number n of a rule's tests.
 pub fn test_at(p: &[u8], n: usize) -> Test
-    ensures { λ r. ⌜ For (only anyTag test 4 (now (p .entry))) (λ l. n < length l → (d : Test) → r ≡ getD l n d) ⌝ }
+    ensures { λ r. ⌜ For (only passesAll test 4 (now (p .entry))) (λ l. n < length l → (d : Test) → r ≡ getD l n d) ⌝ }
 {
     read_test(crate::nth_tag(p, n), crate::nth_part(p, n))
 }

@@ -8,7 +8,7 @@ use native.Mathlib.Omega.{arith}
 use native.Mathlib.Decide.{decLt}
 use lib.ListN.{length, getD, take, drop, length-drop}
 use lib.Seq.{length-take-le, take-nil, take-take, drop-drop, drop-cons, getD-take, getD-drop}
-use Rattle.meaning.specs.Image.{RuleNode, RuleEdge, Rule, only, anyTag, label, ruleNode, ruleEdge, test}
+use Rattle.meaning.specs.Image.{RuleNode, RuleEdge, Rule, only, passesAll, label, ruleNode, ruleEdge, test}
 use Rattle.meaning.specs.References.{labels}
 use Rattle.meaning.specs.Matching.{leftNode, leftEdge, leftNodes, leftEdges}
 use Rattle.fields.specs.Parsed.{ruleNode-is, ruleEdge-is, test-is}
@@ -17,7 +17,7 @@ use Rattle.meaning.specs.declared.Test.{Test}
 use Rattle.fields.specs.Fields.{nthField}
 use Rattle.fields.specs.declared.Found.{Found}
 use Rattle.fields.specs.declared.Found.the-variants.{Field}
-use Rattle.parts.specs.Runs.{Run, only-run, nthPart, nthTag, nth-item, part-field, tag-field}
+use Rattle.parts.specs.Series.{Series, only-series, nthPart, nthTag, nth-item, part-field, tag-field}
 use Rattle.parts.proofs.Loops.{NoField, no-part, nth-in}
 use Rattle.plan.specs.Plan.{Placed, testOf, Laid, HasItem, HasNode, HasEdge, Marked, edgeEnd, endPlace, Part, edgesAt, endAt, nodesAt, startAt, testsEndAt, testsStartAt}
 use Rattle.plan.specs.declared.Side.{Side}
@@ -216,12 +216,12 @@ no-test : (tag : ℕ) (p : List ℕ) (t : Test) → [] ≡ p → test tag p ≡ 
 no-test tag p t e q = omega (arith, test-is tag p t q .long, ap length e)
 
 module _ {bs : List ℕ} {r : Rule} {plan : List ℕ} (l : Laid bs r plan) (p : List ℕ) (is : p ≡ take (getD plan testsEndAt 0 - getD plan testsStartAt 0) (drop (getD plan testsStartAt 0) bs)) where
-  pub tests-run : Run test (r .tests) [] p
-  tests-run = only-run anyTag test test (λ tag cs a h e. e) 4 p (r .tests) (ap (only anyTag test 4) is ∙ l .tests .is)
+  pub tests-series : Series test (r .tests) [] p
+  tests-series = only-series passesAll test test (λ tag cs a h e. e) 4 p (r .tests) (ap (only passesAll test 4) is ∙ l .tests .is)
 
   module _ (t : ℕ) (h : t < length (r .tests)) where
     numbered : test (nthTag t p) (nthPart t p) ≡ some (testOf r t)
-    numbered = nth-item p test (r .tests) t _ tests-run h
+    numbered = nth-item p test (r .tests) t _ tests-series h
 
     pub test-none : (f : Found) → f ≡ nthField t p 0 → NoField f → ⊥
     test-none f e k = no-test _ _ _ (no-part p f (nthField t p 0) e k) numbered

@@ -9,7 +9,7 @@ use mathlib.Core.List.{List, [], _∷_}
 use Prim.Native.Nat.{ℕ, suc, _+_, _-_, _<_, _≤_}
 use lib.ListN.{length, getD, take, drop}
 use Rattle.meaning.specs.Basics.{choose}
-use Rattle.meaning.specs.Image.{RuleNode, RuleEdge, RuleGraph, Rule, only, anyTag, ruleNode, ruleEdge, types, test, rule, limits}
+use Rattle.meaning.specs.Image.{RuleNode, RuleEdge, RuleGraph, Rule, only, passesAll, ruleNode, ruleEdge, types, test, rule, limits}
 use Rattle.meaning.specs.References.{labels, lists, takesList, ruleHolds}
 use Rattle.meaning.specs.Matching.{leftNode, leftEdge, leftNodes, leftEdges}
 use Rattle.meaning.specs.Assigned.{isVariable}
@@ -18,7 +18,7 @@ use Rattle.meaning.specs.declared.Condition.the-variants.{Edge}
 use Rattle.meaning.specs.declared.Test.{Test}
 use Rattle.meaning.specs.declared.Element.{Element}
 use Rattle.meaning.specs.declared.Element.the-variants.{Constant as constantElement, Variable}
-use Rattle.parts.specs.Runs.{nthPart}
+use Rattle.parts.specs.Series.{nthPart}
 use Rattle.plan.specs.declared.Side.{Side}
 use Rattle.plan.specs.declared.Side.the-variants.{Source, Target}
 
@@ -143,7 +143,7 @@ pub record Laid (bs : List ℕ) (r : Rule) (plan : List ℕ) : Type 0 where
   pub fewVariables : length (r .variables) ≤ limits .variables
   pub types : Placed types bs (getD plan typesStartAt 0) (getD plan typesEndAt 0) (r .variables)
   pub fewTests : length (r .tests) ≤ limits .tests
-  pub tests : Placed (only anyTag test (limits .tests)) bs (getD plan testsStartAt 0) (getD plan testsEndAt 0) (r .tests)
+  pub tests : Placed (only passesAll test (limits .tests)) bs (getD plan testsStartAt 0) (getD plan testsEndAt 0) (r .tests)
 
 -- Where variables are. How many elements of one atom, and how many lists, a label has before variable v.
 

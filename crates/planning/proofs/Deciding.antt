@@ -21,11 +21,11 @@ use Rattle.meaning.specs.declared.Condition.{Condition}
 use Rattle.meaning.specs.declared.Condition.the-variants.{Edge, InDegree, OutDegree, Equal, Less}
 use Rattle.meaning.specs.declared.Test.{Test}
 use Rattle.fields.specs.Laws.{Lies}
-use Rattle.parts.specs.Runs.{Run, run-none, run-some, run-there}
+use Rattle.parts.specs.Series.{Series, series-none, series-some, series-there}
 use Rattle.plan.specs.Plan.{testOf, Planned, decidesAt, firstAt, testsEndAt, testsStartAt, testsAt}
 use Rattle.planning.specs.Planning.{Named, AllLabelled, Valued, Decides, operandDecided, decidedBy}
 use Rattle.plan.specs.Tests.{nodes-exist, variables-exist}
-use Rattle.plan.specs.Places.{drop-head, tests-run}
+use Rattle.plan.specs.Places.{drop-head, tests-series}
 use Rattle.planning.proofs.Variables.{first-low}
 use Rattle.planning.proofs.Stores.{other, stored, all-kept}
 
@@ -145,18 +145,18 @@ pub record Deciding (bs : List ℕ) (r : Rule) (plan p : List ℕ) (at t : ℕ) 
   pub labelled : AllLabelled bs r plan
   pub decided : (u : ℕ) → u < t → getD plan (decidesAt + u) 0 ≡ decidedAt r (testOf r u)
   pub few : t ≤ length (r .tests)
-  pub left : Run test (drop t (r .tests)) [] (drop at p)
+  pub left : Series test (drop t (r .tests)) [] (drop at p)
 
 pub deciding-start : {bs : List ℕ} {r : Rule} {plan p : List ℕ} → AllLabelled bs r plan → p ≡ take (getD plan testsEndAt 0 - getD plan testsStartAt 0) (drop (getD plan testsStartAt 0) bs) → Deciding bs r plan p 0 0
-deciding-start {p = p} w e = record { labelled = w; decided = λ u h. absurd (omega arith); few = omega arith; left = tests-run (w .named .laid) p e }
+deciding-start {p = p} w e = record { labelled = w; decided = λ u h. absurd (omega arith); few = omega arith; left = tests-series (w .named .laid) p e }
 
 module _ {bs : List ℕ} {r : Rule} {plan p : List ℕ} {at t : ℕ} (w : Deciding bs r plan p at t) where
   pub deciding-cut : at < length p → field (drop at p) ≡ none → ⊥
-  deciding-cut h k = run-there test p at (drop t (r .tests)) (w .left) h k
+  deciding-cut h k = series-there test p at (drop t (r .tests)) (w .left) h k
 
   pub deciding-done : length p ≤ at → Planned bs r (set plan 3 t)
   deciding-done h =
-      let e : length (drop t (r .tests)) ≡ 0 = ap length (run-none test p at (drop t (r .tests)) (w .left) h) in
+      let e : length (drop t (r .tests)) ≡ 0 = ap length (series-none test p at (drop t (r .tests)) (w .left) h) in
       let z : t ≡ length (r .tests) = omega (arith, e, length-drop t (r .tests), w .few) in
       let n = all-kept plan 3 t (λ k. absurd (k refl)) (w .labelled) in
       record {
@@ -168,11 +168,11 @@ module _ {bs : List ℕ} {r : Rule} {plan p : List ℕ} {at t : ℕ} (w : Decidi
       }
 
   module _ {tag start end : ℕ} {part : List ℕ} {x : Test} (h : at < length p) (k : Lies p at tag start end) (is : part ≡ take (end - start) (drop start p)) (q : (y : Test) → test tag part ≡ some y → x ≡ y) where
-    next : (t < length (r .tests)) × (x ≡ testOf r t) × (Run test (drop (t + 1) (r .tests)) [] (drop end p))
+    next : (t < length (r .tests)) × (x ≡ testOf r t) × (Series test (drop (t + 1) (r .tests)) [] (drop end p))
     next =
-        let n = run-some test p at (drop t (r .tests)) (w .left) h tag start end k in
+        let n = series-some test p at (drop t (r .tests)) (w .left) h tag start end k in
         let d = drop-head (record { negated = false; condition = Edge 0 0 }) (r .tests) t (n .first) (n .others) (n .parts) in
-        (d .0, q (n .first) (ap (test tag) is ∙ n .read) ∙ sym (d .1), rw (d .2) (n .run))
+        (d .0, q (n .first) (ap (test tag) is ∙ n .read) ∙ sym (d .1), rw (d .2) (n .series))
 
     pub next-low : t < 4
     next-low = omega (arith, next .0, w .labelled .named .laid .fewTests)

@@ -15,8 +15,8 @@ use Rattle.meaning.specs.References.{ruleHolds}
 use Rattle.meaning.specs.Laws.Tests.{some-inj}
 use Rattle.fields.specs.Parsed.{oneByte-is, ruleGraph-is, rule-few}
 use Rattle.fields.specs.Laws.{Lies}
-use Rattle.parts.specs.Runs.{Run, nthPart, run-none, run-some, run-there}
-use Rattle.parts.specs.Rows.{Item, node as nodeItem, edge as edgeItem, items as itemsOf, graphItem, item-is, graph-run, rule-parted}
+use Rattle.parts.specs.Series.{Series, nthPart, series-none, series-some, series-there}
+use Rattle.parts.specs.Rows.{Item, node as nodeItem, edge as edgeItem, items as itemsOf, graphItem, item-is, graph-series, rule-parted}
 use Rattle.parts.proofs.Loops.{part-in}
 use Rattle.plan.specs.Plan.{Placed, nodeOf, edgeOf, Items, Laid, IsRule, Part, endAt, planLength, startAt, interfaceAt, testsEndAt, testsStartAt, typesEndAt, typesStartAt}
 use Rattle.plan.specs.Places.{drop-head, inner, part-length, part-byte}
@@ -109,7 +109,7 @@ pub record Filling (bs : List ℕ) (g : RuleGraph) (p plan : List ℕ) (at j nod
   pub size : length plan ≡ planLength
   pub few : j ≤ length (itemsOf g)
   pub counted : nodes ≡ min j (length (g .nodes))
-  pub left : Run graphItem (drop j (itemsOf g)) [] (drop at p)
+  pub left : Series graphItem (drop j (itemsOf g)) [] (drop at p)
   pub node : (i : ℕ) → i < j → i < length (g .nodes) → Placed ruleNode bs (getD plan (startAt + i) 0) (getD plan (endAt + i) 0) (nodeOf g i)
   pub edge : (k : ℕ) → length (g .nodes) + k < j
       → Placed ruleEdge bs (getD plan (startAt + (length (g .nodes) + k)) 0) (getD plan (endAt + (length (g .nodes) + k)) 0) (edgeOf g k)
@@ -124,18 +124,18 @@ module _ {bs : List ℕ} {g : RuleGraph} {p : List ℕ} {start end : ℕ} (is : 
         size = e;
         few = omega arith;
         counted = omega arith;
-        left = graph-run p g (ap ruleGraph is ∙ lies .is);
+        left = graph-series p g (ap ruleGraph is ∙ lies .is);
         node = λ i h k. absurd (omega arith);
         edge = λ k h. absurd (omega arith);
       }
 
   module _ {plan : List ℕ} {at j nodes : ℕ} (w : Filling bs g p plan at j nodes) where
     pub filling-cut : at < length p → field (drop at p) ≡ none → ⊥
-    filling-cut h k = run-there graphItem p at (drop j (itemsOf g)) (w .left) h k
+    filling-cut h k = series-there graphItem p at (drop j (itemsOf g)) (w .left) h k
 
     pub filling-done : length p ≤ at → Items bs g (set (set plan 0 nodes) 1 (j - nodes))
     filling-done h =
-        let e : length (drop j (itemsOf g)) ≡ 0 = ap length (run-none graphItem p at (drop j (itemsOf g)) (w .left) h) in
+        let e : length (drop j (itemsOf g)) ≡ 0 = ap length (series-none graphItem p at (drop j (itemsOf g)) (w .left) h) in
         let z : j ≡ length (g .nodes) + length (g .edges) = omega (arith, e, length-drop j (itemsOf g), w .few, items-length g) in
         let f = ruleGraph-is _ g (lies .is) in
         let n : List ℕ = set plan 0 nodes in
@@ -155,11 +155,11 @@ module _ {bs : List ℕ} {g : RuleGraph} {p : List ℕ} {start end : ℕ} (is : 
       abbrev none-item : Item
       none-item = nodeItem (record { mark = 0; root = 0; label = [] })
 
-      next : (x : Item) × (j < length (itemsOf g)) × (getD (itemsOf g) j none-item ≡ x) × (graphItem tag (take (e - s) (drop s p)) ≡ some x) × (Run graphItem (drop (j + 1) (itemsOf g)) [] (drop e p))
+      next : (x : Item) × (j < length (itemsOf g)) × (getD (itemsOf g) j none-item ≡ x) × (graphItem tag (take (e - s) (drop s p)) ≡ some x) × (Series graphItem (drop (j + 1) (itemsOf g)) [] (drop e p))
       next =
-          let n = run-some graphItem p at (drop j (itemsOf g)) (w .left) h tag s e k in
+          let n = series-some graphItem p at (drop j (itemsOf g)) (w .left) h tag s e k in
           let d = drop-head none-item (itemsOf g) j (n .first) (n .others) (n .parts) in
-          (n .first, d .0, d .1, n .read, rw (d .2) (n .run))
+          (n .first, d .0, d .1, n .read, rw (d .2) (n .series))
 
       pub next-low : j < mostItems
       next-low = omega (arith, next .1, few-items)

@@ -10,7 +10,7 @@ use lib.ListN.{length, getD, set, length-set}
 use Rattle.meaning.specs.Image.{Rule, element, label, mostItems}
 use Rattle.meaning.specs.declared.Element.{Element}
 use Rattle.meaning.specs.declared.Element.the-variants.{Constant as constantElement}
-use Rattle.parts.specs.Runs.{run-none}
+use Rattle.parts.specs.Series.{series-none}
 use Rattle.parts.specs.Elements.{Begins, behind, Counted}
 use Rattle.parts.specs.Walks.{spells-label, shorter}
 use Rattle.parts.specs.declared.Counts.{Counts}
@@ -25,7 +25,7 @@ use Rattle.planning.proofs.Stores.{other, stored, named-same, labelled-
 pub only-one : {p : List ℕ} {e : Element} {end : ℕ} → Begins p e end → length p ≤ end → (l : List Element) → label p ≡ some l → l ≡ e ∷ []
 only-one {p} {e} {end} b h l q =
     let n = b .next l (spells-label p l q) in
-    n .whole ∙ ap (λ (m : List Element). e ∷ m) (run-none element (behind p end) 0 (n .later) (n .spelt) (omega (arith, shorter b)))
+    n .whole ∙ ap (λ (m : List Element). e ∷ m) (series-none element (behind p end) 0 (n .later) (n .spelt) (omega (arith, shorter b)))
 
 -- The stores of the counts and the sort of the label of item j.
 

@@ -1,5 +1,5 @@
 -- Which element is a variable and which takes a list, where a label has a variable, and which label is the first that
--- does. Rests on plan's Plan, on the meaning's FirstMatch and on parts' Runs.
+-- does. Rests on plan's Plan, on the meaning's FirstMatch and on parts' Series.
 use mathlib.Core.Path.{_≡_, refl, sym, _∙_, ap}
 use mathlib.Core.Option.{some, none}
 use mathlib.Core.List.{List, [], _∷_}
@@ -11,7 +11,7 @@ use lib.Dec.{eqb}
 use lib.ListN.{length, getD, take, drop}
 use Rattle.meaning.specs.Tags.{constantTag, differenceTag, sumTag, variableTag}
 use Rattle.meaning.specs.Basics.{choose, either}
-use Rattle.meaning.specs.Image.{Rule, field, element, anyTag, label}
+use Rattle.meaning.specs.Image.{Rule, field, element, passesAll, label}
 use Rattle.meaning.specs.References.{isList, takesList}
 use Rattle.meaning.specs.Assigned.{isVariable}
 use Rattle.meaning.specs.FirstMatch.{has, firstWith}
@@ -22,7 +22,7 @@ use Rattle.meaning.specs.declared.Element.{Element}
 use Rattle.meaning.specs.declared.Element.the-variants.{Constant, Sum, Difference}
 use Rattle.meaning.specs.declared.Operand.{Operand}
 use Rattle.fields.specs.Laws.{Lies}
-use Rattle.parts.specs.Runs.{Run, only-run, run-none, run-some, run-there}
+use Rattle.parts.specs.Series.{Series, only-series, series-none, series-some, series-there}
 use Rattle.plan.specs.Plan.{singlesBefore, listsBefore}
 use Rattle.planning.specs.Planning.{Occurring}
 use Rattle.planning.specs.declared.Occurs.{Occurs}
@@ -67,7 +67,7 @@ module _ (tag : ℕ) (bs : List ℕ) (e : Element) (q : element tag bs ≡ some 
 
 pub record Left (r : Rule) (v : ℕ) (p : List ℕ) (at s q : ℕ) (l : List Element) : Type 0 where
   pub elements : List Element
-  pub run : Run element elements [] (drop at p)
+  pub series : Series element elements [] (drop at p)
   pub same : has v l ≡ has v elements
   pub singles : singlesBefore r v l ≡ s + singlesBefore r v elements
   pub lists : listsBefore r v l ≡ q + listsBefore r v elements
@@ -81,7 +81,7 @@ unfolding label
 seeking-start types v p =
     record {
       few = omega arith;
-      left = λ r k l e. record { elements = l; run = only-run anyTag element element (λ tag bs a h q. q) 4 p l e; same = refl; singles = omega arith; lists = omega arith };
+      left = λ r k l e. record { elements = l; series = only-series passesAll element element (λ tag bs a h q. q) 4 p l e; same = refl; singles = omega arith; lists = omega arith };
     }
 
 module _ {types : List ℕ} {v : ℕ} {p : List ℕ} {at s q : ℕ} (w : Seeking types v p at s q) where
@@ -89,14 +89,14 @@ module _ {types : List ℕ} {v : ℕ} {p : List ℕ} {at s q : ℕ} (w : Seeking
   unfolding has
   seeking-done h r k l e =
       let x = w .left r k l e in
-      x .same ∙ ap (has v) (run-none element p at (x .elements) (x .run) h)
+      x .same ∙ ap (has v) (series-none element p at (x .elements) (x .series) h)
 
   module _ {tag start end : ℕ} {part : List ℕ} {b : Bool} (h : at < length p) (k : Lies p at tag start end) (is : part ≡ take (end - start) (drop start p)) (t : (e : Element) → element tag part ≡ some e → b ≡ isVariable v e) where
     pub seeking-found : b ≡ true → (r : Rule) → r .variables ≡ types → (l : List Element) → label p ≡ some l → Occurring r v l (Behind s q)
     unfolding has either singlesBefore listsBefore choose
     seeking-found g r i l e =
         let x = w .left r i l e in
-        let n = run-some element p at (x .elements) (x .run) h tag start end k in
+        let n = series-some element p at (x .elements) (x .series) h tag start end k in
         let y : isVariable v (n .first) ≡ true = sym (t (n .first) (ap (element tag) is ∙ n .read)) ∙ g in (
           x .same ∙ ap (has v) (n .parts) ∙ rw y,
           sym (x .singles ∙ ap (λ (m : List Element). s + singlesBefore r v m) (n .parts) ∙ rw y (omega arith)),
@@ -113,13 +113,13 @@ module _ {types : List ℕ} {v : ℕ} {p : List ℕ} {at s q : ℕ} (w : Seeking
           few = omega (arith, w .few, k .starts, k .ends);
           left = λ r i l e.
               let x = w .left r i l e in
-              let n = run-some element p at (x .elements) (x .run) h tag start end k in
+              let n = series-some element p at (x .elements) (x .series) h tag start end k in
               let d = ap (element tag) is ∙ n .read in
               let y : isVariable v (n .first) ≡ false = sym (t (n .first) d) ∙ g in
               let c = f r i (n .first) d y (n .others) in
               record {
                 elements = n .others;
-                run = n .run;
+                series = n .series;
                 same = x .same ∙ ap (has v) (n .parts) ∙ rw y;
                 singles = x .singles ∙ ap (λ (m : List Element). s + singlesBefore r v m) (n .parts) ∙ c .0;
                 lists = x .lists ∙ ap (λ (m : List Element). q + listsBefore r v m) (n .parts) ∙ c .1;
@@ -136,7 +136,7 @@ module _ {types : List ℕ} {v : ℕ} {p : List ℕ} {at s q : ℕ} (w : Seeking
       seeking-single f = seeking-turn g (s + 1) q (omega arith) (λ r i e d y m. let z = sym (u r i e d) ∙ f in (rw (y, z) (omega arith), rw (y, z)))
 
   pub seeking-cut : at < length p → field (drop at p) ≡ none → (r : Rule) → r .variables ≡ types → (l : List Element) → label p ≡ some l → has v l ≡ false
-  seeking-cut h k r i l e = let x = w .left r i l e in absurd (run-there element p at (x .elements) (x .run) h k)
+  seeking-cut h k r i l e = let x = w .left r i l e in absurd (series-there element p at (x .elements) (x .series) h k)
 
 -- what the loop answers, by cases
 module _ (r : Rule) (v : ℕ) (l : List Element) (o : Occurs) (w : Occurring r v l o) where

@@ -17,9 +17,9 @@ use Rattle.meaning.specs.References.{ruleHolds}
 use Rattle.meaning.specs.Commands.{ruleAt}
 use Rattle.meaning.specs.Calls.{Lent}
 use Rattle.meaning.specs.Computing.{computing}
-use Rattle.meaning.specs.ProvedSet.{field, ruleField, nodeField, variable, calls, nodeSlot}
+use Rattle.meaning.specs.ProvedSet.{fieldBytes, ruleField, nodeField, variableField, ruleSetField, liveNode}
 use Rattle.laws.specs.Numbers.{value}
-use Rattle.demands.specs.Demands.{Lendable, refusal}
+use Rattle.demands.specs.Demands.{Lendable, runRefusedWith}
 use Rattle.demands.specs.Ours.{ours}
 use Rattle.demands.specs.Met.{met}
 use Rattle.demands.specs.Cases.{lendable}
@@ -39,14 +39,14 @@ use Rattle.published.specs.OneCall.{answers-other, stop-no-fail, of-call
 abbrev pub case14 : Lent
 case14 =
     record {
-      nodes = nodeSlot 0 0 (1 ∷ 127 ∷ 255 ∷ 255 ∷ 255 ∷ []);
+      nodes = liveNode 0 0 (1 ∷ 127 ∷ 255 ∷ 255 ∷ 255 ∷ []);
       edges = [];
       journal = replicate (8 * recordLength base) 1;
       image =
-          ruleField (1 ∷ []) (nodeField 0 (variable 0))
-          (nodeField 0 (field sumTag (variable 0 ++ field constantTag (0 ∷ 0 ∷ 0 ∷ 1 ∷ []))))
+          ruleField (1 ∷ []) (nodeField 0 (variableField 0))
+          (nodeField 0 (fieldBytes sumTag (variableField 0 ++ fieldBytes constantTag (0 ∷ 0 ∷ 0 ∷ 1 ∷ []))))
           1
-          ++ calls 0;
+          ++ ruleSetField 0;
       fuel = 100;
       report = replicate 8 7;
     }
@@ -74,7 +74,7 @@ lent14 : Lendable case14
 unfolding computing
 lent14 = lendable case14 refl
 
-accepted14 : refusal base case14 ≡ none
+accepted14 : runRefusedWith base case14 ≡ none
 unfolding computing
 accepted14 = refl
 

@@ -13,11 +13,11 @@ use borrow.Author.Tests.{eqb-true, leb-true, ltb-true, eq-eqb, le-leb, lt-ltb, n
 use lib.Dec.{eqb, leb, ltb}
 use lib.IntN.{_+ℤ_, _-ℤ_}
 use lib.ListN.{length}
-use Rattle.meaning.specs.Basics.{choose, both, any}
+use Rattle.meaning.specs.Basics.{choose, both, exists}
 use Rattle.meaning.specs.Image.{RuleNode, Rule}
 use Rattle.meaning.specs.References.{ruleHolds}
 use Rattle.meaning.specs.Commands.{ruleAt}
-use Rattle.meaning.specs.Laws.Tests.{both-true, both-of, any-no, any-false, not-so, choose-eq, choose-ne}
+use Rattle.meaning.specs.Laws.Tests.{both-true, both-of, exists-no, exists-false, not-so, choose-eq, choose-ne}
 use Rattle.laws.specs.Values.{interface-left}
 use Rattle.meaning.specs.declared.Element.{Element}
 use Rattle.meaning.specs.declared.Element.the-variants.{Constant, Variable, Sum, Difference}
@@ -104,10 +104,10 @@ module _ (r : Rule) (holds : ruleHolds r ≡ true) (G : Graph) (m : Matches r G)
   goes v j = both (leb (r .interface) j) (eqb (g .node j) v)
 
   abbrev staysNode : ℕ → Bool
-  staysNode v = both (G .isNode v) (not (any (goes v) (length (r .left .nodes))))
+  staysNode v = both (G .isNode v) (not (exists (goes v) (length (r .left .nodes))))
 
   abbrev staysEdge : ℕ → Bool
-  staysEdge e = both (G .isEdge e) (not (any (λ k. eqb (g .edge k) e) (length (r .left .edges))))
+  staysEdge e = both (G .isEdge e) (not (exists (λ k. eqb (g .edge k) e) (length (r .left .edges))))
 
   node-to : (v : ℕ) → staysNode v ≡ true → StaysNode r G g v
   node-to v e =
@@ -115,7 +115,7 @@ module _ (r : Rule) (holds : ruleHolds r ≡ true) (G : Graph) (m : Matches r G)
       record {
         node = t .0;
         kept = λ j h k q.
-            let f = any-false (goes v) (length (r .left .nodes)) (not-true _ (t .1)) j k in
+            let f = exists-false (goes v) (length (r .left .nodes)) (not-true _ (t .1)) j k in
             let y = both-of _ _ (le-leb (r .interface) j h) (eq-eqb (g .node j) v q) in
             let z : _≡_ {A = ℕ} 0 1 = cc in
             omega arith;
@@ -124,7 +124,7 @@ module _ (r : Rule) (holds : ruleHolds r ≡ true) (G : Graph) (m : Matches r G)
   node-of : (v : ℕ) → StaysNode r G g v → staysNode v ≡ true
   node-of v s =
       both-of _ _ (s .node)
-      (ap not (any-no (goes v) (length (r .left .nodes)) (λ j k. not-so _ (λ e.
+      (ap not (exists-no (goes v) (length (r .left .nodes)) (λ j k. not-so _ (λ e.
       let t = both-true _ _ e in s .kept j (leb-true _ _ (t .0)) k (eqb-true _ _ (t .1))))))
 
   edge-to : (e : ℕ) → staysEdge e ≡ true → StaysEdge r G g e
@@ -133,7 +133,7 @@ module _ (r : Rule) (holds : ruleHolds r ≡ true) (G : Graph) (m : Matches r G)
       record {
         edge = t .0;
         kept = λ k j i.
-            let f = any-false (λ k. eqb (g .edge k) e) (length (r .left .edges)) (not-true _ (t .1)) k j in
+            let f = exists-false (λ k. eqb (g .edge k) e) (length (r .left .edges)) (not-true _ (t .1)) k j in
             let y = eq-eqb (g .edge k) e i in
             let z : _≡_ {A = ℕ} 0 1 = cc in
             omega arith;
@@ -142,7 +142,7 @@ module _ (r : Rule) (holds : ruleHolds r ≡ true) (G : Graph) (m : Matches r G)
   edge-of : (e : ℕ) → StaysEdge r G g e → staysEdge e ≡ true
   edge-of e s =
       both-of _ _ (s .edge)
-      (ap not (any-no (λ k. eqb (g .edge k) e) (length (r .left .edges)) (λ k j. not-so _ (λ q. s .kept k j (eqb-true _ _ q)))))
+      (ap not (exists-no (λ k. eqb (g .edge k) e) (length (r .left .edges)) (λ k j. not-so _ (λ q. s .kept k j (eqb-true _ _ q)))))
 
   abbrev newNodes : ℕ → Bool
   newNodes j = both (leb (r .interface) j) (ltb j (length (r .right .nodes)))

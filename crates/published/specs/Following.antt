@@ -12,7 +12,7 @@ use Rattle.meaning.specs.Image.{Rule, Command, ruleSet, guarded, Commands}
 use Rattle.meaning.specs.Applying.{Ledger, applied, apply}
 use Rattle.meaning.specs.Commands.{State, ruleAt}
 use Rattle.demands.specs.Inference
-use Rattle.demands.specs.Inference.{NoMatch, FirstCalled, holding, Runs, Does, Follows}
+use Rattle.demands.specs.Inference.{NoMatch, FirstCalled, holding, Executes, Does, Follows}
 use Rattle.meaning.specs.declared.End.{End}
 use Rattle.meaning.specs.declared.End.the-variants.{Done, Failed}
 use Rattle.published.specs.Semantics.{ComSeq, ⟨_∣_⟩, result, failure, [call₁], [call₂], [if₁], [if₂], [try₁], [try₂], [alap₁], [alap₂], [alap₃], [skip], [fail], last, here, comSeq, inOrder, followed}
@@ -42,7 +42,7 @@ module _ {ℓ κ} (Graph : Type ℓ) (Applied : List Rule → Graph → Graph �
   ends-followed : (rules : List Rule) (cs : Commands) (P : ComSeq) (e : End) (s t : State) → (e ≡ Done → ⊥) → Ending P s e t
       → Ending (followed rules cs P) s e t
   unfolding followed
-  ends-followed rules Image.stop P e s t n p = p
+  ends-followed rules Image.noMore P e s t n p = p
   ends-followed rules (Image.then c cs) P e s t n p = ends-behind Graph Applied e P (followed rules cs (comSeq rules c)) _ _ n p
 
   module _ (most room : ℕ) (rules : List Rule) (Good : Ledger → Type 0)
@@ -65,10 +65,10 @@ module _ {ℓ κ} (Graph : Type ℓ) (Applied : List Rule → Graph → Graph �
       mutual
         unfolding comSeq inOrder followed
 
-        pub runs-ending : {c : Command} {s t : State} {e : End} → Runs most room rules c s e t → Good (s .ledger)
+        pub executes-ending : {c : Command} {s t : State} {e : End} → Executes most room rules c s e t → Good (s .ledger)
             → Good (t .ledger) × Ending (comSeq rules c) s e t
-        runs-ending (Inference.dry z) q = (q, tt)
-        runs-ending (Inference.enters f z d) q = does-ending d q
+        executes-ending (Inference.dry z) q = (q, tt)
+        executes-ending (Inference.enters f z d) q = does-ending d q
 
         pub does-ending : {c : Command} {s t : State} {e : End} → Does most room rules c s e t → Good (s .ledger)
             → Good (t .ledger) × Ending (comSeq rules c) s e t
@@ -78,37 +78,37 @@ module _ {ℓ κ} (Graph : Type ℓ) (Applied : List Rule → Graph → Graph �
         does-ending (Inference.noMatch {l = l} {s = s} n) q = (q, call-fails l s n q)
         does-ending (Inference.applies {l = l} {s = s} {t = t} r p g f a v) q = call-applies l s t r p g f a v q
         does-ending (Inference.hinders r p w f a) q = (q, tt)
-        does-ending (Inference.inOrder f) q = let x = follows-ending f q in (x .0, x .1)
+        does-ending (Inference.inSequence f) q = let x = follows-ending f q in (x .0, x .1)
         does-ending (Inference.thenIf {e = e} t g a) q =
-            let x = runs-ending g q in
-            let y = runs-ending a q in
+            let x = executes-ending g q in
+            let y = executes-ending a q in
             (y .0, plus-ends Graph Applied e _ (last ([if₁] (x .1))) (y .1))
         does-ending (Inference.thenTry {e = e} t g a) q =
-            let x = runs-ending g q in
-            let y = runs-ending a (x .0) in
+            let x = executes-ending g q in
+            let y = executes-ending a (x .0) in
             (y .0, plus-ends Graph Applied e _ (last ([try₁] (x .1))) (y .1))
         does-ending (Inference.elses {keep = keep} {g = c} {a = a} {b = b} {e = e} t g d) q =
-            let x = runs-ending g q in
-            let y = runs-ending d q in
+            let x = executes-ending g q in
+            let y = executes-ending d q in
             (y .0, plus-ends Graph Applied e _ (last (else-step rules keep c a b _ (x .1))) (y .1))
-        does-ending (Inference.guardStops w g) q = (runs-ending g q .0, tt)
+        does-ending (Inference.guardStops w g) q = (executes-ending g q .0, tt)
         does-ending (Inference.repeats {e = e} t r d) q =
-            let x = runs-ending r q in
+            let x = executes-ending r q in
             let y = does-ending d (x .0) in
             (y .0, plus-ends Graph Applied e _ (last ([alap₁] (x .1))) (y .1))
-        does-ending (Inference.bodyFails t r v) q = let x = runs-ending r q in rw v (q, last ([alap₂] (x .1)))
-        does-ending (Inference.bodyBreaks r) q = let x = runs-ending r q in (x .0, last ([alap₃] (x .1)))
-        does-ending (Inference.bodyStops w r) q = (runs-ending r q .0, tt)
+        does-ending (Inference.bodyFails t r v) q = let x = executes-ending r q in rw v (q, last ([alap₂] (x .1)))
+        does-ending (Inference.bodyBreaks r) q = let x = executes-ending r q in (x .0, last ([alap₃] (x .1)))
+        does-ending (Inference.bodyStops w r) q = (executes-ending r q .0, tt)
 
         pub follows-ending : {cs : Commands} {s t : State} {e : End} → Follows most room rules cs s e t → Good (s .ledger)
             → Good (t .ledger) × Ending (inOrder rules cs) s e t × After rules cs s e t
         follows-ending Inference.nothing q = (q, last [skip], λ P G p. p)
         follows-ending (Inference.goesOn {c = c} {cs = cs} {e = e} t r f) q =
-            let x = runs-ending r q in
+            let x = executes-ending r q in
             let y = follows-ending f (x .0) in
             let z = y .2 (comSeq rules c) _ (x .1) in
             (y .0, z, λ P G p. plus-ends Graph Applied e _ (plus-behind Graph Applied (followed rules cs (comSeq rules c)) p) z)
         follows-ending (Inference.endsThere {c = c} {cs = cs} {s = s} {t = t} e n r) q =
-            let x = runs-ending r q in
+            let x = executes-ending r q in
             let z = ends-followed rules cs (comSeq rules c) e s t n (x .1) in
             (x .0, z, λ P G p. plus-ends Graph Applied e _ (plus-behind Graph Applied (followed rules cs (comSeq rules c)) p) z)

@@ -19,7 +19,7 @@ use Rattle.meaning.specs.Laws.Tests.{some-inj}
 use Rattle.laws.specs.Hosts.{LegalHost, legal-host}
 use Rattle.laws.specs.LegalCommands.{LegalRules, legal-rule, legal-sound}
 use Rattle.laws.specs.LegalImage.{program-legal}
-use Rattle.demands.specs.Demands.{Interpreter, Lendable, refusal, Demand2}
+use Rattle.demands.specs.Demands.{Interpreter, Lendable, runRefusedWith, Demand2}
 use Rattle.demands.specs.Ours.{good}
 use Rattle.demands.specs.Fails.{host, fails-exactly}
 use Rattle.demands.specs.Laws.Inference.{called-none, called-some}
@@ -54,7 +54,7 @@ module _ (rules : List Rule) (legal : LegalRules rules) (l : List ℕ) (G : Grap
   call-gives : (i : ℕ) → i < length l → Matches (ruleAt rules (getD l i 0)) G → (H : Graph) × ⟦_⟧ Graph Applied (call set) G (graph H)
   call-gives i k m = set-result set holds G i (rw (length-map l (ruleAt rules)) k) (rw (called-at rules legal l i k) m)
 
-module _ (L : Layout) (I : Interpreter) (second : Demand2 L I) (x : Lent) (b : Lendable x) (accepted : refusal L x ≡ none)
+module _ (L : Layout) (I : Interpreter) (second : Demand2 L I) (x : Lent) (b : Lendable x) (accepted : runRefusedWith L x ≡ none)
     (p : Program) (form : program (x .image) ≡ some p) (l : List ℕ) (main : p .main ≡ ruleSet l) (fuel : 1 ≤ x .fuel)
   where
     abbrev rules : List Rule

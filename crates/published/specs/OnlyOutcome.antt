@@ -49,11 +49,11 @@ module _ (rules : List Rule) (legal : LegalRules rules) where
     legal-calls Image.break = tt
 
     legal-order : (cs : Commands) → Calls LegalRules (inOrder rules cs)
-    legal-order Image.stop = tt
+    legal-order Image.noMore = tt
     legal-order (Image.then c cs) = legal-followed cs (comSeq rules c) (legal-calls c)
 
     legal-followed : (cs : Commands) (P : ComSeq) → Calls LegalRules P → Calls LegalRules (followed rules cs P)
-    legal-followed Image.stop P u = u
+    legal-followed Image.noMore P u = u
     legal-followed (Image.then c cs) P u = (u, legal-followed cs (comSeq rules c) (legal-calls c))
 
   -- on isomorphic graphs a command comes to isomorphic outcomes

@@ -13,9 +13,9 @@ use Rattle.meaning.specs.Image.{Rule, Command, Program, program}
 use Rattle.meaning.specs.Placement.{breaksLie, placement}
 use Rattle.meaning.specs.Applying.{Ledger, applied, apply}
 use Rattle.meaning.specs.Commands.{State, Out, ruleAt, exec}
-use Rattle.demands.specs.Inference.{NoMatch, FirstCalled, Runs}
+use Rattle.demands.specs.Inference.{NoMatch, FirstCalled, Executes}
 use Rattle.meaning.specs.Calls.{Lent}
-use Rattle.demands.specs.Demands.{Outcome, Interpreter, Lendable, stopAnswer, refusal, start, Means, leaves, Demand1, Demand2}
+use Rattle.demands.specs.Demands.{Outcome, Interpreter, Lendable, stopAnswer, runRefusedWith, start, Means, outcomeAt, Demand1, Demand2}
 use Rattle.demands.specs.Ours.{Good, good}
 use Rattle.demands.specs.First.{refusal-answer}
 use Rattle.laws.specs.Pieces.{fits-length}
@@ -25,7 +25,7 @@ use Rattle.laws.specs.Values.{LegalRule}
 use Rattle.laws.specs.Legality.{LegalLedger, apply-legal}
 use Rattle.laws.specs.LegalCommands.{LegalRules, legal-rule, legal-sound}
 use Rattle.laws.specs.LegalImage.{program-legal}
-use Rattle.demands.specs.Laws.Inference.{exec-runs, runs-exec}
+use Rattle.demands.specs.Laws.Inference.{exec-executes, executes-exec}
 use Rattle.laws.specs.Undoing.{Numbered, start-legal}
 use Rattle.meaning.specs.declared.Layout.{Layout}
 use Rattle.meaning.specs.declared.Stop.{Stop}
@@ -34,7 +34,7 @@ use Rattle.meaning.specs.declared.End.{End}
 use Rattle.meaning.specs.declared.End.the-variants.{Done, Failed, Broke, Stopped}
 use Rattle.published.specs.Semantics
 use Rattle.published.specs.Semantics.{graph, fails, ⟦_⟧, comSeq}
-use Rattle.published.specs.Following.{Ending, runs-ending}
+use Rattle.published.specs.Following.{Ending, executes-ending}
 
 -- the host that two tables hold, and the graph that is read off it
 abbrev pub hostIn : Layout → List ℕ → List ℕ → Host
@@ -83,18 +83,18 @@ module _ {ℓ κ} (L : Layout) (Graph : Type ℓ) (Applied : List Rule → Graph
         misses l g q = miss rules legal l (g .host) (q .host)
 
         -- what a command does by the rules of inference follows by the published rules
-        pub runs-published : {c : Command} {s t : State} {e : End} → Runs (L .atoms) room rules c s e t → LegalLedger L m n (s .ledger)
+        pub executes-published : {c : Command} {s t : State} {e : End} → Executes (L .atoms) room rules c s e t → LegalLedger L m n (s .ledger)
             → LegalLedger L m n (t .ledger) × Ending Graph Applied read (comSeq rules c) s e t
-        runs-published r q = runs-ending Graph Applied read (L .atoms) room rules (LegalLedger L m n) hits misses r q
+        executes-published r q = executes-ending Graph Applied read (L .atoms) room rules (LegalLedger L m n) hits misses r q
 
         -- and so what it is computed to do
         pub exec-published : (c : Command) (s : State) → breaksLie c false ≡ true → LegalLedger L m n (s .ledger)
             → Ending Graph Applied read (comSeq rules c) s (exec (L .atoms) room rules c s .end) (exec (L .atoms) room rules c s .state)
-        exec-published c s b q = runs-published (exec-runs (L .atoms) room rules (legal-sound rules legal) c s b) q .1
+        exec-published c s b q = executes-published (exec-executes (L .atoms) room rules (legal-sound rules legal) c s b) q .1
 
-        unbroken : (c : Command) (s t : State) → breaksLie c false ≡ true → Runs (L .atoms) room rules c s Broke t → ⊥
+        unbroken : (c : Command) (s t : State) → breaksLie c false ≡ true → Executes (L .atoms) room rules c s Broke t → ⊥
         unbroken c s t b r =
-            exec-unbroken (L .atoms) room rules c s b (ap (λ (o : Out). o .end) (runs-exec (L .atoms) room rules (legal-sound rules legal) r))
+            exec-unbroken (L .atoms) room rules c s b (ap (λ (o : Out). o .end) (executes-exec (L .atoms) room rules (legal-sound rules legal) r))
 
     -- Every interpreter that meets demands 1 and 2.
 
@@ -105,10 +105,10 @@ module _ {ℓ κ} (L : Layout) (Graph : Type ℓ) (Applied : List Rule → Graph
       abbrev leftGraph : Graph
       leftGraph = held L read (I .run x .nodes) (I .run x .edges)
 
-      starts : I .run x .answer ≤ 7 → refusal L x ≡ none
-      starts = at (refusal L x) refl
+      starts : I .run x .answer ≤ 7 → runRefusedWith L x ≡ none
+      starts = at (runRefusedWith L x) refl
         where
-          at : (o : Option ℕ) → refusal L x ≡ o → I .run x .answer ≤ 7 → refusal L x ≡ none
+          at : (o : Option ℕ) → runRefusedWith L x ≡ o → I .run x .answer ≤ 7 → runRefusedWith L x ≡ none
           at none e k = e
           at (some n) e k = absurd (omega (arith, first .refuses x b n e, refusal-answer L x n e .1))
 
@@ -138,9 +138,9 @@ module _ {ℓ κ} (L : Layout) (Graph : Type ℓ) (Applied : List Rule → Graph
 
         whole : (e : End) (t : State) → Means L x (a .tree) e t
             → LegalLedger L nodeSlots edgeSlots (t .ledger) × Ending Graph Applied read (comSeq (a .tree .rules) (a .tree .main)) (start L x) e t
-        whole e t r = runs-published nodeSlots edgeSlots fewNodes fewEdges room (a .tree .rules) legal r start-good
+        whole e t r = executes-published nodeSlots edgeSlots fewNodes fewEdges room (a .tree .rules) legal r start-good
 
-        result-at : (e : End) (t : State) → Means L x (a .tree) e t → I .run x ≡ leaves L x e t → I .run x .answer ≡ 0 → Comes (graph leftGraph)
+        result-at : (e : End) (t : State) → Means L x (a .tree) e t → I .run x ≡ outcomeAt L x e t → I .run x .answer ≡ 0 → Comes (graph leftGraph)
         result-at Done t r v z =
             let q = whole Done t r in
             let h = t .ledger .host in
@@ -153,7 +153,7 @@ module _ {ℓ κ} (L : Layout) (Graph : Type ℓ) (Applied : List Rule → Graph
         result-at Broke t r v z = let w : _≡_ {A = ℕ} 1 0 = rw v at z in absurd (omega arith)
         result-at (Stopped w) t r v z = absurd (omega (arith, stop-two w, rw v at z))
 
-        legal-at : (e : End) (t : State) → Means L x (a .tree) e t → I .run x ≡ leaves L x e t → I .run x .answer ≡ 0
+        legal-at : (e : End) (t : State) → Means L x (a .tree) e t → I .run x ≡ outcomeAt L x e t → I .run x .answer ≡ 0
             → LegalHost L (hostIn L (I .run x .nodes) (I .run x .edges))
         legal-at Done t r v z =
             let q = whole Done t r .0 .host in
@@ -163,7 +163,7 @@ module _ {ℓ κ} (L : Layout) (Graph : Type ℓ) (Applied : List Rule → Graph
         legal-at Broke t r v z = let w : _≡_ {A = ℕ} 1 0 = rw v at z in absurd (omega arith)
         legal-at (Stopped w) t r v z = absurd (omega (arith, stop-two w, rw v at z))
 
-        fail-at : (e : End) (t : State) → Means L x (a .tree) e t → I .run x ≡ leaves L x e t → I .run x .answer ≡ 1 → Comes fails
+        fail-at : (e : End) (t : State) → Means L x (a .tree) e t → I .run x ≡ outcomeAt L x e t → I .run x .answer ≡ 1 → Comes fails
         unfolding placement
         fail-at Done t r v z = let w : _≡_ {A = ℕ} 0 1 = rw v at z in absurd (omega arith)
         fail-at Failed t r v z = record { tree = a .tree; form = a .form; outcome = whole Failed t r .1 }

@@ -10,7 +10,7 @@ use lib.ListN.{length, getD, List·getD-eq-default}
 use lib.Dec.{eqb, leb, ltb}
 use Rattle.meaning.specs.Basics.{both, every, absent}
 use Rattle.meaning.specs.Tags.{nodeTag, intType, anyMark}
-use Rattle.meaning.specs.Image.{RuleGraph, label, element, anyTag, limits}
+use Rattle.meaning.specs.Image.{RuleGraph, label, element, passesAll, limits}
 use Rattle.meaning.specs.References.{operandNames, elementOperands, elementNames, conditionOperands, conditionNodes, isPlain}
 use Rattle.meaning.specs.Laws.Tests.{every-append, both-yes, both-no, both-false, both-last}
 use Rattle.meaning.specs.declared.Operand.{Operand}
@@ -22,7 +22,7 @@ use Rattle.meaning.specs.declared.Condition.the-variants.{Edge, InDegree, OutDe
 use Rattle.meaning.specs.declared.Test.{Test}
 use Rattle.references.specs.declared.Ask.{Ask}
 use Rattle.references.specs.declared.Ask.the-variants.{Left, Right, Lacks}
-use Rattle.parts.specs.Runs.{For, Run, only-run}
+use Rattle.parts.specs.Series.{For, Series, only-series}
 use Rattle.parts.specs.Rows.{Item, node, edge, graphItem, item-is, edge-is, itemLabel}
 use Rattle.references.specs.Asked.{intOperand, exist, operandAsked, elementAsked, listsIn, endsBelow, edgeMarked, itemFits, graphAsked, conditionFits, testAsked}
 
@@ -209,9 +209,9 @@ module _ (ask : Ask) (c : Condition) where
   unfolding conditionFits
   fits-lacks u e = rw e
 
-pub label-run : (bs : List ℕ) (l : List Element) → label bs ≡ some l → Run element l [] bs
+pub label-series : (bs : List ℕ) (l : List Element) → label bs ≡ some l → Series element l [] bs
 unfolding label
-label-run bs l e = only-run anyTag element element (λ t b a p x. x) (limits .elements) bs l e
+label-series bs l e = only-series passesAll element element (λ t b a p x. x) (limits .elements) bs l e
 
 -- Items.
 

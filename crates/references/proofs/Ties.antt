@@ -19,7 +19,7 @@ use Rattle.meaning.specs.declared.Element.{Element}
 use Rattle.meaning.specs.declared.Element.the-variants.{Constant, Variable, Sum, Difference}
 use Rattle.references.specs.declared.Ask.{Ask}
 use Rattle.references.specs.declared.Ask.the-variants.{Left, Right, Lacks}
-use Rattle.parts.specs.Runs.{For}
+use Rattle.parts.specs.Series.{For}
 use Rattle.parts.specs.Rows.{Item, node, edge, items, markAt, ruleOf, mainOf, imagePart, imageParts, part-is, no-command, itemLabel}
 use Rattle.references.specs.Asked.{intOperand, exist, operandAsked, elementAsked, listsIn, endsBelow, edgeMarked, itemFits, itemAsked, graphAsked, conditionFits, conditionAsked, testAsked, rightAsked, sidesAsked, keptOnLeft, partHolds}
 use Rattle.references.proofs.Asks.{absent-append, both-swap}

@@ -4,11 +4,11 @@ ghost use mathlib.Core.List.{List};
 ghost use Prim.Native.Nat.{ℕ};
 ghost use lib.Dec.{ltb};
 ghost use Rattle.meaning.specs.Basics.{both, every};
-ghost use Rattle.meaning.specs.Image.{limits, only, anyTag, label, ruleGraph, test};
+ghost use Rattle.meaning.specs.Image.{limits, only, passesAll, label, ruleGraph, test};
 ghost use Rattle.meaning.specs.References.{conditionOperands, conditionNodes};
 ghost use Rattle.meaning.specs.declared.Operand.the-variants.{Constant as constantOperand, Variable as variableOperand};
 ghost use Rattle.meaning.specs.declared.Element.the-variants.{Variable};
-ghost use Rattle.parts.specs.Runs.{For};
+ghost use Rattle.parts.specs.Series.{For};
 ghost use Rattle.parts.specs.Rows.{graphItem};
 ghost use Rattle.references.specs.Asked.{operandAsked, elementAsked, listsIn, endsBelow, edgeMarked, itemFits, itemAsked, graphAsked, conditionFits, conditionAsked, testAsked};
 use crate::Ask;
@@ -232,7 +232,7 @@ fn condition_holds(ask: Ask, c: Condition, types: &[u8]) -> bool
 }
 
 pub fn tests_hold(ask: Ask, p: &[u8], types: &[u8]) -> bool
-    ensures { λ r. ⌜ For (only anyTag test (limits .tests) (now (p .entry))) (λ l. r ≡ every (testAsked ask (now (types .entry))) l) ⌝ }
+    ensures { λ r. ⌜ For (only passesAll test (limits .tests) (now (p .entry))) (λ l. r ≡ every (testAsked ask (now (types .entry))) l) ⌝ }
 {
     let mut at: usize = 0;
     while at < p.len() {

@@ -4,7 +4,7 @@ ghost use mathlib.Core.Path.{_≡_};
 ghost use Rattle.meaning.specs.Basics.{every};
 ghost use Rattle.meaning.specs.Image.{program};
 ghost use Rattle.meaning.specs.References.{ruleHolds};
-ghost use Rattle.parts.specs.Runs.{For};
+ghost use Rattle.parts.specs.Series.{For};
 ghost use Rattle.parts.specs.Rows.{imagePart};
 ghost use Rattle.references.specs.Asked.{partHolds};
 use fields::Found;

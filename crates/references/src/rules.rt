@@ -5,7 +5,7 @@ ghost use lib.ListN.{length};
 ghost use Rattle.meaning.specs.Basics.{all};
 ghost use Rattle.meaning.specs.Image.{rule};
 ghost use Rattle.meaning.specs.References.{variablesExist, interfaceFits, variablesOnLeft, anyKept, ruleHolds};
-ghost use Rattle.parts.specs.Runs.{For};
+ghost use Rattle.parts.specs.Series.{For};
 ghost use Rattle.references.specs.Asked.{sidesAsked, keptOnLeft};
 use crate::Ask;
 use crate::asking;

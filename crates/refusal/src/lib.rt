@@ -5,7 +5,7 @@ ghost use Rattle.meaning.specs.Layout.{Sized, base};
 ghost use Rattle.meaning.specs.Image.{program};
 ghost use Rattle.meaning.specs.References.{references};
 ghost use Rattle.meaning.specs.Calls.{runRefusal, lending};
-ghost use Rattle.parts.specs.Runs.{For};
+ghost use Rattle.parts.specs.Series.{For};
 ghost use Rattle.answers.specs.Answers.{refusalOf};
 ghost use Rattle.refusal.specs.Checks.{sizeChecks, imageChecks, contentChecks};
 use answers::Checked;

@@ -5,7 +5,7 @@ ghost use Prim.Native.Nat.{_+_, _-_, _*_, _<_, _≤_};
 ghost use lib.ListN.{length, getD, take, drop, replicate};
 ghost use Rattle.meaning.specs.Basics.{zeros};
 ghost use Rattle.meaning.specs.Numbers.{number};
-ghost use Rattle.meaning.specs.Layout.{Sized, live, isLive, statePlace, markPlace, rootPlace, lengthPlace, headLength, sourcePlace, targetPlace, edgeAtoms, atomLength, atoms, nodeLength, edgeLength, atomBytes, writeNode, writeEdge};
+ghost use Rattle.meaning.specs.Layout.{Sized, live, isLive, statePlace, markPlace, rootPlace, lengthPlace, headLength, sourcePlace, targetPlace, edgeAtoms, atomLength, readAtoms, nodeLength, edgeLength, atomBytes, writeNode, writeEdge};
 ghost use Rattle.slots.specs.Slots.{stateOf, labelEnd};
 use meaning::Layout;
 
@@ -115,7 +115,7 @@ pub fn edge_atoms(l: Layout) -> usize
 pub fn atom(b: &[u8], start: usize, k: usize) -> u32
     requires { ⌜ labelEnd start (now b) ≤ length (now b) ⌝ }
     requires { ⌜ k < getD (now b) lengthPlace 0 ⌝ }
-    ensures { λ r. ⌜ r ≡ getD (atoms (getD (now (b .entry)) lengthPlace 0) (drop start (now (b .entry)))) k 0 ⌝ }
+    ensures { λ r. ⌜ r ≡ getD (readAtoms (getD (now (b .entry)) lengthPlace 0) (drop start (now (b .entry)))) k 0 ⌝ }
 {
     fields::number4(b, start + Size::ATOM * k) as u32
 }

@@ -6,11 +6,11 @@ use mathlib.Core.List.{List}
 use Prim.Native.Nat.{ℕ, _<_}
 use lib.Dec.{eqb, ltb}
 use lib.ListN.{length, getD}
-use Rattle.meaning.specs.Basics.{any}
+use Rattle.meaning.specs.Basics.{exists}
 use Rattle.meaning.specs.Numbers.{height, less}
 use Rattle.meaning.specs.Layout.{Host}
 use Rattle.meaning.specs.References.{operandNames, conditionOperands, conditionNodes}
-use Rattle.meaning.specs.Matching.{Assignment, atomOf, runs, inDegree, outDegree, conditionHolds, testHolds}
+use Rattle.meaning.specs.Matching.{Assignment, atomOf, edgeRuns, inDegree, outDegree, conditionHolds, testHolds}
 use Rattle.meaning.specs.Laws.Tests.{choose-true, choose-false}
 use Rattle.meaning.specs.declared.Operand.{Operand}
 use Rattle.meaning.specs.declared.Operand.the-variants.{Constant as constantOperand, Variable as variableOperand}
@@ -85,7 +85,7 @@ module _ {h : Host} {bs plan at : List ℕ} {i c : ℕ} where
 
     -- the conditions, from slots and atoms in hand
     module _ (α : Assignment) where
-      pub edge-holds : (a b x y : ℕ) (r : Bool) → k ≡ edgeBetween a b → x ≡ slotOf at i c a → y ≡ slotOf at i c b → r ≡ any (runs h x y) (length (h .edges))
+      pub edge-holds : (a b x y : ℕ) (r : Bool) → k ≡ edgeBetween a b → x ≡ slotOf at i c a → y ≡ slotOf at i c b → r ≡ exists (edgeRuns h x y) (length (h .edges))
           → r ≡ conditionHolds h (w .trial .placed) α k
       unfolding conditionHolds
       edge-holds a b x y r q e f g =

@@ -10,7 +10,7 @@ use lib.Dec.{eqb}
 use lib.ListN.{length}
 use Rattle.meaning.specs.Basics.{choose, every, concat, firstFailing}
 use Rattle.meaning.specs.Layout.{Tables, nodeLength, edgeLength, recordLength, keepsRecord}
-use Rattle.meaning.specs.Calls.{reportOf, lengthChecks, refused, keepsRecords, undoRefusal, tablesUndone, undoOn, undo, answerNumber, refusalNumber, lendingBack, Leaves}
+use Rattle.meaning.specs.Calls.{reportOf, lengthChecks, refused, keepsRecords, undoRefusal, tablesUndone, undoOn, undo, answerNumber, refusalNumber, lendingUndo, Yields}
 use Rattle.meaning.specs.Laws.Checks.{first-no, first-yes, firstFailing-none, behind-fine, behind-refused}
 use Rattle.meaning.specs.Laws.Tests.{both-true}
 use Rattle.laws.specs.Pieces.{concat-cut, fits-length}
@@ -24,7 +24,7 @@ use Rattle.journal.specs.Journal.{tablesOf, recordsFrom, putBack, clearedFrom}
 
 module _ (L : Layout) (nodes edges journal : List ℕ) (count : ℕ) (report : List ℕ) where
   abbrev undoFails : Option Refusal
-  undoFails = undoRefusal L (lendingBack nodes edges journal count report)
+  undoFails = undoRefusal L (lendingUndo nodes edges journal count report)
 
   pub check-lengths : (w : Refusal) → firstFailing (lengthChecks L nodes edges journal report) ≡ some w → some w ≡ undoFails
   unfolding undoRefusal
@@ -71,27 +71,27 @@ module _ (L : Layout) (nodes edges journal : List ℕ) (count : ℕ) (report : L
   -- What undo leaves.
 
   pub leaves-refused : (w : Refusal) (report′ : List ℕ) → some w ≡ undoFails → report′ ≡ choose (eqb (length report) reportLength) (reportOf 0 0) report
-      → Leaves (undo L (lendingBack nodes edges journal count report)) (refusalNumber w) nodes edges journal report′
+      → Yields (undo L (lendingUndo nodes edges journal count report)) (refusalNumber w) nodes edges journal report′
   unfolding undo undoOn refused answerNumber
   leaves-refused w report′ e r =
-      rw (← e) (record { numbered = refl; nodesLeft = refl; edgesLeft = refl; journalLeft = refl; reportLeft = r })
+      rw (← e) (record { numbered = refl; nodesReturned = refl; edgesReturned = refl; journalReturned = refl; reportReturned = r })
 
   pub leaves-undone : (nodes′ edges′ journal′ report′ : List ℕ) → none ≡ undoFails → length nodes′ ≡ length nodes → length edges′ ≡ length edges
       → tablesOf L nodes′ edges′ ≡ putBack L 0 count journal (tablesOf L nodes edges)
       → journal′ ≡ clearedFrom L 0 count journal → report′ ≡ reportOf 0 count
-      → Leaves (undo L (lendingBack nodes edges journal count report)) 0 nodes′ edges′ journal′ report′
+      → Yields (undo L (lendingUndo nodes edges journal count report)) 0 nodes′ edges′ journal′ report′
   unfolding undo undoOn tablesUndone putBack answerNumber
   leaves-undone nodes′ edges′ journal′ report′ e n m t j r =
       let s = sound (sym e) in
       let q : tablesOf L nodes′ edges′ ≡ tablesUndone L nodes edges journal count = rw (zero-mul (recordLength L), sub-zero count) at t in
       rw (← e) (record {
         numbered = refl;
-        nodesLeft =
+        nodesReturned =
             sym (concat-cut (nodeLength L) nodes′ (ap (λ (k : ℕ). k % nodeLength L) n ∙ s .nodesWhole))
             ∙ ap (λ (x : Tables (List ℕ) (List ℕ)). concat (x .nodes)) q;
-        edgesLeft =
+        edgesReturned =
             sym (concat-cut (edgeLength L) edges′ (ap (λ (k : ℕ). k % edgeLength L) m ∙ s .edgesWhole))
             ∙ ap (λ (x : Tables (List ℕ) (List ℕ)). concat (x .edges)) q;
-        journalLeft = j ∙ rw (zero-mul (recordLength L), sub-zero count);
-        reportLeft = r;
+        journalReturned = j ∙ rw (zero-mul (recordLength L), sub-zero count);
+        reportReturned = r;
       })

@@ -1,7 +1,7 @@
 // The call undo, over a layout: what is refused, and putting the counted records back.
 ghost use mathlib.Core.Path.{_≡_};
 ghost use Rattle.meaning.specs.Layout.{Sized};
-ghost use Rattle.meaning.specs.Calls.{answerNumber, undoRefusal, undo, lendingBack, Leaves};
+ghost use Rattle.meaning.specs.Calls.{answerNumber, undoRefusal, undo, lendingUndo, Yields};
 ghost use Rattle.answers.specs.Answers.{refusalOf};
 use answers::Checked;
 use meaning::Answer;
@@ -18,7 +18,7 @@ fn undo_check(
     report: &[u8],
 ) -> Checked
     requires { ⌜ Sized l ⌝ }
-    ensures { λ r. ⌜ refusalOf r ≡ undoRefusal l (lendingBack (now (nodes .entry)) (now (edges .entry)) (now (journal .entry)) count (now (report .entry))) ⌝ }
+    ensures { λ r. ⌜ refusalOf r ≡ undoRefusal l (lendingUndo (now (nodes .entry)) (now (edges .entry)) (now (journal .entry)) count (now (report .entry))) ⌝ }
 {
     let fit = answers::lengths(l, nodes, edges, journal, report);
     match fit {
@@ -44,7 +44,7 @@ pub fn undo_call(
     report: &mut [u8],
 ) -> Answer
     requires { ⌜ Sized l ⌝ }
-    ensures { λ r. ⌜ Leaves (undo l (lendingBack (now (nodes .entry)) (now (edges .entry)) (now (journal .entry)) count (now (report .entry)))) (answerNumber r) (now (nodes .exit)) (now (edges .exit)) (now (journal .exit)) (now (report .exit)) ⌝ }
+    ensures { λ r. ⌜ Yields (undo l (lendingUndo (now (nodes .entry)) (now (edges .entry)) (now (journal .entry)) count (now (report .entry)))) (answerNumber r) (now (nodes .exit)) (now (edges .exit)) (now (journal .exit)) (now (report .exit)) ⌝ }
 {
     let n = count as usize;
     let check = undo_check(l, &nodes[..], &edges[..], &journal[..], n, &report[..]);

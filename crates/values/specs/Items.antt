@@ -18,7 +18,7 @@ use Rattle.meaning.specs.Applying.{labelValue, rootTaken, rightNode, rightNodes
 use Rattle.meaning.specs.Laws.Tests.{some-inj, bind-some}
 use Rattle.laws.specs.Applying.{each-at, nodes-at}
 use Rattle.labels.specs.Labels.{atomsIn}
-use Rattle.parts.specs.Runs.{For}
+use Rattle.parts.specs.Series.{For}
 use Rattle.parts.specs.Rows.{node, edge, graphItem, itemLabel}
 use Rattle.values.specs.Values.{Agree, valueIn}
 use Rattle.values.specs.Laws.{value-some}

@@ -29,7 +29,7 @@ use Rattle.parts.specs.Elements.{Spells, Next}
 use Rattle.labels.specs.Laws.{Filled, filled-more, filled-all, held-length}
 use Rattle.parts.specs.Walks.{spells-label}
 use Rattle.labels.specs.declared.Label.{Label}
-use Rattle.parts.specs.Runs.{For}
+use Rattle.parts.specs.Series.{For}
 use Rattle.values.specs.Values.{valuesOf, Stored, asOption, lowered, ofAtom, valueIn, Kept, fitting}
 use Rattle.values.specs.declared.Atom.{Atom}
 use Rattle.values.specs.declared.Atom.the-variants.{Word, Outside}

@@ -9,7 +9,7 @@ ghost use Rattle.meaning.specs.Image.{label, ruleGraph};
 ghost use Rattle.meaning.specs.Matching.{atomOf};
 ghost use Rattle.meaning.specs.Applying.{elementValue, labelValue};
 ghost use Rattle.labels.specs.Labels.{atomsIn, Held, Holds};
-ghost use Rattle.parts.specs.Runs.{For};
+ghost use Rattle.parts.specs.Series.{For};
 ghost use Rattle.parts.specs.Rows.{graphItem, itemLabel};
 ghost use Rattle.values.specs.Values.{valuesOf, Stored, asOption, lowered, valueIn, Kept, ofAtom, fitting, allHeld};
 use fields::Found;

@@ -10,16 +10,16 @@ use native.Mathlib.Omega.{arith}
 use native.Mathlib.Decide.{decLe}
 use lib.ListN.{length, getD, take, drop, List·getD-eq-default}
 use lib.Dec.{eqb}
-use Rattle.meaning.specs.Basics.{choose, any, count, every, either}
+use Rattle.meaning.specs.Basics.{choose, exists, count, every, either}
 use Rattle.meaning.specs.Layout.{Slot, free, Host, isLive, liveAt}
 use Rattle.meaning.specs.Image.{RuleNode, Rule, isType}
 use Rattle.meaning.specs.References.{labels, ruleHolds}
-use Rattle.meaning.specs.Matching.{nodeIn, edgeIn, nodeAt, edgeAt, leftNodes, nodeSlot, edgeSlot, Assignment, runs, leaves, arrives, outDegree, inDegree, conditionHolds, testHolds, Match}
+use Rattle.meaning.specs.Matching.{nodeIn, edgeIn, nodeAt, edgeAt, leftNodes, nodeSlot, edgeSlot, Assignment, edgeRuns, edgeLeaves, edgeArrives, outDegree, inDegree, conditionHolds, testHolds, Match}
 use Rattle.meaning.specs.Assigned.{paired, valueFrom, assigned}
 use Rattle.meaning.specs.FirstMatch.{firstMatch}
 use Rattle.meaning.specs.Applying.{rightNode, rightNodes, rightSide, onFreeNode}
 use Rattle.meaning.specs.Laws.Tests.{both-no}
-use Rattle.laws.specs.Edges.{runs-free, leaves-free, arrives-free}
+use Rattle.laws.specs.Edges.{edgeRuns-free, edgeLeaves-free, edgeArrives-free}
 use Rattle.laws.specs.FirstMatch.{First, first-one, first-match}
 use Rattle.meaning.specs.declared.Condition.{Condition}
 use Rattle.meaning.specs.declared.Condition.the-variants.{Edge as edgeBetween, InDegree, OutDegree, Equal, Less}
@@ -28,15 +28,15 @@ use Rattle.meaning.specs.declared.Test.{Test}
 -- Numbers that do not pass do not count, however many of them there are.
 
 module _ (f : ℕ → Bool) where
-  any-more : (n m : ℕ) → n ≤ m → ((x : ℕ) → n ≤ x → f x ≡ false) → any f m ≡ any f n
-  unfolding any either
-  any-more zero zero k h = refl
-  any-more (suc n) zero k h = absurd (omega arith)
-  any-more n (suc m) k h = at (decLe n m) (any-more n m)
+  exists-more : (n m : ℕ) → n ≤ m → ((x : ℕ) → n ≤ x → f x ≡ false) → exists f m ≡ exists f n
+  unfolding exists either
+  exists-more zero zero k h = refl
+  exists-more (suc n) zero k h = absurd (omega arith)
+  exists-more n (suc m) k h = at (decLe n m) (exists-more n m)
     where
-      at : Dec (n ≤ m) → (n ≤ m → ((x : ℕ) → n ≤ x → f x ≡ false) → any f m ≡ any f n) → any f (suc m) ≡ any f n
+      at : Dec (n ≤ m) → (n ≤ m → ((x : ℕ) → n ≤ x → f x ≡ false) → exists f m ≡ exists f n) → exists f (suc m) ≡ exists f n
       at (yes l) r = rw (h m l) (r l h)
-      at (no l) r = let e : suc m ≡ n = omega arith in ap (any f) e
+      at (no l) r = let e : suc m ≡ n = omega arith in ap (exists f) e
 
   count-more : (n m : ℕ) → n ≤ m → ((x : ℕ) → n ≤ x → f x ≡ false) → count f m ≡ count f n
   unfolding count choose
@@ -48,12 +48,12 @@ module _ (f : ℕ → Bool) where
       at (yes l) r = rw (h m l) (r l h)
       at (no l) r = let e : suc m ≡ n = omega arith in ap (count f) e
 
-  any-beyond : (n m : ℕ) → ((x : ℕ) → n ≤ x → f x ≡ false) → ((x : ℕ) → m ≤ x → f x ≡ false) → any f n ≡ any f m
-  any-beyond n m h k = at (decLe n m)
+  exists-beyond : (n m : ℕ) → ((x : ℕ) → n ≤ x → f x ≡ false) → ((x : ℕ) → m ≤ x → f x ≡ false) → exists f n ≡ exists f m
+  exists-beyond n m h k = at (decLe n m)
     where
-      at : Dec (n ≤ m) → any f n ≡ any f m
-      at (yes l) = sym (any-more n m l h)
-      at (no l) = any-more m n (omega arith) k
+      at : Dec (n ≤ m) → exists f n ≡ exists f m
+      at (yes l) = sym (exists-more n m l h)
+      at (no l) = exists-more m n (omega arith) k
 
   count-beyond : (n m : ℕ) → ((x : ℕ) → n ≤ x → f x ≡ false) → ((x : ℕ) → m ≤ x → f x ≡ false) → count f n ≡ count f m
   count-beyond n m h k = at (decLe n m)
@@ -76,12 +76,12 @@ alike-sym h h′ a = record { nodes = λ i. sym (a .nodes i); edges = λ i. sym 
 
 module _ (h h′ : Host) (a : Alike h h′) where
   -- a test of edges that live ones alone pass
-  any-alike : (f : Host → ℕ → Bool) → ((x : ℕ) → f h x ≡ f h′ x) → ((g : Host) (x : ℕ) → liveAt (g .edges) x ≡ false → f g x ≡ false)
-      → any (f h) (length (h .edges)) ≡ any (f h′) (length (h′ .edges))
-  any-alike f s n =
-      any-beyond (f h) (length (h .edges)) (length (h′ .edges)) (λ x l. n h x (beyond (h .edges) x l))
+  exists-alike : (f : Host → ℕ → Bool) → ((x : ℕ) → f h x ≡ f h′ x) → ((g : Host) (x : ℕ) → liveAt (g .edges) x ≡ false → f g x ≡ false)
+      → exists (f h) (length (h .edges)) ≡ exists (f h′) (length (h′ .edges))
+  exists-alike f s n =
+      exists-beyond (f h) (length (h .edges)) (length (h′ .edges)) (λ x l. n h x (beyond (h .edges) x l))
       (λ x l. s x ∙ n h′ x (beyond (h′ .edges) x l))
-      ∙ ap (λ (g : ℕ → Bool). any g (length (h′ .edges))) (fun-ext s)
+      ∙ ap (λ (g : ℕ → Bool). exists g (length (h′ .edges))) (fun-ext s)
 
   count-alike : (f : Host → ℕ → Bool) → ((x : ℕ) → f h x ≡ f h′ x) → ((g : Host) (x : ℕ) → liveAt (g .edges) x ≡ false → f g x ≡ false)
       → count (f h) (length (h .edges)) ≡ count (f h′) (length (h′ .edges))
@@ -91,15 +91,15 @@ module _ (h h′ : Host) (a : Alike h h′) where
       ∙ ap (λ (g : ℕ → Bool). count g (length (h′ .edges))) (fun-ext s)
 
   condition-alike : (p : List ℕ) (α : Assignment) (c : Condition) → conditionHolds h p α c ≡ conditionHolds h′ p α c
-  unfolding conditionHolds inDegree outDegree runs leaves arrives
+  unfolding conditionHolds inDegree outDegree edgeRuns edgeLeaves edgeArrives
   condition-alike p α (edgeBetween i j) =
-      any-alike (λ g. runs g (nodeSlot p i) (nodeSlot p j)) (λ x. rw (a .edges x)) (λ g. runs-free g _ _)
+      exists-alike (λ g. edgeRuns g (nodeSlot p i) (nodeSlot p j)) (λ x. rw (a .edges x)) (λ g. edgeRuns-free g _ _)
   condition-alike p α (InDegree i n) =
       ap (λ (m : ℕ). eqb m n)
-      (count-alike (λ g. arrives g (nodeSlot p i)) (λ x. rw (a .edges x)) (λ g. arrives-free g _))
+      (count-alike (λ g. edgeArrives g (nodeSlot p i)) (λ x. rw (a .edges x)) (λ g. edgeArrives-free g _))
   condition-alike p α (OutDegree i n) =
       ap (λ (m : ℕ). eqb m n)
-      (count-alike (λ g. leaves g (nodeSlot p i)) (λ x. rw (a .edges x)) (λ g. leaves-free g _))
+      (count-alike (λ g. edgeLeaves g (nodeSlot p i)) (λ x. rw (a .edges x)) (λ g. edgeLeaves-free g _))
   condition-alike p α (Equal i j) = refl
   condition-alike p α (Less i j) = refl
 
@@ -155,10 +155,10 @@ module _ (h h′ : Host) (a : Alike h h′) where
 
   -- Live edges on free nodes.
 
-  pub onFree-alike : any (onFreeNode h) (length (h .edges)) ≡ any (onFreeNode h′) (length (h′ .edges))
+  pub onFree-alike : exists (onFreeNode h) (length (h .edges)) ≡ exists (onFreeNode h′) (length (h′ .edges))
   unfolding onFreeNode
   onFree-alike =
-      any-alike onFreeNode
+      exists-alike onFreeNode
       (λ x. rw (a .edges x, a .nodes (edgeAt h′ x .source), a .nodes (edgeAt h′ x .target))) (λ g x e. both-no _ _ e)
 
 -- The first match.

@@ -7,9 +7,9 @@ use mathlib.Core.Bool.{Bool, true, false}
 use mathlib.Core.Option.{Option, some, none}
 use native.Mathlib.Nat.{suc-add}
 use Rattle.meaning.specs.Basics.{choose}
-use Rattle.meaning.specs.Image.{Rule, Command, ruleSet, sequence, guarded, loop, skip, fail, break, Commands, stop, then}
+use Rattle.meaning.specs.Image.{Rule, Command, ruleSet, sequence, guarded, loop, skip, fail, break, Commands, noMore, then}
 use Rattle.meaning.specs.Applying.{Applied, applied, hindered}
-use Rattle.meaning.specs.Commands.{State, Out, ends, back, enterAt, Chosen, afterApplying, next, decide, again, rounds, call, work, works, exec, stateAt}
+use Rattle.meaning.specs.Commands.{State, Out, ends, back, enterAt, Chosen, afterApplying, next, decide, again, rounds, ruleCall, work, works, exec, stateAt}
 use Rattle.laws.specs.Commands.{entered}
 use Rattle.laws.specs.Fuel.{AtOut, atOut-of}
 use Rattle.meaning.specs.declared.Stop.the-variants.{OutOfFuel}
@@ -113,8 +113,8 @@ after-more (hindered w) d s = refl
 
 module _ (most room : ℕ) (rules : List Rule) where
   call-more : (o : Option Chosen) (d : ℕ) (s : State)
-      → call most room rules o (more d s) ≡ moreLeft d (call most room rules o s)
-  unfolding call
+      → ruleCall most room rules o (more d s) ≡ moreLeft d (ruleCall most room rules o s)
+  unfolding ruleCall
   call-more none d s = refl
   call-more (some c) d s = after-more _ d s
 
@@ -135,7 +135,7 @@ module _ (most room : ℕ) (rules : List Rule) where
     work-more break d s h = refl
 
     works-more : (cs : Commands) → More (works most room rules cs)
-    works-more stop d s h = refl
+    works-more noMore d s h = refl
     works-more (then c cs) d s h =
         then-more d _ _ _ (enter-more (s .fuel) _ (λ d t e. work-more c d t e) d s) (λ d t e. works-more cs d t e) h
 

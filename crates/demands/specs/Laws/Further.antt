@@ -9,7 +9,7 @@ use native.Mathlib.Omega.{arith}
 use native.Mathlib.Decide.{decLe}
 use lib.ListN.{length, getD, take, drop, replicate, length-drop}
 use lib.Seq.{set-append-left}
-use Rattle.meaning.specs.Basics.{choose, any}
+use Rattle.meaning.specs.Basics.{choose, exists}
 use Rattle.meaning.specs.Layout.{Slot, free, live, Node, Edge, Host, Change, ofNode, ofEdge, put}
 use Rattle.meaning.specs.Image.{Rule}
 use Rattle.meaning.specs.Matching.{leftNodes, leftEdges, Match}
@@ -203,7 +203,7 @@ tested-roomier : (a b : ℕ) (g : Ledger) → tested (roomierLedger a b g) ≡ r
 unfolding tested choose
 tested-roomier a b g =
     rw (← onFree-alike (g .host) (roomier a b (g .host)) (roomier-alike a b (g .host)))
-    (at (any (onFreeNode (g .host)) (length (g .host .edges))))
+    (at (exists (onFreeNode (g .host)) (length (g .host .edges))))
   where
     at : (t : Bool)
         → choose t (hindered EdgeOnFreeNode) (applied (roomierLedger a b g))

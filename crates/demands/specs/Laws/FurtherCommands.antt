@@ -8,10 +8,10 @@ use mathlib.Core.Option.{Option, some, none}
 use lib.ListN.{getD}
 use Rattle.meaning.specs.Basics.{choose}
 use Rattle.meaning.specs.Layout.{Host}
-use Rattle.meaning.specs.Image.{Rule, Command, ruleSet, sequence, guarded, loop, skip, fail, break, Commands, stop, then}
+use Rattle.meaning.specs.Image.{Rule, Command, ruleSet, sequence, guarded, loop, skip, fail, break, Commands, noMore, then}
 use Rattle.meaning.specs.Matching.{Match}
 use Rattle.meaning.specs.Applying.{Applied, applied, hindered, apply}
-use Rattle.meaning.specs.Commands.{State, Out, ends, back, enterAt, Chosen, ruleAt, firstRule, afterApplying, next, decide, again, rounds, call, work, works, exec, stateAt}
+use Rattle.meaning.specs.Commands.{State, Out, ends, back, enterAt, Chosen, ruleAt, firstRule, afterApplying, next, decide, again, rounds, ruleCall, work, works, exec, stateAt}
 use Rattle.laws.specs.FirstMatch.{found-match}
 use Rattle.laws.specs.Commands.{firstRule-some, entered}
 use Rattle.laws.specs.References.{Sound}
@@ -141,9 +141,9 @@ module _ (a b : ℕ) where
 
     module _ (most room room′ : ℕ) (more : room ≤ room′) where
       call-roomier : (o : Option Chosen) (s : State) → ((c : Chosen) → o ≡ some c → Match (s .ledger .host) (c .rule) (c .slots))
-          → EndsWithRoom (call most room rules o s .end)
-          → call most room′ rules o (roomierState s) ≡ roomierOut (call most room rules o s)
-      unfolding call
+          → EndsWithRoom (ruleCall most room rules o s .end)
+          → ruleCall most room′ rules o (roomierState s) ≡ roomierOut (ruleCall most room rules o s)
+      unfolding ruleCall
       call-roomier none s m h = refl
       call-roomier (some c) s m h =
           rw (apply-roomier most room room′ a b (c .rule) (c .slots) (s .ledger) more (m c refl) (after-room _ s h))
@@ -168,7 +168,7 @@ module _ (a b : ℕ) where
         work-roomier break s h = refl
 
         works-roomier : (cs : Commands) → Roomier (works most room rules cs) (works most room′ rules cs)
-        works-roomier stop s h = refl
+        works-roomier noMore s h = refl
         works-roomier (then c cs) s h =
             then-roomier _ _ _ _ (enter-roomier (s .fuel) _ _ (λ t i. work-roomier c t i) s) (λ t e. works-roomier cs t e) h
 

@@ -11,14 +11,14 @@ use native.Mathlib.Nat.{le-refl}
 use lib.ListN.{length, getD}
 use Rattle.meaning.specs.Basics.{choose}
 use Rattle.meaning.specs.Layout.{Host}
-use Rattle.meaning.specs.Image.{Rule, Command, ruleSet, sequence, guarded, loop, skip, fail, break, Commands, stop, then}
+use Rattle.meaning.specs.Image.{Rule, Command, ruleSet, sequence, guarded, loop, skip, fail, break, Commands, noMore, then}
 use Rattle.meaning.specs.Matching.{Match}
 use Rattle.meaning.specs.FirstMatch.{firstMatch}
 use Rattle.meaning.specs.Applying.{Applied, applied, hindered, apply}
-use Rattle.meaning.specs.Commands.{State, Out, ends, back, enterAt, Chosen, orLater, ruleAt, firstRule, afterApplying, next, decide, again, rounds, call, work, works, exec}
+use Rattle.meaning.specs.Commands.{State, Out, ends, back, enterAt, Chosen, orLater, ruleAt, firstRule, afterApplying, next, decide, again, rounds, ruleCall, work, works, exec}
 use Rattle.meaning.specs.Placement.{breaksLie, allBreaksLie}
 use Rattle.demands.specs.Inference
-use Rattle.demands.specs.Inference.{NoMatch, FirstCalled, stepped, Runs, Does, Follows}
+use Rattle.demands.specs.Inference.{NoMatch, FirstCalled, stepped, Executes, Does, Follows}
 use Rattle.meaning.specs.Laws.Tests.{both-true}
 use Rattle.laws.specs.FirstMatch as Found
 use Rattle.laws.specs.Commands.{firstRule-some, firstRule-none, exec-entered, guard-unbroken}
@@ -80,7 +80,7 @@ module _ (rules : List Rule) (sound : (i : ℕ) → Sound (ruleAt rules i)) (h :
 
 module _ (most room : ℕ) (rules : List Rule) where
   abbrev Ended : Command → State → Out → Type 0
-  Ended c s o = Runs most room rules c s (o .end) (o .state)
+  Ended c s o = Executes most room rules c s (o .end) (o .state)
 
   abbrev DoesEnd : Command → State → Out → Type 0
   DoesEnd c s o = Does most room rules c s (o .end) (o .state)
@@ -90,14 +90,14 @@ module _ (most room : ℕ) (rules : List Rule) where
 
   -- What is computed follows.
 
-  enter-runs : (c : Command) (f : ℕ) (s : State) → s .fuel ≡ f → ((t : State) → DoesEnd c t (work most room rules c t))
+  enter-executes : (c : Command) (f : ℕ) (s : State) → s .fuel ≡ f → ((t : State) → DoesEnd c t (work most room rules c t))
       → Ended c s (enterAt f (λ t. work most room rules c t) s)
   unfolding enterAt
-  enter-runs c zero s e h = Inference.dry e
-  enter-runs c (suc f) s e h = Inference.enters f e (h (stepped f s))
+  enter-executes c zero s e h = Inference.dry e
+  enter-executes c (suc f) s e h = Inference.enters f e (h (stepped f s))
 
   guard-does : (g x y : Command) (keep : Bool) (s : State) (e : End) (t : State) (a b : State → Out)
-      → Runs most room rules g s e t → (e ≡ Broke → ⊥) → ((u : State) → Ended x u (a u)) → ((u : State) → Ended y u (b u))
+      → Executes most room rules g s e t → (e ≡ Broke → ⊥) → ((u : State) → Ended x u (a u)) → ((u : State) → Ended y u (b u))
       → DoesEnd (guarded keep g x y) s (decide e keep s t a b)
   unfolding decide choose
   guard-does g x y true s Done t a b r n h k = Inference.thenTry t r (h t)
@@ -107,14 +107,14 @@ module _ (most room : ℕ) (rules : List Rule) where
   guard-does g x y keep s (Stopped w) t a b r n h k = Inference.guardStops w r
 
   next-follows : (c : Command) (cs : Commands) (s : State) (e : End) (t : State) (k : State → Out)
-      → Runs most room rules c s e t → ((u : State) → FollowsEnd cs u (k u)) → FollowsEnd (then c cs) s (next e t k)
+      → Executes most room rules c s e t → ((u : State) → FollowsEnd cs u (k u)) → FollowsEnd (then c cs) s (next e t k)
   unfolding next
   next-follows c cs s Done t k r h = Inference.goesOn t r (h t)
   next-follows c cs s Failed t k r h = Inference.endsThere Failed (λ e. let z : _≡_ {A = ℕ} 0 1 = cc in omega arith) r
   next-follows c cs s Broke t k r h = Inference.endsThere Broke (λ e. let z : _≡_ {A = ℕ} 0 1 = cc in omega arith) r
   next-follows c cs s (Stopped w) t k r h = Inference.endsThere (Stopped w) (λ e. let z : _≡_ {A = ℕ} 0 1 = cc in omega arith) r
 
-  again-does : (c : Command) (s : State) (e : End) (t : State) (k : State → Out) → Runs most room rules c s e t
+  again-does : (c : Command) (s : State) (e : End) (t : State) (k : State → Out) → Executes most room rules c s e t
       → DoesEnd (loop c) t (k t) → DoesEnd (loop c) s (again e s t k)
   unfolding again
   again-does c s Done t k r h = Inference.repeats t r h
@@ -132,8 +132,8 @@ module _ (most room : ℕ) (rules : List Rule) where
       (rounds-does c h n (o .state) (omega (arith, exec-spending most room rules c .spends s)))
 
   call-does : (l : List ℕ) (s : State) → ((i : ℕ) → Sound (ruleAt rules i)) → (o : Option Chosen)
-      → firstRule rules (s .ledger .host) l ≡ o → DoesEnd (ruleSet l) s (call most room rules o s)
-  unfolding call afterApplying
+      → firstRule rules (s .ledger .host) l ≡ o → DoesEnd (ruleSet l) s (ruleCall most room rules o s)
+  unfolding ruleCall afterApplying
   call-does l s sound none e = Inference.noMatch (called-none rules sound (s .ledger .host) l e)
   call-does l s sound (some c) e = at (apply most room (c .rule) (c .slots) (s .ledger)) refl
     where
@@ -147,28 +147,28 @@ module _ (most room : ℕ) (rules : List Rule) where
 
       work-does : (c : Command) (s : State) (ok : Bool) → breaksLie c ok ≡ true → DoesEnd c s (work most room rules c s)
       work-does (ruleSet l) s ok b = call-does l s sound _ refl
-      work-does (sequence cs) s ok b = Inference.inOrder (works-follow cs s ok b)
+      work-does (sequence cs) s ok b = Inference.inSequence (works-follow cs s ok b)
       work-does (guarded keep g x y) s ok b =
           let i = both-true _ _ b in
           let j = both-true _ _ (i .1) in
-          guard-does g x y keep s _ _ _ _ (enter-runs g (s .fuel) s refl (λ t. work-does g t false (i .0)))
-          (guard-unbroken most room rules keep ok g x y s b) (λ u. enter-runs x (u .fuel) u refl (λ t. work-does x t ok (j .0)))
-          (λ u. enter-runs y (u .fuel) u refl (λ t. work-does y t ok (j .1)))
+          guard-does g x y keep s _ _ _ _ (enter-executes g (s .fuel) s refl (λ t. work-does g t false (i .0)))
+          (guard-unbroken most room rules keep ok g x y s b) (λ u. enter-executes x (u .fuel) u refl (λ t. work-does x t ok (j .0)))
+          (λ u. enter-executes y (u .fuel) u refl (λ t. work-does y t ok (j .1)))
       work-does (loop c) s ok b =
-          rounds-does c (λ u. enter-runs c (u .fuel) u refl (λ t. work-does c t true b)) (s .fuel) s (le-refl _)
+          rounds-does c (λ u. enter-executes c (u .fuel) u refl (λ t. work-does c t true b)) (s .fuel) s (le-refl _)
       work-does skip s ok b = Inference.skips
       work-does fail s ok b = Inference.fails
       work-does break s ok b = Inference.breaks
 
       works-follow : (cs : Commands) (s : State) (ok : Bool) → allBreaksLie cs ok ≡ true → FollowsEnd cs s (works most room rules cs s)
-      works-follow stop s ok b = Inference.nothing
+      works-follow noMore s ok b = Inference.nothing
       works-follow (then c cs) s ok b =
           let i = both-true _ _ b in
-          next-follows c cs s _ _ _ (enter-runs c (s .fuel) s refl (λ t. work-does c t ok (i .0))) (λ u. works-follow cs u ok (i .1))
+          next-follows c cs s _ _ _ (enter-executes c (s .fuel) s refl (λ t. work-does c t ok (i .0))) (λ u. works-follow cs u ok (i .1))
 
     -- a command whose breaks lie in loops has what it is computed to do
-    pub exec-runs : (c : Command) (s : State) → breaksLie c false ≡ true → Ended c s (exec most room rules c s)
-    exec-runs c s b = enter-runs c (s .fuel) s refl (λ t. work-does c t false b)
+    pub exec-executes : (c : Command) (s : State) → breaksLie c false ≡ true → Ended c s (exec most room rules c s)
+    exec-executes c s b = enter-executes c (s .fuel) s refl (λ t. work-does c t false b)
 
     -- Nothing else follows.
 
@@ -193,11 +193,11 @@ module _ (most room : ℕ) (rules : List Rule) where
         (rounds-bound (s .fuel) (t .fuel) body spent t (omega arith) (omega arith))
 
     mutual
-      unfolding work works call afterApplying decide choose again next
+      unfolding work works ruleCall afterApplying decide choose again next
 
-      pub runs-exec : {c : Command} {s t : State} {e : End} → Runs most room rules c s e t → exec most room rules c s ≡ ends e t
-      runs-exec (Inference.dry {c = c} {s = s} z) = exec-spending most room rules c .empty s z
-      runs-exec (Inference.enters {c = c} {s = s} f z d) = exec-entered most room rules c s f z ∙ does-work d
+      pub executes-exec : {c : Command} {s t : State} {e : End} → Executes most room rules c s e t → exec most room rules c s ≡ ends e t
+      executes-exec (Inference.dry {c = c} {s = s} z) = exec-spending most room rules c .empty s z
+      executes-exec (Inference.enters {c = c} {s = s} f z d) = exec-entered most room rules c s f z ∙ does-work d
 
       pub does-work : {c : Command} {s t : State} {e : End} → Does most room rules c s e t → work most room rules c s ≡ ends e t
       does-work Inference.skips = refl
@@ -206,26 +206,26 @@ module _ (most room : ℕ) (rules : List Rule) where
       does-work (Inference.noMatch {l = l} {s = s} n) = rw (none-called rules sound (s .ledger .host) l n)
       does-work (Inference.applies {l = l} {s = s} r p g f q v) = rw (called-is rules sound (s .ledger .host) l r p f, q, v)
       does-work (Inference.hinders {l = l} {s = s} r p w f q) = rw (called-is rules sound (s .ledger .host) l r p f, q)
-      does-work (Inference.inOrder f) = follows-works f
-      does-work (Inference.thenIf t g a) = rw (runs-exec g) (runs-exec a)
-      does-work (Inference.thenTry t g a) = rw (runs-exec g) (runs-exec a)
-      does-work (Inference.elses t g b) = rw (runs-exec g) (runs-exec b)
-      does-work (Inference.guardStops w g) = rw (runs-exec g)
-      does-work (Inference.repeats {c = c} {s = s} t r d) = round c s t Done (runs-exec r) ∙ does-work d
-      does-work (Inference.bodyFails {c = c} {s = s} t r v) = rw v (round c s t Failed (runs-exec r))
-      does-work (Inference.bodyBreaks {c = c} {s = s} {t = t} r) = round c s t Broke (runs-exec r)
-      does-work (Inference.bodyStops {c = c} {s = s} {t = t} w r) = round c s t (Stopped w) (runs-exec r)
+      does-work (Inference.inSequence f) = follows-works f
+      does-work (Inference.thenIf t g a) = rw (executes-exec g) (executes-exec a)
+      does-work (Inference.thenTry t g a) = rw (executes-exec g) (executes-exec a)
+      does-work (Inference.elses t g b) = rw (executes-exec g) (executes-exec b)
+      does-work (Inference.guardStops w g) = rw (executes-exec g)
+      does-work (Inference.repeats {c = c} {s = s} t r d) = round c s t Done (executes-exec r) ∙ does-work d
+      does-work (Inference.bodyFails {c = c} {s = s} t r v) = rw v (round c s t Failed (executes-exec r))
+      does-work (Inference.bodyBreaks {c = c} {s = s} {t = t} r) = round c s t Broke (executes-exec r)
+      does-work (Inference.bodyStops {c = c} {s = s} {t = t} w r) = round c s t (Stopped w) (executes-exec r)
 
       pub follows-works : {cs : Commands} {s t : State} {e : End} → Follows most room rules cs s e t → works most room rules cs s ≡ ends e t
       follows-works Inference.nothing = refl
-      follows-works (Inference.goesOn t r f) = rw (runs-exec r) (follows-works f)
-      follows-works (Inference.endsThere {t = t} e n r) = rw (runs-exec r) (next-ends e t _ n)
+      follows-works (Inference.goesOn t r f) = rw (executes-exec r) (follows-works f)
+      follows-works (Inference.endsThere {t = t} e n r) = rw (executes-exec r) (next-ends e t _ n)
 
     -- so there is one end and one state
-    pub runs-one : {c : Command} {s t t′ : State} {e e′ : End} → Runs most room rules c s e t → Runs most room rules c s e′ t′
+    pub executes-one : {c : Command} {s t t′ : State} {e e′ : End} → Executes most room rules c s e t → Executes most room rules c s e′ t′
         → (e ≡ e′) × (t ≡ t′)
-    runs-one r r′ =
-        let q = sym (runs-exec r) ∙ runs-exec r′ in (ap (λ (o : Out). o .end) q, ap (λ (o : Out). o .state) q)
+    executes-one r r′ =
+        let q = sym (executes-exec r) ∙ executes-exec r′ in (ap (λ (o : Out). o .end) q, ap (λ (o : Out). o .state) q)
 
     failed-call : {l : List ℕ} {s t : State} {e : End} → Does most room rules (ruleSet l) s e t → e ≡ Failed
         → NoMatch rules (s .ledger .host) l

@@ -8,7 +8,7 @@ use native.Mathlib.Omega.{arith}
 use native.Mathlib.Nat.{suc-add, le-refl}
 use native.Mathlib.Decide.{decLe}
 use Rattle.meaning.specs.Basics.{choose}
-use Rattle.meaning.specs.Image.{Rule, Command, ruleSet, sequence, guarded, loop, skip, fail, break, Commands, stop, then}
+use Rattle.meaning.specs.Image.{Rule, Command, ruleSet, sequence, guarded, loop, skip, fail, break, Commands, noMore, then}
 use Rattle.meaning.specs.Commands.{State, Out, ends, back, enterAt, next, decide, again, rounds, work, works, exec, stateAt}
 use Rattle.laws.specs.Commands.{entered}
 use Rattle.demands.specs.Laws.Allowance.{more, moreLeft, Enough, More, exec-grows}
@@ -150,7 +150,7 @@ module _ (most room : ℕ) (rules : List Rule) where
     work-short break d s = tt
 
     works-short : (cs : Commands) → Short (works most room rules cs)
-    works-short stop d s = tt
+    works-short noMore d s = tt
     works-short (then c cs) d s =
         then-short d _ _ _ _ (exec-grows most room rules c d s)
         (enter-short (s .fuel) _ (work-falls c) (λ d t. work-short c d t) d s refl)

@@ -2,7 +2,7 @@
 use borrow.Author.Tests.{eq-eqb, ne-eqb}
 use borrow.Author.Needs.{needs}
 use Rattle.meaning.specs.Basics.{both}
-use Rattle.meaning.specs.Matching.{arrives}
+use Rattle.meaning.specs.Matching.{edgeArrives}
 use Rattle.graph.proofs.edge_arrives.Statement.{statement}
 use Rattle.graph.proofs.edge_arrives.Tie as tie
 
@@ -16,7 +16,7 @@ edge-source-requires : tie.Need-edge-source-requires
 edge-source-requires c κs = search needs
 
 returns : tie.Need-returns
-unfolding arrives both
+unfolding edgeArrives both
 returns c =
     rw (
       ← (c .before .before .before .before .edge-live .ensures),
@@ -27,7 +27,7 @@ returns c =
     )
 
 returns-2 : tie.Need-returns-2
-unfolding arrives both
+unfolding edgeArrives both
 returns-2 c =
     rw (
       ← (c .before .before .before .edge-live .ensures),
@@ -37,7 +37,7 @@ returns-2 c =
     )
 
 returns-3 : tie.Need-returns-3
-unfolding arrives both
+unfolding edgeArrives both
 returns-3 c = rw (← (c .before .edge-live .ensures), c .if1 .left)
 
 pub edge-arrives-spec : {M : Type 1} → statement M

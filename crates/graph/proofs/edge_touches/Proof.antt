@@ -2,7 +2,7 @@
 use borrow.Author.Tests.{eq-eqb, ne-eqb}
 use borrow.Author.Needs.{needs}
 use Rattle.meaning.specs.Basics.{both, either}
-use Rattle.meaning.specs.Matching.{touches}
+use Rattle.meaning.specs.Matching.{edgeTouches}
 use Rattle.graph.proofs.edge_touches.Statement.{statement}
 use Rattle.graph.proofs.edge_touches.Tie as tie
 
@@ -13,7 +13,7 @@ edge-source-requires : tie.Need-edge-source-requires
 edge-source-requires c κs = search needs
 
 returns : tie.Need-returns
-unfolding touches both either
+unfolding edgeTouches both either
 returns c =
     rw (
       ← (c .before .before .before .edge-live .ensures),
@@ -26,7 +26,7 @@ edge-target-requires : tie.Need-edge-target-requires
 edge-target-requires c κs = search needs
 
 returns-2 : tie.Need-returns-2
-unfolding touches both either
+unfolding edgeTouches both either
 returns-2 c =
     rw (
       ← (c .before .before .before .before .edge-live .ensures),
@@ -37,7 +37,7 @@ returns-2 c =
     )
 
 returns-3 : tie.Need-returns-3
-unfolding touches both
+unfolding edgeTouches both
 returns-3 c = rw (← (c .before .edge-live .ensures), c .if1 .left)
 
 pub edge-touches-spec : {M : Type 1} → statement M

@@ -3,17 +3,17 @@ use Prim.Native.Nat.{_-_, _≤_}
 use native.Mathlib.Omega.{arith}
 use borrow.Author.Needs.{needs}
 use lib.ListN.{drop}
-use Rattle.meaning.specs.Layout.{atoms}
+use Rattle.meaning.specs.Layout.{readAtoms}
 use Rattle.labels.specs.Laws.{Filled, filled-none}
 use Rattle.graph.proofs.Slots.{read-more, read-all}
 use Rattle.graph.proofs.read_label.Statement.{statement}
 use Rattle.graph.proofs.read_label.Tie as tie
 
 abbrev Inv-loop : tie.InvT-loop
-Inv-loop b start len l₀ j₀ l j = Filled (atoms len (drop start b)) j l × (j ≤ len)
+Inv-loop b start len l₀ j₀ l j = Filled (readAtoms len (drop start b)) j l × (j ≤ len)
 
 abbrev μ-loop : tie.MeasureT-loop
-μ-loop b start len atoms₀ j₀ atoms j = len - j
+μ-loop b start len atoms₀ j₀ readAtoms j = len - j
 
 atom-count-requires : tie.Need-atom-count-requires Inv-loop μ-loop
 atom-count-requires c κs = search needs

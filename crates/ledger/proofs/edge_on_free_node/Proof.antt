@@ -6,7 +6,7 @@ use native.Mathlib.Nat.{div-le-self}
 use native.Mathlib.Omega.{arith}
 use borrow.Author.Needs.{needs}
 use lib.ListN.{length}
-use Rattle.meaning.specs.Basics.{any}
+use Rattle.meaning.specs.Basics.{exists}
 use Rattle.meaning.specs.Layout.{readNodes, readEdges}
 use Rattle.meaning.specs.Applying.{onFreeNode}
 use Rattle.ledger.proofs.Free.{edges-count, none-yet, none-more, found}
@@ -14,7 +14,7 @@ use Rattle.ledger.proofs.edge_on_free_node.Statement.{statement}
 use Rattle.ledger.proofs.edge_on_free_node.Tie as tie
 
 abbrev Inv-loop : tie.InvT-loop
-Inv-loop l nodes edges n x₀ x = (x ≤ n) × (false ≡ any (onFreeNode (record { nodes = readNodes l nodes; edges = readEdges l edges })) x)
+Inv-loop l nodes edges n x₀ x = (x ≤ n) × (false ≡ exists (onFreeNode (record { nodes = readNodes l nodes; edges = readEdges l edges })) x)
 
 abbrev μ-loop : tie.MeasureT-loop
 μ-loop l nodes edges n x₀ x = n - x
@@ -41,7 +41,7 @@ loop-again : tie.Need-loop-again Inv-loop μ-loop
 loop-again c = (omega (arith, c .before .before .loop-test .taken), none-more (onFreeNode (record { nodes = readNodes (c .before .before .before .before .before .before .before .args .l) (c .before .before .before .before .before .before .before .args .nodes .now); edges = readEdges (c .before .before .before .before .before .before .before .args .l) (c .before .before .before .before .before .before .before .args .edges .now) })) (c .before .before .before .loop .x) (c .before .before .before .loop .inv .1) (sym (c .before .on-free-node .ensures) ∙ c .if1 .left))
 
 returns-2 : tie.Need-returns-2 Inv-loop μ-loop
-returns-2 c = let e : c .before .loop .x ≡ length (readEdges (c .before .before .before .before .before .args .l) (c .before .before .before .before .before .args .edges .now)) = omega (arith, edges-count (c .before .before .before .before .before .args .l) (c .before .before .before .before .before .pre) (c .before .before .before .before .before .args .edges .now), c .loop-test .left, c .before .loop .inv .0) in c .before .loop .inv .1 ∙ ap (any (onFreeNode (record { nodes = readNodes (c .before .before .before .before .before .args .l) (c .before .before .before .before .before .args .nodes .now); edges = readEdges (c .before .before .before .before .before .args .l) (c .before .before .before .before .before .args .edges .now) }))) e
+returns-2 c = let e : c .before .loop .x ≡ length (readEdges (c .before .before .before .before .before .args .l) (c .before .before .before .before .before .args .edges .now)) = omega (arith, edges-count (c .before .before .before .before .before .args .l) (c .before .before .before .before .before .pre) (c .before .before .before .before .before .args .edges .now), c .loop-test .left, c .before .loop .inv .0) in c .before .loop .inv .1 ∙ ap (exists (onFreeNode (record { nodes = readNodes (c .before .before .before .before .before .args .l) (c .before .before .before .before .before .args .nodes .now); edges = readEdges (c .before .before .before .before .before .args .l) (c .before .before .before .before .before .args .edges .now) }))) e
 
 pub edge-on-free-node-spec : {M : Type 1} → statement M
 edge-on-free-node-spec =

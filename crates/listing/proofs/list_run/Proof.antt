@@ -23,7 +23,7 @@ put-outcome-requires : tie.Need-put-outcome-requires
 put-outcome-requires c κs =
     let s = c .before .before .before .before .before .before .before .before .before .before .before .before .before .before .before .before .before .before .before .before .before .before in
     let nhiemavut-run = c .before .before .before .before .before .before .before .before .before .before .before .before .nhiemavut-run in
-    (omega (arith, s .pre), (nhiemavut-run .kept .1 .1 .1 .1 .1 .0, λ z. rw (c .before .before .before .before .base .ensures) (result-ready (s .args .nodes .now) (s .args .edges .now) (s .args .journal .now) (s .args .program .now) (s .args .fuel) (replicate 8 0) (λ i. omega (arith, c .before .before .before .before .before .before .before .before .before .before .before .before .before .before .before .before .before .before .before .before .before .slice-known .given i)) (λ i. omega (arith, c .before .before .before .before .before .before .before .before .before .before .before .before .before .before .before .before .before .before .before .before .slice-known2 .given i)) (λ i. omega (arith, c .before .before .before .before .before .before .before .before .before .before .before .before .before .before .before .before .before .before .shared-slice-known .given i)) _ _ (sym (nhiemavut-run .ensures .numbered) ∙ z) (nhiemavut-run .ensures .nodesLeft) (nhiemavut-run .kept .0) (nhiemavut-run .ensures .edgesLeft) (nhiemavut-run .kept .1 .0))))
+    (omega (arith, s .pre), (nhiemavut-run .kept .1 .1 .1 .1 .1 .0, λ z. rw (c .before .before .before .before .base .ensures) (result-ready (s .args .nodes .now) (s .args .edges .now) (s .args .journal .now) (s .args .program .now) (s .args .fuel) (replicate 8 0) (λ i. omega (arith, c .before .before .before .before .before .before .before .before .before .before .before .before .before .before .before .before .before .before .before .before .before .slice-known .given i)) (λ i. omega (arith, c .before .before .before .before .before .before .before .before .before .before .before .before .before .before .before .before .before .before .before .before .slice-known2 .given i)) (λ i. omega (arith, c .before .before .before .before .before .before .before .before .before .before .before .before .before .before .before .before .before .before .shared-slice-known .given i)) _ _ (sym (nhiemavut-run .ensures .numbered) ∙ z) (nhiemavut-run .ensures .nodesReturned) (nhiemavut-run .kept .0) (nhiemavut-run .ensures .edgesReturned) (nhiemavut-run .kept .1 .0))))
 
 same-length : tie.Need-same-length
 same-length c = search needs

@@ -10,8 +10,8 @@ use borrow.Author.Tests.{eq-eqb, ne-eqb}
 use lib.Dec.{ltb}
 use lib.ListN.{length, getD, take, drop, drop-of-length-le}
 use lib.Seq.{drop-cons, getD-take, length-take-le, take-suc, take-all}
-use Rattle.meaning.specs.Basics.{choose, both, either, clauses, any, all, count, every, absent}
-use Rattle.meaning.specs.Laws.Tests.{choose-lt, choose-le, any-of, all-no, every-append}
+use Rattle.meaning.specs.Basics.{choose, both, either, clauses, exists, all, count, every, absent}
+use Rattle.meaning.specs.Laws.Tests.{choose-lt, choose-le, exists-of, all-no, every-append}
 
 -- One of a part of an array.
 
@@ -46,12 +46,12 @@ module _ (f : ℕ → Bool) (x : ℕ) {r : Bool} (e : r ≡ f x) where
   unfolding count choose
   count-no h d q = rw (add-one x, ← e, h) q
 
-  pub any-yes : r ≡ true → (n : ℕ) → x < n → true ≡ any f n
-  any-yes h n i = sym (any-of f n x i (sym e ∙ h))
+  pub exists-yes : r ≡ true → (n : ℕ) → x < n → true ≡ exists f n
+  exists-yes h n i = sym (exists-of f n x i (sym e ∙ h))
 
-  pub any-next : r ≡ false → any f x ≡ false → any f (x + 1) ≡ false
-  unfolding any either
-  any-next h q = rw (add-one x, ← e, h) q
+  pub exists-next : r ≡ false → exists f x ≡ false → exists f (x + 1) ≡ false
+  unfolding exists either
+  exists-next h q = rw (add-one x, ← e, h) q
 
   pub all-fails : r ≡ false → (n : ℕ) → x < n → false ≡ all f n
   all-fails h n i = sym (all-no f n x i (sym e ∙ h))
@@ -64,8 +64,8 @@ module _ (f : ℕ → Bool) (x n : ℕ) (e : x ≡ n) where
   pub count-end : (d : ℕ) → d ≡ count f x → d ≡ count f n
   count-end d q = rw (← e) q
 
-  pub any-end : any f x ≡ false → false ≡ any f n
-  any-end q = rw (← e) (sym q)
+  pub exists-end : exists f x ≡ false → false ≡ exists f n
+  exists-end q = rw (← e) (sym q)
 
   pub all-end : all f x ≡ true → true ≡ all f n
   all-end q = rw (← e) (sym q)

@@ -2,15 +2,15 @@
 use mathlib.Core.Path.{_≡_, sym, _∙_}
 use mathlib.Core.List.{List}
 use Prim.Native.Nat.{ℕ}
-use Rattle.meaning.specs.Calls.{Left, Leaves}
+use Rattle.meaning.specs.Calls.{Returned, Yields}
 
-pub leaves-one : (l : Left) (m n : ℕ) (nodes nodes′ edges edges′ journal journal′ report report′ : List ℕ)
-    → Leaves l m nodes edges journal report → Leaves l n nodes′ edges′ journal′ report′
+pub yields-one : (l : Returned) (m n : ℕ) (nodes nodes′ edges edges′ journal journal′ report report′ : List ℕ)
+    → Yields l m nodes edges journal report → Yields l n nodes′ edges′ journal′ report′
     → (m ≡ n) × (nodes ≡ nodes′) × (edges ≡ edges′) × (journal ≡ journal′) × (report ≡ report′)
-leaves-one l m n nodes nodes′ edges edges′ journal journal′ report report′ h k = (
+yields-one l m n nodes nodes′ edges edges′ journal journal′ report report′ h k = (
   h .numbered ∙ sym (k .numbered),
-  h .nodesLeft ∙ sym (k .nodesLeft),
-  h .edgesLeft ∙ sym (k .edgesLeft),
-  h .journalLeft ∙ sym (k .journalLeft),
-  h .reportLeft ∙ sym (k .reportLeft),
+  h .nodesReturned ∙ sym (k .nodesReturned),
+  h .edgesReturned ∙ sym (k .edgesReturned),
+  h .journalReturned ∙ sym (k .journalReturned),
+  h .reportReturned ∙ sym (k .reportReturned),
 )

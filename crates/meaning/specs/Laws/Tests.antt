@@ -11,7 +11,7 @@ use native.Mathlib.Decide.{ℕ-discrete}
 use borrow.Author.Tests.{eq-eqb, ne-eqb, eqb-true, eqb-false, lt-ltb, le-ltb, not-true}
 use lib.Dec.{ltb, eqb}
 use lib.ListN.{length, getD, drop, replicate}
-use Rattle.meaning.specs.Basics.{choose, both, either, all, any, every, absent, same, zeros, isEmpty, isSome, ensure, each, _>>_, _>>=_}
+use Rattle.meaning.specs.Basics.{choose, both, either, all, exists, every, absent, same, zeros, isEmpty, isSome, ensure, each, _>>_, _>>=_}
 
 pub not-so : (b : Bool) → (b ≡ true → ⊥) → b ≡ false
 not-so true f = absurd (f refl)
@@ -59,12 +59,12 @@ unfolding absent both
 absent-of c [] h = refl
 absent-of c (a ∷ l) h = rw (ne-eqb a c (h 0 (omega arith))) (absent-of c l (λ j k. h (suc j) (omega arith)))
 
-pub any-of : (f : ℕ → Bool) (n x : ℕ) → x < n → f x ≡ true → any f n ≡ true
-unfolding any either
-any-of f zero x h e = absurd (omega arith)
-any-of f (suc n) x h e = at (ℕ-discrete x n) (f n) refl (λ k. any-of f n x k e)
+pub exists-of : (f : ℕ → Bool) (n x : ℕ) → x < n → f x ≡ true → exists f n ≡ true
+unfolding exists either
+exists-of f zero x h e = absurd (omega arith)
+exists-of f (suc n) x h e = at (ℕ-discrete x n) (f n) refl (λ k. exists-of f n x k e)
   where
-    at : Dec (x ≡ n) → (b : Bool) → f n ≡ b → (x < n → any f n ≡ true) → either b (any f n) ≡ true
+    at : Dec (x ≡ n) → (b : Bool) → f n ≡ b → (x < n → exists f n ≡ true) → either b (exists f n) ≡ true
     at d true q r = refl
     at (yes d) false q r = let z : _≡_ {A = ℕ} 0 1 = cc in absurd (omega arith)
     at (no d) false q r = r (omega arith)
@@ -78,19 +78,19 @@ unfolding either
 either-right true b e = refl
 either-right false b e = e
 
-pub any-false : (f : ℕ → Bool) (n : ℕ) → any f n ≡ false → (x : ℕ) → x < n → f x ≡ false
-any-false f n e x h = at (f x) refl
+pub exists-false : (f : ℕ → Bool) (n : ℕ) → exists f n ≡ false → (x : ℕ) → x < n → f x ≡ false
+exists-false f n e x h = at (f x) refl
   where
     at : (b : Bool) → f x ≡ b → f x ≡ false
     at false q = q
-    at true q = let r = any-of f n x h q in let z : _≡_ {A = ℕ} 0 1 = cc in absurd (omega arith)
+    at true q = let r = exists-of f n x h q in let z : _≡_ {A = ℕ} 0 1 = cc in absurd (omega arith)
 
-pub any-true : (f : ℕ → Bool) (n : ℕ) → any f n ≡ true → (x : ℕ) × (x < n) × (f x ≡ true)
-unfolding any either
-any-true f zero e = let z : _≡_ {A = ℕ} 0 1 = cc in absurd (omega arith)
-any-true f (suc n) e = at (f n) refl e (any-true f n)
+pub exists-true : (f : ℕ → Bool) (n : ℕ) → exists f n ≡ true → (x : ℕ) × (x < n) × (f x ≡ true)
+unfolding exists either
+exists-true f zero e = let z : _≡_ {A = ℕ} 0 1 = cc in absurd (omega arith)
+exists-true f (suc n) e = at (f n) refl e (exists-true f n)
   where
-    at : (b : Bool) → f n ≡ b → either b (any f n) ≡ true → (any f n ≡ true → (x : ℕ) × (x < n) × (f x ≡ true))
+    at : (b : Bool) → f n ≡ b → either b (exists f n) ≡ true → (exists f n ≡ true → (x : ℕ) × (x < n) × (f x ≡ true))
         → (x : ℕ) × (x < suc n) × (f x ≡ true)
     at true q e r = (n, omega arith, q)
     at false q e r = let t = r e in (t .0, omega (arith, t .1), t .2)
@@ -114,10 +114,10 @@ absent-false c (a ∷ l) e = at (ℕ-discrete a c) (absent-false c l)
     at (yes q) r = (0, omega arith, q)
     at (no q) r = let t = r (rw (ne-eqb a c q) at e) in (suc (t .0), omega (arith, t .1), t .2)
 
-pub any-no : (f : ℕ → Bool) (n : ℕ) → ((x : ℕ) → x < n → f x ≡ false) → any f n ≡ false
-unfolding any either
-any-no f zero h = refl
-any-no f (suc n) h = rw (h n (omega arith)) (any-no f n (λ x k. h x (omega arith)))
+pub exists-no : (f : ℕ → Bool) (n : ℕ) → ((x : ℕ) → x < n → f x ≡ false) → exists f n ≡ false
+unfolding exists either
+exists-no f zero h = refl
+exists-no f (suc n) h = rw (h n (omega arith)) (exists-no f n (λ x k. h x (omega arith)))
 
 pub all-of : (f : ℕ → Bool) (n : ℕ) → ((x : ℕ) → x < n → f x ≡ true) → all f n ≡ true
 unfolding all both

@@ -2,7 +2,7 @@
 use mathlib.Core.Path.{_∙_, ap}
 use Prim.Native.Nat.{ℕ}
 use borrow.Author.Needs.{needs}
-use Rattle.parts.specs.Runs.{nthPart}
+use Rattle.parts.specs.Series.{nthPart}
 use Rattle.parts.proofs.main_part.Statement.{statement}
 use Rattle.parts.proofs.main_part.Tie as tie
 

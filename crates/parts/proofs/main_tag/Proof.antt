@@ -2,7 +2,7 @@
 use mathlib.Core.Path.{_∙_, ap}
 use Prim.Native.Nat.{ℕ}
 use borrow.Author.Needs.{needs}
-use Rattle.parts.specs.Runs.{nthTag}
+use Rattle.parts.specs.Series.{nthTag}
 use Rattle.parts.proofs.main_tag.Statement.{statement}
 use Rattle.parts.proofs.main_tag.Tie as tie
 

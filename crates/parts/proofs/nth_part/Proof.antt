@@ -1,7 +1,7 @@
 -- `parts::nth_part` meets its contract.
 use mathlib.Core.Path.{_∙_, sym}
 use borrow.Author.Needs.{needs}
-use Rattle.parts.specs.Runs.{part-field}
+use Rattle.parts.specs.Series.{part-field}
 use Rattle.parts.proofs.Loops.{no-part, nth-in}
 use Rattle.parts.proofs.nth_part.Statement.{statement}
 use Rattle.parts.proofs.nth_part.Tie as tie

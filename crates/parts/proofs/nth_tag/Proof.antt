@@ -1,7 +1,7 @@
 -- `parts::nth_tag` meets its contract.
 use mathlib.Core.Path.{_∙_, sym}
 use borrow.Author.Needs.{needs}
-use Rattle.parts.specs.Runs.{tag-field}
+use Rattle.parts.specs.Series.{tag-field}
 use Rattle.parts.proofs.Loops.{no-tag}
 use Rattle.parts.proofs.nth_tag.Statement.{statement}
 use Rattle.parts.proofs.nth_tag.Tie as tie

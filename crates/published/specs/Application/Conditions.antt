@@ -14,8 +14,8 @@ use Rattle.meaning.specs.Basics.{choose, count, concat}
 use Rattle.meaning.specs.Numbers.{whole}
 use Rattle.meaning.specs.Layout.{Host}
 use Rattle.meaning.specs.References.{operandNames, conditionOperands, conditionNodes, isPlain}
-use Rattle.meaning.specs.Matching.{nodeSlot, Assignment, atomsOf, instance, atomOf, runs, leaves, arrives, outDegree, inDegree, conditionHolds, testHolds}
-use Rattle.meaning.specs.Laws.Tests.{both-true, both-of, any-of, any-true}
+use Rattle.meaning.specs.Matching.{nodeSlot, Assignment, atomsOf, instance, atomOf, edgeRuns, edgeLeaves, edgeArrives, outDegree, inDegree, conditionHolds, testHolds}
+use Rattle.meaning.specs.Laws.Tests.{both-true, both-of, exists-of, exists-true}
 use Rattle.meaning.specs.Laws.Every.{Every}
 use Rattle.laws.specs.Counting.{count-from}
 use Rattle.laws.specs.Layout.{Words}
@@ -192,8 +192,8 @@ module _ (f : ℕ → Bool) (n : ℕ) (P : ℕ → Type 0) (t : Tested f n P) wh
 -- Tests.
 
 module _ (h : Host) where
-  leaves-tested : (s : ℕ) → Tested (leaves h s) (length (h .edges)) (Leaves (graphOf h) s)
-  unfolding leaves
+  leaves-tested : (s : ℕ) → Tested (edgeLeaves h s) (length (h .edges)) (Leaves (graphOf h) s)
+  unfolding edgeLeaves
   leaves-tested s =
       record {
         below = λ x p. liveAt-lt (h .edges) x (p .0);
@@ -201,8 +201,8 @@ module _ (h : Host) where
         holds = λ x e. let t = both-true _ _ e in (t .0, eqb-true _ _ (t .1));
       }
 
-  arrives-tested : (s : ℕ) → Tested (arrives h s) (length (h .edges)) (Arrives (graphOf h) s)
-  unfolding arrives
+  arrives-tested : (s : ℕ) → Tested (edgeArrives h s) (length (h .edges)) (Arrives (graphOf h) s)
+  unfolding edgeArrives
   arrives-tested s =
       record {
         below = λ x p. liveAt-lt (h .edges) x (p .0);
@@ -218,15 +218,15 @@ module _ (h : Host) where
     pub condition-holds : (c : Condition) → Every (λ a. node a ≡ nodeSlot p a) (conditionNodes c)
         → Every (λ o. atomOf α o < whole) (conditionOperands c)
         → (conditionHolds h p α c ≡ true) ↔ Holds (graphOf h) node α c
-    unfolding conditionNodes conditionOperands conditionHolds runs outDegree inDegree
+    unfolding conditionNodes conditionOperands conditionHolds edgeRuns outDegree inDegree
     condition-holds (edgeBetween a b) n o = (
       λ e.
-          let t = any-true _ _ e in
+          let t = exists-true _ _ e in
           let u = both-true _ _ (t .2) in
           let v = both-true _ _ (u .1) in
           (t .0, u .0, eqb-true _ _ (v .0) ∙ sym (n .0), eqb-true _ _ (v .1) ∙ sym (n .1 .0)),
       λ t.
-          any-of _ _ (t .0) (liveAt-lt (h .edges) (t .0) (t .1))
+          exists-of _ _ (t .0) (liveAt-lt (h .edges) (t .0) (t .1))
           (both-of _ _ (t .1) (both-of _ _ (eq-eqb _ _ (t .2 ∙ n .0)) (eq-eqb _ _ (t .3 ∙ n .1 .0)))),
     )
     condition-holds (InDegree a m) n o = rw (n .0) (counted _ _ _ (arrives-tested (nodeSlot p a)) m)

@@ -15,7 +15,7 @@ use Rattle.meaning.specs.Computing.{computing}
 use Rattle.demands.specs.Ours.{ours}
 use Rattle.demands.specs.Exported.{ours-exported}
 use Rattle.demands.specs.Cases.{lendable}
-use Rattle.meaning.specs.ProvedSet.{field, calls, turns, nodeSlot, edgeSlot}
+use Rattle.meaning.specs.ProvedSet.{fieldBytes, ruleSetField, turns, liveNode, liveEdge}
 use Rattle.meaning.specs.Tags.{anyMark}
 use Rattle.meaning.specs.Laws.Every.{Every}
 use Rattle.laws.specs.Numbers.{Bytes, bytes-by}
@@ -36,7 +36,7 @@ use Rattle.published.specs.Whence.{right-placed, not-made, marked-stays}
 use Rattle.published.specs.OnlyOutcome.{OneOutcome, one-outcome}
 
 abbrev pub image : List ℕ
-image = turns ++ field 0x54 (calls 0)
+image = turns ++ fieldBytes 0x54 (ruleSetField 0)
 
 abbrev pub turn : Rule
 turn =
@@ -160,10 +160,10 @@ case-p-only = one-outcome image tree case-p-is OneGreyEdge steady
 -- Document 01's graph: nodes 0 and 1, grey and labelled 5 and 7, and an edge from 0 to 1.
 
 abbrev nodes : List ℕ
-nodes = nodeSlot 4 0 (1 ∷ 0 ∷ 0 ∷ 0 ∷ 5 ∷ []) ++ nodeSlot 4 0 (1 ∷ 0 ∷ 0 ∷ 0 ∷ 7 ∷ [])
+nodes = liveNode 4 0 (1 ∷ 0 ∷ 0 ∷ 0 ∷ 5 ∷ []) ++ liveNode 4 0 (1 ∷ 0 ∷ 0 ∷ 0 ∷ 7 ∷ [])
 
 abbrev edges : List ℕ
-edges = edgeSlot 0 1
+edges = liveEdge 0 1
 
 one-grey : OneGreyEdge (held nodes edges)
 unfolding computing
@@ -178,7 +178,7 @@ caseP =
 
 -- nothing but the red 5, the blue 12 and the edge from 1 to 0 can come of it
 pub case-p-one : (X : Outcome Graph) → ⟦_⟧ Graph Applied (comSeq (tree .rules) (tree .main)) (held nodes edges) X
-    → SameOutcome (graph (held (nodeSlot 1 0 (1 ∷ 0 ∷ 0 ∷ 0 ∷ 5 ∷ []) ++ nodeSlot 3 0 (1 ∷ 0 ∷ 0 ∷ 0 ∷ 12 ∷ [])) (edgeSlot 1 0))) X
+    → SameOutcome (graph (held (liveNode 1 0 (1 ∷ 0 ∷ 0 ∷ 0 ∷ 5 ∷ []) ++ liveNode 3 0 (1 ∷ 0 ∷ 0 ∷ 0 ∷ 12 ∷ [])) (liveEdge 1 0))) X
 unfolding computing
 case-p-one =
     case-p-only .result (ours base) ours-exported caseP (lendable caseP refl) refl one-grey refl

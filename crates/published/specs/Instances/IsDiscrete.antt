@@ -7,7 +7,7 @@ use mathlib.Core.Option.{some}
 use mathlib.Core.List.{List, [], _∷_}
 use Prim.Native.Nat.{ℕ, zero, suc, _<_, _≤_}
 use native.Mathlib.Omega.{arith}
-use Rattle.meaning.specs.Image.{Rule, Program, program, ruleSet, sequence, guarded, loop, skip, fail, stop, then}
+use Rattle.meaning.specs.Image.{Rule, Program, program, ruleSet, sequence, guarded, loop, skip, fail, noMore, then}
 use Rattle.meaning.specs.Computing.{computing}
 use Rattle.laws.specs.Numbers.{Bytes, bytes-by}
 use Rattle.laws.specs.LegalCommands.{LegalRules}
@@ -58,7 +58,7 @@ abbrev pub tree : Program
 tree =
     record {
       rules = del ∷ node ∷ [];
-      main = sequence (then (loop (ruleSet (0 ∷ []))) (then (guarded false (ruleSet (1 ∷ [])) fail skip) stop));
+      main = sequence (then (loop (ruleSet (0 ∷ []))) (then (guarded false (ruleSet (1 ∷ [])) fail skip) noMore));
     }
 
 pub is-discrete-is : program image ≡ some tree

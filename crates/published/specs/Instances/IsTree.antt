@@ -10,13 +10,13 @@ use Prim.Native.Nat.{ℕ, zero, suc, _*_, _<_}
 use native.Mathlib.Omega.{arith}
 use lib.ListN.{replicate}
 use Rattle.meaning.specs.Layout.{base, edgeLength, recordLength}
-use Rattle.meaning.specs.Image.{Rule, Program, program, ruleSet, sequence, guarded, loop, skip, fail, stop, then}
+use Rattle.meaning.specs.Image.{Rule, Program, program, ruleSet, sequence, guarded, loop, skip, fail, noMore, then}
 use Rattle.meaning.specs.Calls.{Lent}
 use Rattle.meaning.specs.Computing.{computing}
 use Rattle.demands.specs.Ours.{ours}
 use Rattle.demands.specs.Exported.{ours-exported}
 use Rattle.demands.specs.Cases.{lendable}
-use Rattle.meaning.specs.ProvedSet.{nodeSlot, edgeSlot, freeNode}
+use Rattle.meaning.specs.ProvedSet.{liveNode, liveEdge, freeNode}
 use Rattle.meaning.specs.Laws.Every.{Every}
 use Rattle.laws.specs.Numbers.{Bytes, bytes-by}
 use Rattle.laws.specs.Hosts.{liveAt-lt}
@@ -154,8 +154,8 @@ tree =
       main =
           sequence
           (then (ruleSet (0 ∷ []))
-          (then (loop (guarded true (ruleSet (1 ∷ [])) skip (sequence (then (ruleSet (2 ∷ [])) (then (ruleSet (3 ∷ [])) stop)))))
-          (then (guarded false (ruleSet (4 ∷ 5 ∷ [])) fail skip) stop)));
+          (then (loop (guarded true (ruleSet (1 ∷ [])) skip (sequence (then (ruleSet (2 ∷ [])) (then (ruleSet (3 ∷ [])) noMore)))))
+          (then (guarded false (ruleSet (4 ∷ 5 ∷ [])) fail skip) noMore)));
     }
 
 pub is-tree-is : program image ≡ some tree
@@ -276,10 +276,10 @@ is-tree-only = one-outcome image tree is-tree-is Chain steady
 -- Two grey nodes and an edge from the first to the second, a tree: nothing can come of it but one blue root.
 
 abbrev nodes : List ℕ
-nodes = nodeSlot 4 0 (0 ∷ []) ++ nodeSlot 4 0 (0 ∷ [])
+nodes = liveNode 4 0 (0 ∷ []) ++ liveNode 4 0 (0 ∷ [])
 
 abbrev edges : List ℕ
-edges = edgeSlot 0 1
+edges = liveEdge 0 1
 
 -- the second node is no start
 the-start : (v : ℕ) → v < 2 → Start (held nodes edges) v → v ≡ 0
@@ -309,7 +309,7 @@ twoNodes =
     record { nodes = nodes; edges = edges; journal = replicate (32 * recordLength base) 1; image = image; fuel = 100; report = replicate 8 7 }
 
 pub is-tree-one : (X : Outcome Graph) → ⟦_⟧ Graph Applied (comSeq (tree .rules) (tree .main)) (held nodes edges) X
-    → SameOutcome (graph (held (nodeSlot 3 1 (0 ∷ []) ++ freeNode) (replicate (edgeLength base) 0))) X
+    → SameOutcome (graph (held (liveNode 3 1 (0 ∷ []) ++ freeNode) (replicate (edgeLength base) 0))) X
 unfolding computing
 is-tree-one =
     is-tree-only .result (ours base) ours-exported twoNodes (lendable twoNodes refl) refl chain refl

@@ -14,7 +14,7 @@ use Rattle.meaning.specs.Computing.{computing}
 use Rattle.demands.specs.Ours.{ours}
 use Rattle.demands.specs.Exported.{ours-exported}
 use Rattle.demands.specs.Cases.{lendable}
-use Rattle.meaning.specs.ProvedSet.{field, ruleField, calls, nodeSlot, plainNode}
+use Rattle.meaning.specs.ProvedSet.{fieldBytes, ruleField, ruleSetField, liveNode, plainNode}
 use Rattle.laws.specs.Numbers.{Bytes, bytes-by}
 use Rattle.laws.specs.LegalCommands.{LegalRules}
 use Rattle.laws.specs.LegalImage.{program-legal}
@@ -30,7 +30,7 @@ use Rattle.published.specs.Determined.{KnownNode, root, determined-stead
 use Rattle.published.specs.OnlyOutcome.{OneOutcome, one-outcome}
 
 abbrev pub image : List ℕ
-image = ruleField [] (field 0x20 (0 ∷ 1 ∷ [])) (field 0x20 (1 ∷ 1 ∷ [])) 1 ++ field 0x54 (calls 0)
+image = ruleField [] (fieldBytes 0x20 (0 ∷ 1 ∷ [])) (fieldBytes 0x20 (1 ∷ 1 ∷ [])) 1 ++ fieldBytes 0x54 (ruleSetField 0)
 
 abbrev pub redden : Rule
 redden =
@@ -73,7 +73,7 @@ red-root-only = one-outcome image tree red-root-is OneRoot steady
 -- Two nodes, the first a root: nothing but the root in red can come of it.
 
 abbrev nodes : List ℕ
-nodes = nodeSlot 0 1 (0 ∷ []) ++ plainNode
+nodes = liveNode 0 1 (0 ∷ []) ++ plainNode
 
 one-root : OneRoot (held nodes [])
 unfolding computing
@@ -84,7 +84,7 @@ twoNodes =
     record { nodes = nodes; edges = []; journal = replicate (8 * recordLength base) 1; image = image; fuel = 10; report = replicate 8 7 }
 
 pub red-root-one : (X : Outcome Graph) → ⟦_⟧ Graph Applied (comSeq (tree .rules) (tree .main)) (held nodes []) X
-    → SameOutcome (graph (held (nodeSlot 1 1 (0 ∷ []) ++ plainNode) [])) X
+    → SameOutcome (graph (held (liveNode 1 1 (0 ∷ []) ++ plainNode) [])) X
 unfolding computing
 red-root-one =
     red-root-only .result (ours base) ours-exported twoNodes (lendable twoNodes refl) refl one-root refl

@@ -10,7 +10,7 @@ use mathlib.Core.List.{List, [], _∷_}
 use Prim.Native.Nat.{ℕ, zero, suc, _<_}
 use native.Mathlib.Omega.{arith}
 use lib.ListN.{length}
-use Rattle.meaning.specs.Image.{Rule, Program, program, ruleSet, sequence, guarded, loop, skip, fail, stop, then}
+use Rattle.meaning.specs.Image.{Rule, Program, program, ruleSet, sequence, guarded, loop, skip, fail, noMore, then}
 use Rattle.meaning.specs.Commands.{ruleAt}
 use Rattle.meaning.specs.Computing.{computing}
 use Rattle.laws.specs.Numbers.{Bytes, bytes-by}
@@ -126,8 +126,8 @@ tree =
       rules = red1 ∷ red2 ∷ red3 ∷ match ∷ [];
       main =
           sequence
-          (then (sequence (then (loop (ruleSet (2 ∷ 1 ∷ []))) (then (ruleSet (0 ∷ [])) stop)))
-          (then (guarded false (ruleSet (3 ∷ [])) fail skip) stop));
+          (then (sequence (then (loop (ruleSet (2 ∷ 1 ∷ []))) (then (ruleSet (0 ∷ [])) noMore)))
+          (then (guarded false (ruleSet (3 ∷ [])) fail skip) noMore));
     }
 
 pub rooted-cycle-is : program image ≡ some tree

@@ -14,9 +14,9 @@ use Rattle.meaning.specs.Computing.{computing}
 use Rattle.demands.specs.Ours.{ours}
 use Rattle.demands.specs.Exported.{ours-exported}
 use Rattle.demands.specs.Cases.{lendable}
-use Rattle.meaning.specs.ProvedSet.{field, ruleField, variable, calls}
+use Rattle.meaning.specs.ProvedSet.{fieldBytes, ruleField, variableField, ruleSetField}
 use Rattle.laws.specs.Numbers.{Bytes, bytes-by}
-use Rattle.meaning.specs.ProvedSet.{field, ruleField, variable, calls, nodeSlot, edgeSlot, plainNode, redNode}
+use Rattle.meaning.specs.ProvedSet.{fieldBytes, ruleField, variableField, ruleSetField, liveNode, liveEdge, plainNode, redNode}
 use Rattle.laws.specs.LegalCommands.{LegalRules}
 use Rattle.laws.specs.LegalImage.{program-legal}
 use Rattle.meaning.specs.declared.Element.the-variants.{Variable}
@@ -33,13 +33,13 @@ use Rattle.published.specs.Determined.{KnownNode, root, source, target, 
 use Rattle.published.specs.OnlyOutcome.{OneOutcome, one-outcome}
 
 abbrev edge : List ℕ
-edge = field 0x21 (0 ∷ 0 ∷ 1 ∷ variable 0)
+edge = fieldBytes 0x21 (0 ∷ 0 ∷ 1 ∷ variableField 0)
 
 abbrev pub image : List ℕ
 image =
-    ruleField (2 ∷ 2 ∷ 2 ∷ []) (field 0x20 (0 ∷ 1 ∷ variable 1) ++ field 0x20 (0 ∷ 0 ∷ variable 2) ++ edge)
-    (field 0x20 (1 ∷ 0 ∷ variable 1) ++ field 0x20 (0 ∷ 1 ∷ variable 2) ++ edge) 2
-    ++ field 0x54 (calls 0)
+    ruleField (2 ∷ 2 ∷ 2 ∷ []) (fieldBytes 0x20 (0 ∷ 1 ∷ variableField 1) ++ fieldBytes 0x20 (0 ∷ 0 ∷ variableField 2) ++ edge)
+    (fieldBytes 0x20 (1 ∷ 0 ∷ variableField 1) ++ fieldBytes 0x20 (0 ∷ 1 ∷ variableField 2) ++ edge) 2
+    ++ fieldBytes 0x54 (ruleSetField 0)
 
 abbrev pub step : Rule
 step =
@@ -96,18 +96,18 @@ walk-only = one-outcome image tree walk-is OneWay steady
 -- Two nodes, the first a root, and an edge from it to the second: nothing can come of it but that the root is there.
 
 abbrev nodes : List ℕ
-nodes = nodeSlot 0 1 (0 ∷ []) ++ plainNode
+nodes = liveNode 0 1 (0 ∷ []) ++ plainNode
 
-one-way : OneWay (held nodes (edgeSlot 0 1))
+one-way : OneWay (held nodes (liveEdge 0 1))
 unfolding computing
-one-way = (one-root-held (hostIn base nodes (edgeSlot 0 1)) (omega arith), one-out-held (hostIn base nodes (edgeSlot 0 1)) (omega arith))
+one-way = (one-root-held (hostIn base nodes (liveEdge 0 1)) (omega arith), one-out-held (hostIn base nodes (liveEdge 0 1)) (omega arith))
 
 abbrev twoNodes : Lent
 twoNodes =
-    record { nodes = nodes; edges = edgeSlot 0 1; journal = replicate (8 * recordLength base) 1; image = image; fuel = 10; report = replicate 8 7 }
+    record { nodes = nodes; edges = liveEdge 0 1; journal = replicate (8 * recordLength base) 1; image = image; fuel = 10; report = replicate 8 7 }
 
-pub walk-one : (X : Outcome Graph) → ⟦_⟧ Graph Applied (comSeq (tree .rules) (tree .main)) (held nodes (edgeSlot 0 1)) X
-    → SameOutcome (graph (held (redNode ++ nodeSlot 0 1 (0 ∷ [])) (edgeSlot 0 1))) X
+pub walk-one : (X : Outcome Graph) → ⟦_⟧ Graph Applied (comSeq (tree .rules) (tree .main)) (held nodes (liveEdge 0 1)) X
+    → SameOutcome (graph (held (redNode ++ liveNode 0 1 (0 ∷ [])) (liveEdge 0 1))) X
 unfolding computing
 walk-one =
     walk-only .result (ours base) ours-exported twoNodes (lendable twoNodes refl) refl one-way refl

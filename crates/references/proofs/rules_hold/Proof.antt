@@ -7,8 +7,8 @@ use Rattle.meaning.specs.Basics.{every}
 use Rattle.meaning.specs.Image.{program}
 use Rattle.meaning.specs.References.{ruleHolds}
 use Rattle.references.specs.Asked.{partHolds}
-use Rattle.parts.specs.Rows.{image-run, imagePart, imageParts}
-use Rattle.parts.specs.Runs.{Walk, walk-cut, walk-done, walk-next, walk-start, walk-stop}
+use Rattle.parts.specs.Rows.{image-series, imagePart, imageParts}
+use Rattle.parts.specs.Series.{Walk, walk-cut, walk-done, walk-next, walk-start, walk-stop}
 use Rattle.references.proofs.Ties.{parts-hold}
 use Rattle.parts.proofs.Loops.{a-field, nearer, no-field, part-in}
 use Rattle.references.proofs.rules_hold.Statement.{statement}
@@ -21,7 +21,7 @@ abbrev μ-loop : tie.MeasureT-loop
 μ-loop image at₀ at = length image - at
 
 loop-holds : tie.Need-loop-holds Inv-loop μ-loop
-loop-holds c = walk-start (λ p e. let t = image-run _ p e in (imageParts (t .0) p, t .2, parts-hold (t .0) p))
+loop-holds c = walk-start (λ p e. let t = image-series _ p e in (imageParts (t .0) p, t .2, parts-hold (t .0) p))
 
 read-field-requires : tie.Need-read-field-requires Inv-loop μ-loop
 read-field-requires c κs = search needs

@@ -11,7 +11,7 @@ use Rattle.labels.specs.Labels.{atomsIn, Held}
 use Rattle.parts.specs.Elements.{Begins}
 use Rattle.labels.specs.Laws.{held-length}
 use Rattle.parts.specs.Walks.{opens-first, opens-nothing, shorter}
-use Rattle.parts.specs.Runs.{For}
+use Rattle.parts.specs.Series.{For}
 use Rattle.values.specs.Values.{valuesOf}
 use Rattle.values.specs.Laws.{value-held, value-not, empty-few, Valuing, valuing-start, valuing-end, valuing-none, valuing-long, valuing-next}
 use Rattle.values.proofs.label_value.Statement.{statement}

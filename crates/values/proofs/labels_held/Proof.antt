@@ -5,8 +5,8 @@ use lib.ListN.{length}
 use Rattle.meaning.specs.Basics.{isSome}
 use Rattle.meaning.specs.Image.{ruleGraph}
 use Rattle.meaning.specs.Applying.{labelValue}
-use Rattle.parts.specs.Runs.{Walk, walk-start, walk-next, walk-stop, walk-cut, walk-done}
-use Rattle.parts.specs.Rows.{graphItem, items, graph-run, itemLabel}
+use Rattle.parts.specs.Series.{Walk, walk-start, walk-next, walk-stop, walk-cut, walk-done}
+use Rattle.parts.specs.Rows.{graphItem, items, graph-series, itemLabel}
 use Rattle.parts.proofs.Loops.{a-field, no-field, part-in, nearer}
 use Rattle.values.specs.Values.{valuesOf, allHeld}
 use Rattle.values.specs.Right.{held-items}
@@ -22,7 +22,7 @@ abbrev μ-loop : tie.MeasureT-loop
 μ-loop most lens atoms right at₀ at = length right - at
 
 loop-holds : tie.Need-loop-holds Inv-loop μ-loop
-loop-holds c = walk-start (λ g e. (items g, graph-run _ g e, held-items _ _ g))
+loop-holds c = walk-start (λ g e. (items g, graph-series _ g e, held-items _ _ g))
 
 read-field-requires : tie.Need-read-field-requires Inv-loop μ-loop
 read-field-requires c κs = search needs

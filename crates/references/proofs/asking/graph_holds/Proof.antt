@@ -6,8 +6,8 @@ use borrow.Author.Needs.{needs}
 use lib.ListN.{length}
 use Rattle.meaning.specs.Image.{ruleGraph}
 use Rattle.references.specs.Asked.{graphAsked, itemAsked}
-use Rattle.parts.specs.Rows.{graph-run, graphItem, items}
-use Rattle.parts.specs.Runs.{Walk, walk-cut, walk-done, walk-next, walk-start, walk-stop}
+use Rattle.parts.specs.Rows.{graph-series, graphItem, items}
+use Rattle.parts.specs.Series.{Walk, walk-cut, walk-done, walk-next, walk-start, walk-stop}
 use Rattle.parts.proofs.Loops.{a-field, nearer, no-field, part-in}
 use Rattle.references.proofs.asking.graph_holds.Statement.{statement}
 use Rattle.references.proofs.asking.graph_holds.Tie as tie
@@ -20,7 +20,7 @@ abbrev μ-loop : tie.MeasureT-loop
 
 loop-holds : tie.Need-loop-holds Inv-loop μ-loop
 unfolding graphAsked
-loop-holds c = walk-start (λ g e. (items g, graph-run _ g e, refl))
+loop-holds c = walk-start (λ g e. (items g, graph-series _ g e, refl))
 
 read-field-requires : tie.Need-read-field-requires Inv-loop μ-loop
 read-field-requires c κs = search needs

@@ -7,8 +7,8 @@ use lib.ListN.{length}
 use Rattle.meaning.specs.Basics.{every}
 use Rattle.meaning.specs.Image.{element, label}
 use Rattle.references.specs.Asked.{elementAsked}
-use Rattle.references.proofs.Asks.{label-run}
-use Rattle.parts.specs.Runs.{Walk, walk-cut, walk-done, walk-next, walk-start, walk-stop}
+use Rattle.references.proofs.Asks.{label-series}
+use Rattle.parts.specs.Series.{Walk, walk-cut, walk-done, walk-next, walk-start, walk-stop}
 use Rattle.parts.proofs.Loops.{a-field, nearer, no-field, part-in}
 use Rattle.references.proofs.asking.label_holds.Statement.{statement}
 use Rattle.references.proofs.asking.label_holds.Tie as tie
@@ -20,7 +20,7 @@ abbrev μ-loop : tie.MeasureT-loop
 μ-loop ask p types at₀ at = length p - at
 
 loop-holds : tie.Need-loop-holds Inv-loop μ-loop
-loop-holds c = walk-start (λ l e. (l, label-run _ l e, refl))
+loop-holds c = walk-start (λ l e. (l, label-series _ l e, refl))
 
 read-field-requires : tie.Need-read-field-requires Inv-loop μ-loop
 read-field-requires c κs = search needs

@@ -5,21 +5,21 @@ use Prim.Native.Nat.{_-_}
 use borrow.Author.Needs.{needs}
 use lib.ListN.{length}
 use Rattle.meaning.specs.Basics.{every}
-use Rattle.meaning.specs.Image.{anyTag, only, test}
+use Rattle.meaning.specs.Image.{passesAll, only, test}
 use Rattle.references.specs.Asked.{testAsked}
-use Rattle.parts.specs.Runs.{Walk, only-run, walk-cut, walk-done, walk-next, walk-start, walk-stop}
+use Rattle.parts.specs.Series.{Walk, only-series, walk-cut, walk-done, walk-next, walk-start, walk-stop}
 use Rattle.parts.proofs.Loops.{a-field, nearer, no-field, part-in}
 use Rattle.references.proofs.asking.tests_hold.Statement.{statement}
 use Rattle.references.proofs.asking.tests_hold.Tie as tie
 
 abbrev Inv-loop : tie.InvT-loop
-Inv-loop ask p types at₀ at = Walk test (testAsked ask types) p (only anyTag test 4 p) (every (testAsked ask types)) at
+Inv-loop ask p types at₀ at = Walk test (testAsked ask types) p (only passesAll test 4 p) (every (testAsked ask types)) at
 
 abbrev μ-loop : tie.MeasureT-loop
 μ-loop ask p types at₀ at = length p - at
 
 loop-holds : tie.Need-loop-holds Inv-loop μ-loop
-loop-holds c = walk-start (λ l e. (l, only-run anyTag test test (λ t b a p x. x) 4 _ l e, refl))
+loop-holds c = walk-start (λ l e. (l, only-series passesAll test test (λ t b a p x. x) 4 _ l e, refl))
 
 read-field-requires : tie.Need-read-field-requires Inv-loop μ-loop
 read-field-requires c κs = search needs

@@ -9,7 +9,7 @@ use Rattle.meaning.specs.Basics.{all}
 use Rattle.meaning.specs.Image.{rule}
 use Rattle.meaning.specs.References.{anyKept}
 use Rattle.meaning.specs.Laws.Tests.{all-no}
-use Rattle.parts.specs.Runs.{For}
+use Rattle.parts.specs.Series.{For}
 use Rattle.references.proofs.Ties.{all-at, all-next}
 use Rattle.references.proofs.rules.all_kept.Statement.{statement}
 use Rattle.references.proofs.rules.all_kept.Tie as tie

@@ -8,7 +8,7 @@ use lib.ListN.{length}
 use Rattle.meaning.specs.Basics.{all}
 use Rattle.meaning.specs.Image.{rule}
 use Rattle.references.specs.Asked.{keptOnLeft}
-use Rattle.parts.specs.Runs.{For}
+use Rattle.parts.specs.Series.{For}
 use Rattle.references.proofs.Ties.{all-next, kept-done, kept-fails}
 use Rattle.references.proofs.rules.variables_on_left.Statement.{statement}
 use Rattle.references.proofs.rules.variables_on_left.Tie as tie

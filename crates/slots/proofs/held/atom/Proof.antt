@@ -7,12 +7,12 @@ use borrow.Author.Needs.{needs}
 use lib.ListN.{getD, take, drop}
 use lib.Seq.{drop-drop}
 use Rattle.meaning.specs.Numbers.{number}
-use Rattle.meaning.specs.Layout.{atomLength, atoms}
+use Rattle.meaning.specs.Layout.{atomLength, readAtoms}
 use Rattle.laws.specs.Layout.{getD-atoms}
 use Rattle.slots.proofs.held.atom.Statement.{statement}
 use Rattle.slots.proofs.held.atom.Tie as tie
 
-atoms-from : (n k start : ℕ) (b : List ℕ) → k < n → number (take atomLength (drop (start + atomLength * k) b)) ≡ getD (atoms n (drop start b)) k 0
+atoms-from : (n k start : ℕ) (b : List ℕ) → k < n → number (take atomLength (drop (start + atomLength * k) b)) ≡ getD (readAtoms n (drop start b)) k 0
 atoms-from n k start b h =
     let e : atomLength * k ≡ k * atomLength = omega arith in
     sym (getD-atoms n (drop start b) k h ∙ rw (drop-drop (k * atomLength) start b, e))

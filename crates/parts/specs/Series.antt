@@ -1,4 +1,4 @@
--- Rows of fields: what stands one after the other in bytes, each field read by `item` from its tag and payload; the walk of
+-- Series of fields: what stands one after the other in bytes, each field read by `item` from its tag and payload; the walk of
 -- a loop over them; and the field of a number among them. Rests on the meaning's Image and on fields' Fields and Laws.
 use mathlib.Core.Path.{_≡_, refl, sym, _∙_, ap}
 use mathlib.Core.Bool.{Bool, true, false}
@@ -28,25 +28,25 @@ pub record Next {A : Type 0} (item : ℕ → List ℕ → Option A) (a : A) (Mor
   pub more : More (whole .rest)
 
 -- the bytes are fields that are read as the items of the list, and then the rest
-unfoldable pub Run : {A : Type 0} → (ℕ → List ℕ → Option A) → List A → List ℕ → List ℕ → Type 0
-Run item [] rest bs = bs ≡ rest
-Run item (a ∷ l) rest bs = Next item a (Run item l rest) bs
+unfoldable pub Series : {A : Type 0} → (ℕ → List ℕ → Option A) → List A → List ℕ → List ℕ → Type 0
+Series item [] rest bs = bs ≡ rest
+Series item (a ∷ l) rest bs = Next item a (Series item l rest) bs
 
 -- What `leading` and `only` read, each item read in the same way by `other` where its tag passes.
 
 module _ {A : Type 0} (passes : ℕ → Bool) (item other : ℕ → List ℕ → Option A) (keeps : (tag : ℕ) (bs : List ℕ) (a : A) → passes tag ≡ true → item tag bs ≡ some a → other tag bs ≡ some a) where
-  stop-run : (bs : List ℕ) (r : Read A) → some (record { items = []; rest = bs }) ≡ some r → Run other (r .items) (r .rest) bs
-  unfolding Run
-  stop-run bs r e = rw (← (some-inj (record { items = []; rest = bs }) r e))
+  stop-series : (bs : List ℕ) (r : Read A) → some (record { items = []; rest = bs }) ≡ some r → Series other (r .items) (r .rest) bs
+  unfolding Series
+  stop-series bs r e = rw (← (some-inj (record { items = []; rest = bs }) r e))
 
-  pub leading-run : (n : ℕ) (bs : List ℕ) (r : Read A) → leading passes item n bs ≡ some r → Run other (r .items) (r .rest) bs
-  unfolding leading Run
-  leading-run zero bs r e = stop-run bs r e
-  leading-run (suc n) [] r e = stop-run [] r e
-  leading-run (suc n) (t ∷ bs) r e = at (passes t) refl (λ cs x h. leading-run n cs x h)
+  pub leading-series : (n : ℕ) (bs : List ℕ) (r : Read A) → leading passes item n bs ≡ some r → Series other (r .items) (r .rest) bs
+  unfolding leading Series
+  leading-series zero bs r e = stop-series bs r e
+  leading-series (suc n) [] r e = stop-series [] r e
+  leading-series (suc n) (t ∷ bs) r e = at (passes t) refl (λ cs x h. leading-series n cs x h)
     where
-      at : (b : Bool) → passes t ≡ b → ((cs : List ℕ) (x : Read A) → leading passes item n cs ≡ some x → Run other (x .items) (x .rest) cs) → Run other (r .items) (r .rest) (t ∷ bs)
-      at false h later = stop-run (t ∷ bs) r (sym (choose-false _ _ _ h) ∙ e)
+      at : (b : Bool) → passes t ≡ b → ((cs : List ℕ) (x : Read A) → leading passes item n cs ≡ some x → Series other (x .items) (x .rest) cs) → Series other (r .items) (r .rest) (t ∷ bs)
+      at false h later = stop-series (t ∷ bs) r (sym (choose-false _ _ _ h) ∙ e)
       at true h later =
           let u = bind-some (field (t ∷ bs)) _ r (sym (choose-true _ _ _ h) ∙ e) in
           let v = bind-some (item (u .0 .tag) (u .0 .payload)) _ r (u .2) in
@@ -54,25 +54,25 @@ module _ {A : Type 0} (passes : ℕ → Bool) (item other : ℕ → List ℕ →
           let passed : passes (u .0 .tag) ≡ true = ap passes (field-is (t ∷ bs) (u .0) (u .1) .tag) ∙ h in
           rw (← (some-inj (record { items = v .0 ∷ w .0 .items; rest = w .0 .rest }) r (w .2))) (record { whole = u .0; there = u .1; read = keeps _ _ _ passed (v .1); more = later (u .0 .rest) (w .0) (w .1) })
 
-  pub only-run : (n : ℕ) (bs : List ℕ) (l : List A) → only passes item n bs ≡ some l → Run other l [] bs
+  pub only-series : (n : ℕ) (bs : List ℕ) (l : List A) → only passes item n bs ≡ some l → Series other l [] bs
   unfolding only
-  only-run n bs l e =
+  only-series n bs l e =
       let t = bind-some (leading passes item n bs) _ l e in
       let u = ensure-some _ _ l (t .2) in
-      let k = leading-run n bs (t .0) (t .1) in
+      let k = leading-series n bs (t .0) (t .1) in
       rw (empty-true (t .0 .rest) (u .0), some-inj (t .0 .items) l (u .1)) at k
 
 -- two rows, one behind the other; a row read in another way
 module _ {A : Type 0} (item : ℕ → List ℕ → Option A) where
-  pub run-append : (l m : List A) (rest bs cs : List ℕ) → Run item l rest bs → Run item m cs rest → Run item (l ++ m) cs bs
-  unfolding Run
-  run-append [] m rest bs cs r s = rw r s
-  run-append (a ∷ l) m rest bs cs r s = record { whole = r .whole; there = r .there; read = r .read; more = run-append l m rest (r .whole .rest) cs (r .more) s }
+  pub series-append : (l m : List A) (rest bs cs : List ℕ) → Series item l rest bs → Series item m cs rest → Series item (l ++ m) cs bs
+  unfolding Series
+  series-append [] m rest bs cs r s = rw r s
+  series-append (a ∷ l) m rest bs cs r s = record { whole = r .whole; there = r .there; read = r .read; more = series-append l m rest (r .whole .rest) cs (r .more) s }
 
-  pub run-map : {B : Type 0} (other : ℕ → List ℕ → Option B) (h : A → B) → ((tag : ℕ) (bs : List ℕ) (a : A) → item tag bs ≡ some a → other tag bs ≡ some (h a)) → (l : List A) (rest bs : List ℕ) → Run item l rest bs → Run other (map h l) rest bs
-  unfolding Run
-  run-map other h f [] rest bs r = r
-  run-map other h f (a ∷ l) rest bs r = record { whole = r .whole; there = r .there; read = f _ _ a (r .read); more = run-map other h f l rest (r .whole .rest) (r .more) }
+  pub series-map : {B : Type 0} (other : ℕ → List ℕ → Option B) (h : A → B) → ((tag : ℕ) (bs : List ℕ) (a : A) → item tag bs ≡ some a → other tag bs ≡ some (h a)) → (l : List A) (rest bs : List ℕ) → Series item l rest bs → Series other (map h l) rest bs
+  unfolding Series
+  series-map other h f [] rest bs r = r
+  series-map other h f (a ∷ l) rest bs r = record { whole = r .whole; there = r .there; read = f _ _ a (r .read); more = series-map other h f l rest (r .whole .rest) (r .more) }
 
 -- One step of a row that ends with the bytes.
 
@@ -82,41 +82,41 @@ pub record Taken {A : Type 0} (item : ℕ → List ℕ → Option A) (l : List A
   pub others : List A
   pub parts : l ≡ first ∷ others
   pub read : item tag (take (end - start) (drop start bs)) ≡ some first
-  pub run : Run item others [] (drop end bs)
+  pub series : Series item others [] (drop end bs)
 
 module _ {A : Type 0} (item : ℕ → List ℕ → Option A) (bs : List ℕ) (at : ℕ) where
-  pub run-none : (l : List A) → Run item l [] (drop at bs) → length bs ≤ at → l ≡ []
-  unfolding Run
-  run-none [] r h = refl
-  run-none (a ∷ l) r h =
+  pub series-none : (l : List A) → Series item l [] (drop at bs) → length bs ≤ at → l ≡ []
+  unfolding Series
+  series-none [] r h = refl
+  series-none (a ∷ l) r h =
       let i = field-is (drop at bs) (r .whole) (r .there) .long in
       let d = length-drop at bs in
       absurd (omega arith)
 
-  pub run-some : (l : List A) → Run item l [] (drop at bs) → at < length bs → (tag start end : ℕ) → Lies bs at tag start end → Taken item l bs tag start end
-  unfolding Run
-  run-some [] r h tag start end f =
+  pub series-some : (l : List A) → Series item l [] (drop at bs) → at < length bs → (tag start end : ℕ) → Lies bs at tag start end → Taken item l bs tag start end
+  unfolding Series
+  series-some [] r h tag start end f =
       let d : length (drop at bs) ≡ 0 = ap length r in
       let e = length-drop at bs in
       absurd (omega arith)
-  run-some (a ∷ l) r h tag start end f =
+  series-some (a ∷ l) r h tag start end f =
       let same : r .whole ≡ f .whole = some-inj _ _ (sym (r .there) ∙ f .is) in
       record {
         first = a;
         others = l;
         parts = refl;
         read = rw (← (f .tagged), ← (f .payload), ← same) (r .read);
-        run = rw (← (f .rest), ← same) (r .more);
+        series = rw (← (f .rest), ← same) (r .more);
       }
 
   -- a row that has not ended has a field
-  pub run-there : (l : List A) → Run item l [] (drop at bs) → at < length bs → field (drop at bs) ≡ none → ⊥
-  unfolding Run
-  run-there [] r h e =
+  pub series-there : (l : List A) → Series item l [] (drop at bs) → at < length bs → field (drop at bs) ≡ none → ⊥
+  unfolding Series
+  series-there [] r h e =
       let d : length (drop at bs) ≡ 0 = ap length r in
       let k = length-drop at bs in
       omega arith
-  run-there (a ∷ l) r h e =
+  series-there (a ∷ l) r h e =
       let z : _≡_ {A = ℕ} 0 1 = cc (r .there) in
       omega arith
 
@@ -124,25 +124,25 @@ module _ {A : Type 0} (item : ℕ → List ℕ → Option A) (bs : List ℕ) (at
 
 pub record Left {A : Type 0} (item : ℕ → List ℕ → Option A) (f : A → Bool) (bs : List ℕ) (at : ℕ) (total : Bool) : Type 0 where
   pub items : List A
-  pub run : Run item items [] (drop at bs)
+  pub series : Series item items [] (drop at bs)
   pub same : total ≡ every f items
 
 pub record Walk {A L : Type 0} (item : ℕ → List ℕ → Option A) (f : A → Bool) (bs : List ℕ) (o : Option L) (total : L → Bool) (at : ℕ) : Type 0 where
   pub left : For o (λ x. Left item f bs at (total x))
 
 module _ {A L : Type 0} {item : ℕ → List ℕ → Option A} {f : A → Bool} {bs : List ℕ} {o : Option L} {total : L → Bool} where
-  pub walk-start : ((x : L) → o ≡ some x → (l : List A) × (Run item l [] bs) × (total x ≡ every f l)) → Walk item f bs o total 0
-  walk-start h = record { left = λ x e. let t = h x e in record { items = t .0; run = t .1; same = t .2 } }
+  pub walk-start : ((x : L) → o ≡ some x → (l : List A) × (Series item l [] bs) × (total x ≡ every f l)) → Walk item f bs o total 0
+  walk-start h = record { left = λ x e. let t = h x e in record { items = t .0; series = t .1; same = t .2 } }
 
   module _ {at : ℕ} (w : Walk item f bs o total at) where
     pub walk-done : length bs ≤ at → For o (λ x. true ≡ total x)
     unfolding every
     walk-done h x e =
         let l = w .left x e in
-        sym (l .same ∙ ap (every f) (run-none item bs at (l .items) (l .run) h))
+        sym (l .same ∙ ap (every f) (series-none item bs at (l .items) (l .series) h))
 
     pub walk-cut : at < length bs → field (drop at bs) ≡ none → For o (λ x. false ≡ total x)
-    walk-cut h k x e = let l = w .left x e in absurd (run-there item bs at (l .items) (l .run) h k)
+    walk-cut h k x e = let l = w .left x e in absurd (series-there item bs at (l .items) (l .series) h k)
 
     module _ {tag start end : ℕ} {part : List ℕ} {r : Bool} (h : at < length bs) (k : Lies bs at tag start end) (p : part ≡ take (end - start) (drop start bs)) (q : For (item tag part) (λ a. r ≡ f a)) where
       pub walk-next : r ≡ true → Walk item f bs o total end
@@ -150,10 +150,10 @@ module _ {A L : Type 0} {item : ℕ → List ℕ → Option A} {f : A → Bool} 
       walk-next g = record {
         left = λ x e.
             let l = w .left x e in
-            let t = run-some item bs at (l .items) (l .run) h tag start end k in
+            let t = series-some item bs at (l .items) (l .series) h tag start end k in
             record {
               items = t .others;
-              run = t .run;
+              series = t .series;
               same = l .same ∙ ap (every f) (t .parts) ∙ both-yes (f (t .first)) (every f (t .others)) (sym (q (t .first) (ap (item tag) p ∙ t .read)) ∙ g);
             };
       }
@@ -162,7 +162,7 @@ module _ {A L : Type 0} {item : ℕ → List ℕ → Option A} {f : A → Bool} 
       unfolding every
       walk-stop g x e =
           let l = w .left x e in
-          let t = run-some item bs at (l .items) (l .run) h tag start end k in
+          let t = series-some item bs at (l .items) (l .series) h tag start end k in
           sym (l .same ∙ ap (every f) (t .parts) ∙ both-no (f (t .first)) (every f (t .others)) (sym (q (t .first) (ap (item tag) p ∙ t .read)) ∙ g))
 
 -- The field of a number.
@@ -223,8 +223,8 @@ module _ (bs : List ℕ) where
       go End i e = let z : _≡_ {A = ℕ} 0 1 = cc in absurd (omega arith)
 
   -- a field of a row, with its place
-  row-field : {A : Type 0} (item : ℕ → List ℕ → Option A) (a : A) (l : List A) (at : ℕ) → Run item (a ∷ l) [] (drop at bs) → (tag : ℕ) × (start : ℕ) × (end : ℕ) × (fieldAt bs at ≡ Field tag start end) × (item tag (take (end - start) (drop start bs)) ≡ some a) × (Run item l [] (drop end bs))
-  unfolding Run
+  row-field : {A : Type 0} (item : ℕ → List ℕ → Option A) (a : A) (l : List A) (at : ℕ) → Series item (a ∷ l) [] (drop at bs) → (tag : ℕ) × (start : ℕ) × (end : ℕ) × (fieldAt bs at ≡ Field tag start end) × (item tag (take (end - start) (drop start bs)) ≡ some a) × (Series item l [] (drop end bs))
+  unfolding Series
   row-field item a l at r =
       let i = field-is (drop at bs) (r .whole) (r .there) .long in
       let d = length-drop at bs in
@@ -234,16 +234,16 @@ module _ (bs : List ℕ) where
       let same : r .whole ≡ k .whole = some-inj _ _ (sym (r .there) ∙ k .is) in
       (r .whole .tag, at + 3, at + 3 + length (r .whole .payload), sym f, rw (← (k .payload), ← same) (r .read), rw (← (k .rest), ← same) (r .more))
 
-  nth-run : {A : Type 0} (item : ℕ → List ℕ → Option A) (l : List A) (at n : ℕ) (d : A) → Run item l [] (drop at bs) → n < length l → item (tagOf (nthField n bs at)) (partOf bs (nthField n bs at)) ≡ some (getD l n d)
+  nth-series : {A : Type 0} (item : ℕ → List ℕ → Option A) (l : List A) (at n : ℕ) (d : A) → Series item l [] (drop at bs) → n < length l → item (tagOf (nthField n bs at)) (partOf bs (nthField n bs at)) ≡ some (getD l n d)
   unfolding nthField onward
-  nth-run item [] at n d r h = absurd (omega arith)
-  nth-run item (a ∷ l) at zero d r h =
+  nth-series item [] at n d r h = absurd (omega arith)
+  nth-series item (a ∷ l) at zero d r h =
       let t = row-field item a l at r in
       rw (tag-field _ _ _ _ (t .3), part-field bs _ _ _ _ (t .3)) (t .4)
-  nth-run item (a ∷ l) at (suc n) d r h =
+  nth-series item (a ∷ l) at (suc n) d r h =
       let t = row-field item a l at r in
-      rw (t .3) (nth-run item l (t .2) n d (t .5) (omega arith))
+      rw (t .3) (nth-series item l (t .2) n d (t .5) (omega arith))
 
   -- the item of a number is read from the field of that number
-  pub nth-item : {A : Type 0} (item : ℕ → List ℕ → Option A) (l : List A) (n : ℕ) (d : A) → Run item l [] bs → n < length l → item (nthTag n bs) (nthPart n bs) ≡ some (getD l n d)
-  nth-item item l n d r h = nth-run item l 0 n d r h
+  pub nth-item : {A : Type 0} (item : ℕ → List ℕ → Option A) (l : List A) (n : ℕ) (d : A) → Series item l [] bs → n < length l → item (nthTag n bs) (nthPart n bs) ≡ some (getD l n d)
+  nth-item item l n d r h = nth-series item l 0 n d r h
