@@ -9,7 +9,7 @@ use native.Mathlib.Omega.{arith}
 use borrow.Author.Tests.{ltb-true}
 use lib.ListN.{length, getD, take, replicate, List·getD-map}
 use lib.Dec.{ltb}
-use Rattle.meaning.specs.Basics.{both, every, clauses}
+use Rattle.meaning.specs.Basics.{both, every}
 use Rattle.meaning.specs.Layout.{base, recordLength}
 use Rattle.meaning.specs.Image.{Rule, Program, program, Command}
 use Rattle.meaning.specs.Commands.{State, Out}
@@ -22,6 +22,7 @@ use Rattle.laws.specs.Undoing.{base-numbered}
 use Rattle.demands.specs.Second.{one-outcome}
 use Rattle.demands.specs.Third.{one-count}
 use Rattle.meaning.specs.Laws.Tests.{both-true}
+use Rattle.meaning.specs.Laws.Every.{Every, Every-true}
 use Rattle.laws.specs.Numbers.{bytes-by}
 use Rattle.meaning.specs.declared.Refusal.{Refusal}
 use Rattle.meaning.specs.declared.Refusal.the-variants.{BadForm}
@@ -66,61 +67,34 @@ isBuffer bs = both (every (λ b. ltb b 256) bs) (ltb (length bs) (2 ^ 64))
 buffer : (bs : List ℕ) → isBuffer bs ≡ true → Buffer bs
 buffer bs e = let t = both-true _ _ e in record { bytewise = bytes-by bs (t .0); fits = ltb-true _ _ (t .1) }
 
+buffers : (l : List (List ℕ)) → every isBuffer l ≡ true → Every Buffer l
+buffers = Every-true isBuffer Buffer buffer
+
 -- all of it can be lent
 abbrev pub canBeLent : Lent → Bool
-canBeLent x =
-    clauses
-    (isBuffer (x .nodes)
-    ∷ isBuffer (x .edges)
-    ∷ isBuffer (x .journal)
-    ∷ isBuffer (x .image)
-    ∷ ltb (x .fuel) (2 ^ 32)
-    ∷ isBuffer (x .report)
-    ∷ [])
+canBeLent x = both (ltb (x .fuel) (2 ^ 32)) (every isBuffer (x .nodes ∷ x .edges ∷ x .journal ∷ x .image ∷ x .report ∷ []))
 
 pub lendable : (x : Lent) → canBeLent x ≡ true → Lendable x
-unfolding clauses
 lendable x e =
-    let a = both-true _ _ e in
-    let b = both-true _ _ (a .1) in
-    let c = both-true _ _ (b .1) in
-    let d = both-true _ _ (c .1) in
-    let f = both-true _ _ (d .1) in
-    let g = both-true _ _ (f .1) in
+    let t = both-true _ _ e in
+    let b = buffers _ (t .1) in
     record {
-      nodes = buffer (x .nodes) (a .0);
-      edges = buffer (x .edges) (b .0);
-      journal = buffer (x .journal) (c .0);
-      image = buffer (x .image) (d .0);
-      fuel = ltb-true _ _ (f .0);
-      report = buffer (x .report) (g .0);
+      nodes = b .0;
+      edges = b .1 .0;
+      journal = b .1 .1 .0;
+      image = b .1 .1 .1 .0;
+      fuel = ltb-true _ _ (t .0);
+      report = b .1 .1 .1 .1 .0;
     }
 
 abbrev pub canBeLentUndo : LentUndo → Bool
-canBeLentUndo y =
-    clauses
-    (isBuffer (y .nodes)
-    ∷ isBuffer (y .edges)
-    ∷ isBuffer (y .journal)
-    ∷ ltb (y .count) (2 ^ 32)
-    ∷ isBuffer (y .report)
-    ∷ [])
+canBeLentUndo y = both (ltb (y .count) (2 ^ 32)) (every isBuffer (y .nodes ∷ y .edges ∷ y .journal ∷ y .report ∷ []))
 
 pub lendableUndo : (y : LentUndo) → canBeLentUndo y ≡ true → LendableUndo y
-unfolding clauses
 lendableUndo y e =
-    let a = both-true _ _ e in
-    let b = both-true _ _ (a .1) in
-    let c = both-true _ _ (b .1) in
-    let d = both-true _ _ (c .1) in
-    let f = both-true _ _ (d .1) in
-    record {
-      nodes = buffer (y .nodes) (a .0);
-      edges = buffer (y .edges) (b .0);
-      journal = buffer (y .journal) (c .0);
-      count = ltb-true _ _ (d .0);
-      report = buffer (y .report) (f .0);
-    }
+    let t = both-true _ _ e in
+    let b = buffers _ (t .1) in
+    record { nodes = b .0; edges = b .1 .0; journal = b .1 .1 .0; count = ltb-true _ _ (t .0); report = b .1 .1 .1 .0 }
 
 -- An interpreter that has our undo.
 abbrev pub running : (Lent → Outcome) → Interpreter

@@ -1,6 +1,6 @@
 -- A rule call fails exactly when for none of its listed rules a placement satisfies every matching rule, the dangling condition and
 -- the tests: of the answers of every interpreter that meets demand 2, on an accepted image that is one rule call, with fuel to
--- enter it. `Match` is those six rules. Rests on Demands.
+-- enter it. `Match` is those six rules. Rests on Demands and First.
 use Prim.Native.Nat.{ℕ, _/_, _≤_}
 use mathlib.Core.Path.{_≡_, refl, sym, _∙_, ap, subst}
 use mathlib.Core.Logic.{_↔_}
@@ -15,20 +15,10 @@ use Rattle.meaning.specs.Commands.{State}
 use Rattle.demands.specs.Inference
 use Rattle.demands.specs.Inference.{NoMatch, FirstCalled, stepped, Executes, Does}
 use Rattle.meaning.specs.Calls.{Lent}
-use Rattle.demands.specs.Demands.{Outcome, Interpreter, Lendable, stopAnswer, runRefusedWith, start, outcomeAt, Demand2}
+use Rattle.demands.specs.Demands.{Outcome, Interpreter, Lendable, runRefusedWith, start, outcomeAt, Demand2}
+use Rattle.demands.specs.First.{stop-answer}
 use Rattle.meaning.specs.declared.Layout.{Layout}
-use Rattle.meaning.specs.declared.Stop.{Stop}
-use Rattle.meaning.specs.declared.Stop.the-variants.{OutOfFuel, NoNodeRoom, NoEdgeRoom, NoRecordRoom, LabelTooLarge, EdgeOnFreeNode}
 use Rattle.meaning.specs.declared.End.{End}
-
--- no stop is answered by 1
-stop-two : (w : Stop) → 2 ≤ stopAnswer w
-stop-two OutOfFuel = omega arith
-stop-two NoNodeRoom = omega arith
-stop-two NoEdgeRoom = omega arith
-stop-two NoRecordRoom = omega arith
-stop-two LabelTooLarge = omega arith
-stop-two EdgeOnFreeNode = omega arith
 
 -- the first rule that is called has a match
 has-match : (rules : List Rule) (h : Host) (l : List ℕ) (r : Rule) (p : List ℕ) → FirstCalled rules h l r p → NoMatch rules h l → ⊥
@@ -42,7 +32,7 @@ module _ (L : Layout) (x : Lent) (most room : ℕ) (rules : List Rule) where
   call-answers (Inference.applies {l = l} {s = s} r p g f a v) =
       (λ e. absurd (omega arith), λ n. absurd (has-match rules (s .ledger .host) l r p f n))
   call-answers (Inference.hinders {l = l} {s = s} r p w f a) =
-      (λ e. absurd (omega (arith, stop-two w)), λ n. absurd (has-match rules (s .ledger .host) l r p f n))
+      (λ e. absurd (omega (arith, stop-answer w .1)), λ n. absurd (has-match rules (s .ledger .host) l r p f n))
 
   -- and of one that is met with fuel
   run-answers : {c : Command} {s t : State} {e : End} (l : List ℕ) → c ≡ ruleSet l → 1 ≤ s .fuel → Executes most room rules c s e t

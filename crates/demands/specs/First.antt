@@ -27,7 +27,7 @@ use Rattle.meaning.specs.declared.End.the-variants.{Done, Failed, Broke, Stoppe
 
 -- What started leaves has an answer from 0 to 7, and gives all back unless it is 0.
 
-pub stop-answer : (w : Stop) → (In (stopAnswer w) runTable) × (1 ≤ stopAnswer w) × (stopAnswer w ≤ 7)
+pub stop-answer : (w : Stop) → (In (stopAnswer w) runTable) × (2 ≤ stopAnswer w) × (stopAnswer w ≤ 7)
 unfolding absent both
 stop-answer OutOfFuel = (refl, omega arith, omega arith)
 stop-answer NoNodeRoom = (refl, omega arith, omega arith)

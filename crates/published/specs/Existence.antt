@@ -1,7 +1,7 @@
 -- Every match has a result: integers have no bound, so that every sum and difference has a value and every label an instance. A
 -- rule set therefore fails exactly where none of its rules has a match (`set-fails-exactly`). The result has the nodes and edges
 -- of D under even names, and those of R under odd ones; OneResult says that every other is isomorphic to it.
--- Rests on RuleApplication, OneResult and Semantics.
+-- Rests on RuleApplication, OneResult and Endings.
 use Prim.Native.Nat.{ℕ, _+_, _*_, _/_, _%_, _<_}
 use mathlib.Core.Path.{_≡_, refl, sym, _∙_, ap}
 use mathlib.Core.Logic.{_⊎_, inl, inr, _↔_}
@@ -25,8 +25,8 @@ use Rattle.published.specs.Integers.{atom}
 use Rattle.published.specs.Graphs.{NodeLabel, Graph}
 use Rattle.published.specs.RuleApplication.{nodeOf, edgeOf, Premorphism, integer, Instance, StaysNode, StaysEdge, Union, markFrom, placed, Constructed, Matches, Applies, Applied}
 use Rattle.published.specs.OneResult.{value-of}
-use Rattle.published.specs.Semantics.{⟦_⟧, Configuration, call, result, failure, graph, fails, [call₁], [call₂], last, next}
-use Rattle.published.specs.Semantics
+use Rattle.published.specs.Semantics.{⟦_⟧, call, graph, fails, [call₁], [call₂], last, next}
+use Rattle.published.specs.Endings.{result-stays, failure-stays}
 
 -- Every label has an instance.
 
@@ -236,26 +236,11 @@ module _ (r : Rule) (holds : ruleHolds r ≡ true) (G : Graph) (m : Matches r G)
 
 -- A rule set fails exactly where none of its rules has a match.
 
--- no step leads on from a graph, or from a failure
-result-step : {K : Graph} {b : Configuration Graph} → Semantics._⟶_ Graph Applied (result K) b → ⊥
-result-step s = elim s [ ]
-
-result-stays : {K : Graph} {b : Configuration Graph} → Semantics._⟶⁺_ Graph Applied (result K) b → ⊥
-result-stays (last s) = result-step s
-result-stays (next s p) = result-step s
-
-failure-step : {b : Configuration Graph} → Semantics._⟶_ Graph Applied failure b → ⊥
-failure-step s = elim s [ ]
-
-failure-stays : {b : Configuration Graph} → Semantics._⟶⁺_ Graph Applied failure b → ⊥
-failure-stays (last s) = failure-step s
-failure-stays (next s p) = failure-step s
-
 -- a graph that a rule set comes to is what one of its rules gives
 pub set-applied : (R : List Rule) (G H : Graph) → ⟦_⟧ Graph Applied (call R) G (graph H) → Applied R G H
 set-applied R G H (last ([call₁] a)) = a
-set-applied R G H (next ([call₁] a) p) = absurd (result-stays p)
-set-applied R G H (next ([call₂] n) p) = absurd (failure-stays p)
+set-applied R G H (next ([call₁] a) p) = absurd (result-stays Graph Applied p)
+set-applied R G H (next ([call₂] n) p) = absurd (failure-stays Graph Applied p)
 
 module _ (R : List Rule) (holds : (i : ℕ) → i < length R → ruleHolds (ruleAt R i) ≡ true) (G : Graph) where
   -- a rule of the set that has a match gives a graph
@@ -266,7 +251,7 @@ module _ (R : List Rule) (holds : (i : ℕ) → i < length R → ruleHolds (rule
 
   failed-none : ⟦_⟧ Graph Applied (call R) G fails → (H : Graph) → Applied R G H → ⊥
   failed-none (last ([call₂] n)) = n
-  failed-none (next ([call₁] a) p) = absurd (result-stays p)
+  failed-none (next ([call₁] a) p) = absurd (result-stays Graph Applied p)
   failed-none (next ([call₂] n) p) = n
 
   pub set-fails-exactly : ⟦_⟧ Graph Applied (call R) G fails ↔ ((i : ℕ) → i < length R → Matches (ruleAt R i) G → ⊥)

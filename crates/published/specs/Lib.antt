@@ -8,6 +8,7 @@ pub mod SameMatch
 pub mod Application
 pub mod HostResult
 pub mod Semantics
+pub mod Endings
 pub mod Existence
 pub mod Steps
 pub mod Following
@@ -25,7 +26,6 @@ pub mod OneOut
 pub mod Determined
 pub mod Unchanged
 pub mod Symmetric
-pub mod Endings
 pub mod Diamond
 pub mod OnlyOutcome
 pub mod Instances

@@ -15,9 +15,9 @@ use Rattle.meaning.specs.Applying.{Ledger, applied, apply}
 use Rattle.meaning.specs.Commands.{State, Out, ruleAt, exec}
 use Rattle.demands.specs.Inference.{NoMatch, FirstCalled, Executes}
 use Rattle.meaning.specs.Calls.{Lent}
-use Rattle.demands.specs.Demands.{Outcome, Interpreter, Lendable, stopAnswer, runRefusedWith, start, Means, outcomeAt, Demand1, Demand2}
+use Rattle.demands.specs.Demands.{Outcome, Interpreter, Lendable, runRefusedWith, start, Means, outcomeAt, Demand1, Demand2}
 use Rattle.demands.specs.Ours.{Good, good}
-use Rattle.demands.specs.First.{refusal-answer}
+use Rattle.demands.specs.First.{stop-answer, refusal-answer}
 use Rattle.laws.specs.Pieces.{fits-length}
 use Rattle.laws.specs.Hosts.{LegalHost, read-write-nodes, read-write-edges}
 use Rattle.laws.specs.Commands.{exec-unbroken}
@@ -28,8 +28,6 @@ use Rattle.laws.specs.LegalImage.{program-legal}
 use Rattle.demands.specs.Laws.Inference.{exec-executes, executes-exec}
 use Rattle.laws.specs.Undoing.{Numbered, start-legal}
 use Rattle.meaning.specs.declared.Layout.{Layout}
-use Rattle.meaning.specs.declared.Stop.{Stop}
-use Rattle.meaning.specs.declared.Stop.the-variants.{OutOfFuel, NoNodeRoom, NoEdgeRoom, NoRecordRoom, LabelTooLarge, EdgeOnFreeNode}
 use Rattle.meaning.specs.declared.End.{End}
 use Rattle.meaning.specs.declared.End.the-variants.{Done, Failed, Broke, Stopped}
 use Rattle.published.specs.Semantics
@@ -49,15 +47,6 @@ module _ {ℓ κ} (L : Layout) (Graph : Type ℓ) (Applied : List Rule → Graph
     pub tree : Program
     pub form : program image ≡ some tree
     pub outcome : ⟦_⟧ Graph Applied (comSeq (tree .rules) (tree .main)) (held L read nodes edges) X
-
--- no stop is answered by 0 or 1
-stop-two : (w : Stop) → 2 ≤ stopAnswer w
-stop-two OutOfFuel = omega arith
-stop-two NoNodeRoom = omega arith
-stop-two NoEdgeRoom = omega arith
-stop-two NoRecordRoom = omega arith
-stop-two LabelTooLarge = omega arith
-stop-two EdgeOnFreeNode = omega arith
 
 module _ {ℓ κ} (L : Layout) (Graph : Type ℓ) (Applied : List Rule → Graph → Graph → Type κ) (read : Host → Graph)
     (hit : (m n : ℕ) → m ≤ 256 ^ L .width → n ≤ 256 ^ L .width → (room : ℕ) (rules : List Rule) → LegalRules rules
@@ -151,7 +140,7 @@ module _ {ℓ κ} (L : Layout) (Graph : Type ℓ) (Applied : List Rule → Graph
             }
         result-at Failed t r v z = let w : _≡_ {A = ℕ} 1 0 = rw v at z in absurd (omega arith)
         result-at Broke t r v z = let w : _≡_ {A = ℕ} 1 0 = rw v at z in absurd (omega arith)
-        result-at (Stopped w) t r v z = absurd (omega (arith, stop-two w, rw v at z))
+        result-at (Stopped w) t r v z = absurd (omega (arith, stop-answer w .1, rw v at z))
 
         legal-at : (e : End) (t : State) → Means L x (a .tree) e t → I .run x ≡ outcomeAt L x e t → I .run x .answer ≡ 0
             → LegalHost L (hostIn L (I .run x .nodes) (I .run x .edges))
@@ -161,7 +150,7 @@ module _ {ℓ κ} (L : Layout) (Graph : Type ℓ) (Applied : List Rule → Graph
             rw (v, read-write-nodes L h q, read-write-edges L h q) q
         legal-at Failed t r v z = let w : _≡_ {A = ℕ} 1 0 = rw v at z in absurd (omega arith)
         legal-at Broke t r v z = let w : _≡_ {A = ℕ} 1 0 = rw v at z in absurd (omega arith)
-        legal-at (Stopped w) t r v z = absurd (omega (arith, stop-two w, rw v at z))
+        legal-at (Stopped w) t r v z = absurd (omega (arith, stop-answer w .1, rw v at z))
 
         fail-at : (e : End) (t : State) → Means L x (a .tree) e t → I .run x ≡ outcomeAt L x e t → I .run x .answer ≡ 1 → Comes fails
         unfolding placement
@@ -169,7 +158,7 @@ module _ {ℓ κ} (L : Layout) (Graph : Type ℓ) (Applied : List Rule → Graph
         fail-at Failed t r v z = record { tree = a .tree; form = a .form; outcome = whole Failed t r .1 }
         fail-at Broke t r v z =
             absurd (unbroken nodeSlots edgeSlots fewNodes fewEdges room (a .tree .rules) legal (a .tree .main) (start L x) t (a .placement) r)
-        fail-at (Stopped w) t r v z = absurd (omega (arith, stop-two w, rw v at z))
+        fail-at (Stopped w) t r v z = absurd (omega (arith, stop-answer w .1, rw v at z))
 
       -- where it answers 0, the graph that it leaves is a possible result of the program on the graph that came in
       pub result-published : I .run x .answer ≡ 0 → Comes (graph leftGraph)
