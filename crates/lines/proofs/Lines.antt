@@ -1,6 +1,6 @@
 -- The words of a line, one writer after the other, are the line; and the lines, one after the other, are the outcome.
 -- Rests on specs/Lines, specs/Rooms and writing's Laws/Rows.
-use mathlib.Core.Path.{_≡_, sym, _∙_}
+use mathlib.Core.Path.{_≡_, sym}
 use mathlib.Core.List.{List, [], _∷_, append-nil, map}
 use Prim.Native.Nat.{ℕ, _+_, _≤_}
 use native.Mathlib.Omega.{arith}
@@ -12,7 +12,7 @@ use Rattle.meaning.specs.Laws.Tests.{choose-eq, choose-ne}
 use Rattle.writing.specs.Words.{letters, lineFeed, space, decimal, signed, markName, rootName, numberSize, markSize, rootSize, labelSize}
 use Rattle.writing.specs.Lines.{onward}
 use Rattle.writing.specs.Text.{Adds}
-use Rattle.writing.specs.Laws.Rows.{then, word}
+use Rattle.writing.specs.Laws.Rows.{within, saying, then, word}
 use Rattle.lines.specs.Lines.{answerLine, nodeLine, edgeLine, liveLines, graphLines, outcome}
 use Rattle.lines.specs.Rooms.{answerSize, nodeSize, edgeSize, listingRoom}
 
@@ -66,18 +66,16 @@ module _ {b0 b1 b2 b3 b4 b5 : List ℕ} {at p1 p2 p3 p4 p5 : ℕ} where
 module _ (L : Layout) (answer : ℕ) (report nodes edges : List ℕ) {b0 b1 : List ℕ} {p1 : ℕ}
     (a : Adds answerSize (answerLine answer (number (take 4 report)) (number (take 4 (drop 4 report)))) b0 0 b1 p1)
   where
-    pub outcome-other : (answer ≡ 0 → ⊥) → (take p1 b1 ≡ outcome L answer report nodes edges) × (p1 ≤ listingRoom)
+    pub outcome-other : (answer ≡ 0 → ⊥) → Adds listingRoom (outcome L answer report nodes edges) b0 0 b1 p1
     unfolding outcome
-    outcome-other e = (
-      rw (choose-ne answer 0 (graphLines L nodes edges) [] e)
-          (a .written ∙ sym (append-nil (answerLine answer (number (take 4 report)) (number (take 4 (drop 4 report)))))),
-      omega (arith, a .short),
-    )
+    outcome-other e =
+        rw (choose-ne answer 0 (graphLines L nodes edges) [] e)
+        (within answerSize listingRoom (omega arith)
+        (saying _ _ (sym (append-nil (answerLine answer (number (take 4 report)) (number (take 4 (drop 4 report)))))) a))
 
     pub outcome-result : {b2 b3 : List ℕ} {p2 p3 m n : ℕ} → answer ≡ 0 → Adds m (liveLines nodeLine 0 (readNodes L nodes)) b1 p1 b2 p2
         → Adds n (liveLines edgeLine 0 (readEdges L edges)) b2 p2 b3 p3 → answerSize + m + n ≤ listingRoom
-        → (take p3 b3 ≡ outcome L answer report nodes edges) × (p3 ≤ listingRoom)
+        → Adds listingRoom (outcome L answer report nodes edges) b0 0 b3 p3
     unfolding outcome
-    outcome-result e b c h =
-        let t = then a (then b c) in
-        (rw (choose-eq answer 0 (graphLines L nodes edges) [] e) (t .written), omega (arith, t .short))
+    outcome-result {m = m} {n = n} e b c h =
+        rw (choose-eq answer 0 (graphLines L nodes edges) [] e) (within (answerSize + (m + n)) listingRoom (omega arith) (then a (then b c)))

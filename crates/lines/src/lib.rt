@@ -143,7 +143,7 @@ pub fn put_outcome(
     requires { ⌜ listingRoom ≤ length (now out) ⌝ }
     requires { ⌜ length (now report) ≡ reportSize ⌝ }
     requires { ⌜ (answer ≡ 0 → Ready l (now nodes) (now edges)) ⌝ }
-    ensures { λ r. ⌜ (take r (now (out .exit)) ≡ outcome l answer (now (report .entry)) (now (nodes .entry)) (now (edges .entry))) × (r ≤ listingRoom) ⌝ }
+    ensures { λ r. ⌜ Adds listingRoom (outcome l answer (now (report .entry)) (now (nodes .entry)) (now (edges .entry))) (now (out .entry)) 0 (now (out .exit)) r ⌝ }
 {
     let at = put_answer(out, answer, report);
     if answer == 0 {

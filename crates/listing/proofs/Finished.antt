@@ -5,7 +5,7 @@ use mathlib.Core.Option.{Option, some, none}
 use mathlib.Core.List.{List}
 use Prim.Native.Nat.{ℕ, _*_, _≤_}
 use native.Mathlib.Omega.{arith}
-use lib.ListN.{length, take, replicate}
+use lib.ListN.{length, replicate}
 use Rattle.meaning.specs.Layout.{base, nodeLength, edgeLength, recordLength, readNode, readEdge}
 use Rattle.meaning.specs.declared.Layout.{Layout}
 use Rattle.meaning.specs.Image.{program}
@@ -74,33 +74,33 @@ module _ (nodes edges journal image : List ℕ) (fuel : ℕ) (report : List ℕ)
 
 -- The listing is written.
 
-module _ {out : List ℕ} {r : ℕ} where
+module _ {before out : List ℕ} {r : ℕ} where
   pub run-listed : (nodes edges journal program : List ℕ) (fuel : ℕ) (L : Layout) (answer : ℕ) (n e j report : List ℕ) → L ≡ base
       → Yields (run base (lending nodes edges journal program fuel (replicate reportSize 0))) answer n e j report
-      → (take r out ≡ outcome L answer report n e) × (r ≤ listingRoom) → listingRoom ≤ length out
-      → Lists (runOutcome nodes edges journal program fuel) out r
+      → Adds listingRoom (outcome L answer report n e) before 0 out r → listingRoom ≤ length out
+      → Lists (runOutcome nodes edges journal program fuel) before out r
   unfolding runOutcome
   run-listed nodes edges journal program fuel L answer n e j report i x w h =
       lists (runOutcome nodes edges journal program fuel) listingRoom
-      (rw (← (x .numbered), ← (x .reportReturned), ← (x .nodesReturned), ← (x .edgesReturned), ← i) (w .0)) (w .1) h
+      (rw (← (x .numbered), ← (x .reportReturned), ← (x .nodesReturned), ← (x .edgesReturned), ← i) w) h
 
   pub input-listed : (x : Input) (nodes edges journal program : List ℕ) (fuel count : ℕ)
       → nodes ≡ x .nodes → edges ≡ x .edges → count ≡ x .records → journal ≡ replicate (recordLength base * count) 0 → fuel ≡ x .fuel
-      → program ≡ x .program → Lists (runOutcome nodes edges journal program fuel) out r → Lists (listed (some x)) out r
+      → program ≡ x .program → Lists (runOutcome nodes edges journal program fuel) before out r → Lists (listed (some x)) before out r
   unfolding listed
   input-listed x nodes edges journal program fuel count a b c d f p w =
       let k : recordLength base * count ≡ count * recordLength base = omega arith in
       rw (← a, ← b, ← c, ← f, ← p, ← k, ← d) w
 
   module _ (bs : List ℕ) (x : Read) (w : Reading bs x) where
-    pub image-listed : (e : Ends) → x ≡ accepting e → Lists (listed (inputIn bs (accepting e))) out r → Lists (listing bs) out r
+    pub image-listed : (e : Ends) → x ≡ accepting e → Lists (listed (inputIn bs (accepting e))) before out r → Lists (listing bs) before out r
     unfolding listing
     image-listed e q l = rw (← (w .same), q) l
 
-    pub image-refused : {before : List ℕ} {most : ℕ} → x ≡ refusing → Adds most (letters "input refused\n") before 0 out r → most ≤ listingRoom
-        → listingRoom ≤ length out → Lists (listing bs) out r
+    pub image-refused : {most : ℕ} → x ≡ refusing → Adds most (letters "input refused\n") before 0 out r → most ≤ listingRoom
+        → listingRoom ≤ length out → Lists (listing bs) before out r
     unfolding listing listed
-    image-refused q a m h = rw (← (w .same), q) (lists (letters "input refused\n") listingRoom (a .written) (omega (arith, a .short)) h)
+    image-refused {most} q a m h = rw (← (w .same), q) (lists (letters "input refused\n") most a (omega arith))
 
 pub reading-inside : (bs : List ℕ) (x : Read) (e : Ends) → x ≡ accepting e → Reading bs x → Inside bs e
 reading-inside bs x e q w = rw q at (w .within)

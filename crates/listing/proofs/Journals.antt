@@ -1,4 +1,4 @@
--- The empty journal, and its front. Rests on Rooms.
+-- Arrays of zeros, and the front of the empty journal. Rests on Rooms.
 use mathlib.Core.Path.{_≡_, sym, _∙_}
 use mathlib.Core.List.{List}
 use Prim.Native.Nat.{ℕ, _≤_}

@@ -1,4 +1,4 @@
--- The journal that a listing's run is lent: its most bytes, and zeros. Rests on the meaning's Layout.
+-- The bytes of the longest journal that a listing's run is lent, and arrays of zeros. Rests on the meaning's Layout.
 use mathlib.Core.Path.{_≡_}
 use mathlib.Core.List.{List}
 use Prim.Native.Nat.{ℕ, _*_}

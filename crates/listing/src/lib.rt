@@ -1,11 +1,9 @@
 // The listing of a run, from a run image to text in a lent buffer. The definitions that the contracts cite are in specs/.
-ghost use mathlib.Core.Path.{_≡_};
-ghost use Prim.Native.Nat.{_*_, _≤_};
+ghost use Prim.Native.Nat.{_≤_};
 ghost use lib.ListN.{length};
 ghost use Rattle.writing.specs.Text.{Lists};
 ghost use Rattle.run_input.specs.Reading.{Inside, inputIn};
 ghost use Rattle.run_input.specs.declared.Read.{Read};
-ghost use Rattle.lines.specs.Lines.{outcome};
 ghost use Rattle.listing.specs.Listing.{runOutcome, listed, listing};
 ghost use Rattle.lines.specs.Rooms.{listingRoom};
 ghost use Rattle.listing.specs.Rooms.{fullJournal, Zeros};
@@ -36,7 +34,7 @@ fn list_run(
     out: &mut [u8],
 ) -> usize
     requires { ⌜ listingRoom ≤ length (now out) ⌝ }
-    ensures { λ r. ⌜ Lists (runOutcome (now (nodes .entry)) (now (edges .entry)) (now (journal .entry)) (now (program .entry)) fuel) (now (out .exit)) r ⌝ }
+    ensures { λ r. ⌜ Lists (runOutcome (now (nodes .entry)) (now (edges .entry)) (now (journal .entry)) (now (program .entry)) fuel) (now (out .entry)) (now (out .exit)) r ⌝ }
 {
     let mut report = [0u8; Room::REPORT];
     let answer = interpreter::nhiemavut_run(nodes, edges, journal, program, fuel, &mut report);
@@ -54,7 +52,7 @@ fn empty_journal() -> [u8; Room::JOURNAL]
 fn list_parts(image: &[u8], e: Ends, out: &mut [u8]) -> usize
     requires { ⌜ listingRoom ≤ length (now out) ⌝ }
     requires { ⌜ Inside (now image) e ⌝ }
-    ensures { λ r. ⌜ Lists (listed (inputIn (now (image .entry)) (Read.Accepted e))) (now (out .exit)) r ⌝ }
+    ensures { λ r. ⌜ Lists (listed (inputIn (now (image .entry)) (Read.Accepted e))) (now (out .entry)) (now (out .exit)) r ⌝ }
 {
     let mut nodes = io::large_buffer();
     let mut edges = io::large_buffer();
@@ -74,9 +72,9 @@ fn list_parts(image: &[u8], e: Ends, out: &mut [u8]) -> usize
     )
 }
 
-// Room for every listing.
+// Room for every listing, all zero.
 pub fn buffer() -> [u8; Room::LISTING]
-    ensures { λ r. ⌜ listingRoom ≡ length r ⌝ }
+    ensures { λ r. ⌜ Zeros listingRoom r ⌝ }
 {
     [0; Room::LISTING]
 }
@@ -84,7 +82,7 @@ pub fn buffer() -> [u8; Room::LISTING]
 // Lists the run of a run image in a buffer, and says how long the listing is. The buffer has room for every listing.
 pub fn list_image(image: &[u8], out: &mut [u8]) -> usize
     requires { ⌜ listingRoom ≤ length (now out) ⌝ }
-    ensures { λ r. ⌜ Lists (listing (now (image .entry))) (now (out .exit)) r ⌝ }
+    ensures { λ r. ⌜ Lists (listing (now (image .entry))) (now (out .entry)) (now (out .exit)) r ⌝ }
 {
     let input = run_input::read_input(image);
     match input {

@@ -27,7 +27,7 @@ put-slot-requires c κs =
     let s = c .before .before .before .before .before .before .before in
     let slots = slotsIn (s .args .l) (s .args .nodes .now) (s .args .edges .now) (s .args .table) in
     let loop = c .before .before .loop in
-    (s .pre .0, (omega (arith, c .before .before .before .slots-in .ensures), omega (arith, line-room (s .args .table) (loop .x) slots (omega (arith, c .before .before .before .slots-in .ensures)), loop .inv .1 .short, loop .inv .1 .same, s .pre .1)))
+    (s .pre .0, (omega (arith, c .before .before .before .slots-in .ensures), omega (arith, line-room (s .args .table) (loop .x) slots (omega (arith, c .before .before .before .slots-in .ensures)), loop .inv .1 .adds .short, loop .inv .1 .same, s .pre .1)))
 
 add-x : tie.Need-add-x Inv-loop μ-loop
 add-x c = search needs

@@ -1,16 +1,16 @@
 -- `put` meets its contract. The loop's invariant: the buffer has the first k bytes of the text at the place.
-use mathlib.Core.List.{_++_}
 use mathlib.Core.Path.{_≡_, refl}
 use Prim.Native.Nat.{_+_, _-_, _≤_}
 use native.Mathlib.Omega.{arith}
 use borrow.Author.Needs.{needs}
 use lib.ListN.{length, take, length-set}
+use Rattle.writing.specs.Text.{Adds}
 use Rattle.writing.proofs.Bytes.{put-none, put-more, put-all}
 use Rattle.writing.proofs.put.Statement.{statement}
 use Rattle.writing.proofs.put.Tie as tie
 
 abbrev Inv-loop : tie.InvT-loop
-Inv-loop out₀ at text k₀ out k = (k ≤ length text) × (length out ≡ length out₀) × (take (at + k) out ≡ take at out₀ ++ take k text)
+Inv-loop out₀ at text k₀ out k = (k ≤ length text) × (length out ≡ length out₀) × Adds k (take k text) out₀ at out (at + k)
 
 abbrev μ-loop : tie.MeasureT-loop
 μ-loop out₀ at text k₀ out k = length text - k

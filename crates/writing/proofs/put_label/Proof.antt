@@ -34,7 +34,7 @@ array-read-put-atom c =
 put-atom-requires : tie.Need-put-atom-requires Inv-loop μ-loop
 put-atom-requires c κs =
     let loop = c .before .before .loop in
-    omega (arith, loop .inv .1 .short, loop .inv .1 .same, c .before .before .before .before .before .pre .0 .few)
+    omega (arith, loop .inv .1 .adds .short, loop .inv .1 .same, c .before .before .before .before .before .pre .0 .few)
 
 add-j : tie.Need-add-j Inv-loop μ-loop
 add-j c = omega (arith, c .before .before .before .before .before .before .before .before .pre .0 .few)
@@ -54,7 +54,7 @@ slice-aggregate-put c = search needs
 put-requires : tie.Need-put-requires Inv-loop μ-loop
 put-requires c κs =
     let loop = c .before .before .before .loop in
-    omega (arith, loop .inv .1 .short, loop .inv .1 .same, c .before .before .before .before .before .before .pre .0 .few)
+    omega (arith, loop .inv .1 .adds .short, loop .inv .1 .same, c .before .before .before .before .before .before .pre .0 .few)
 
 same-length : tie.Need-same-length Inv-loop μ-loop
 same-length c = search needs
