@@ -5,23 +5,23 @@ use mathlib.Core.List.{List, [], _∷_, _++_, map, map-append, reverse-append, a
 use mathlib.Core.Bool.{Bool, true, false}
 use mathlib.Core.Logic.{_⊎_, inl, inr}
 use native.Mathlib.Omega.{arith}
-use native.Mathlib.Nat.{add-mul}
+use native.Mathlib.Nat.{add-mul, suc-mul, mul-le-mul-right}
 use borrow.Author.Tests.{ne-eqb, le-leb, lt-leb}
 use borrow.Rule.Slice.PartMut.{putMid}
 use lib.Dec.{eqb, ltb}
 use lib.ListN.{length, getD, set, take, drop, replicate, length-append, length-set, length-take, length-drop, length-replicate}
-use lib.Seq.{drop-cons, drop-drop}
+use lib.Seq.{drop-cons, drop-drop, drop-append-add}
 use Rattle.meaning.specs.Basics.{both, either, clauses, every, zeros, padded}
 use Rattle.meaning.specs.Numbers.{bytes}
 use Rattle.meaning.specs.Layout.{Sized, Tables, ofNode, ofEdge, put, undone, nodeLength, edgeLength, recordLength, pieces, cut, slotOf, readRecord, keepsRecord}
 use Rattle.meaning.specs.Calls.{keepsRecords}
 use Rattle.meaning.specs.Laws.Tests.{both-yes, both-no, both-last, every-true, choose-eq, choose-ne}
 use Rattle.laws.specs.Numbers.{length-bytes}
-use Rattle.laws.specs.Pieces.{length-pieces, getD-pieces, pieces-suc}
+use Rattle.laws.specs.Pieces.{length-pieces, getD-pieces, pieces-suc, stored, length-stored, slot-within}
 use Rattle.laws.specs.Records.{keepsRecord-true}
 use Rattle.meaning.specs.declared.Layout.{Layout}
 use Rattle.slots.specs.Parts.{put-mid, zeros-split}
-use Rattle.journal.specs.Journal.{tablesOf, recordsFrom, putBack}
+use Rattle.journal.specs.Journal.{tablesOf, behindSlots, recordsFrom, putBack}
 
 -- Writing one.
 
@@ -144,6 +144,22 @@ module _ (L : Layout) (b : List ℕ) where
       rw (choose-ne (getD b 0 0) 1 (ofNode (slotOf L b) (take (nodeLength L) (drop (2 * L .width) b))) (ofEdge (slotOf L b) (take (edgeLength L) (drop (2 * L .width) b))) k)
       (ap (λ (l : List (List ℕ)). record { nodes = cut (nodeLength L) nodes; edges = l })
       (ap (λ (n : ℕ). cut n edges′) (sym w) ∙ h ∙ rw (e, f, q, w)))
+
+-- a slot that is stored leaves what stands behind the slots
+pub rest-stored : (w v i : ℕ) (b table table′ : List ℕ) → w ≡ v → i < length table / w → length b ≡ w
+    → table′ ≡ stored w i b table → behindSlots v table′ ≡ behindSlots v table
+rest-stored w v i b table table′ v-is h k e =
+    let n = length table / w * w in
+    let m : i * w + w ≤ n = omega (arith, suc-mul i w, mul-le-mul-right {m = suc i} {n = length table / w} w h) in
+    let front : List ℕ = take (i * w) table ++ b in
+    let l : length front ≡ i * w + w = simp (length-append, length-take) (omega (arith, slot-within w i (length table) h)) in
+    let d : length front + (n - (i * w + w)) ≡ n = omega (arith, l) in
+    let f : i * w + w + (n - (i * w + w)) ≡ n = omega arith in
+    rw (← v-is, e, length-stored w i b table (slot-within w i (length table) h) k)
+    (ap (λ (x : ℕ). drop x (stored w i b table)) (sym d)
+    ∙ drop-append-add front (drop (i * w + w) table) (n - (i * w + w))
+    ∙ drop-drop (n - (i * w + w)) (i * w + w) table
+    ∙ ap (λ (x : ℕ). drop x table) f)
 
 -- Records one after the other.
 

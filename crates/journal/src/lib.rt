@@ -7,7 +7,7 @@ ghost use Rattle.meaning.specs.Basics.{every, zeros};
 ghost use Rattle.meaning.specs.Layout.{Sized, nodeLength, edgeLength, recordLength, recordBytes, put, readRecord, keepsRecord};
 ghost use Rattle.meaning.specs.Calls.{keepsRecords};
 ghost use Rattle.laws.specs.Pieces.{stored};
-ghost use Rattle.journal.specs.Journal.{tablesOf, recordsFrom, putBack, clearedFrom};
+ghost use Rattle.journal.specs.Journal.{tablesOf, RestKept, recordsFrom, putBack, clearedFrom};
 use meaning::Layout;
 
 // A record: its kind, filled with zeros to the width of a slot number, the slot number, the bytes before.
@@ -109,7 +109,7 @@ fn put_back(l: Layout, nodes: &mut [u8], edges: &mut [u8], b: &[u8])
     requires { ⌜ Sized l ⌝ }
     requires { ⌜ length (now b) ≡ recordLength l ⌝ }
     requires { ⌜ keepsRecord l (length (now nodes) / nodeLength l) (length (now edges) / edgeLength l) (now b) ≡ true ⌝ }
-    ensures { λ _. ⌜ tablesOf l (now (nodes .exit)) (now (edges .exit)) ≡ put (readRecord l (now (b .entry))) (tablesOf l (now (nodes .entry)) (now (edges .entry))) ⌝ }
+    ensures { λ _. ⌜ (tablesOf l (now (nodes .exit)) (now (edges .exit)) ≡ put (readRecord l (now (b .entry))) (tablesOf l (now (nodes .entry)) (now (edges .entry)))) × RestKept l (now (nodes .entry)) (now (edges .entry)) (now (nodes .exit)) (now (edges .exit)) ⌝ }
 {
     let width = l.width;
     let start = 2 * width;
@@ -136,7 +136,7 @@ fn put_back_from(
     requires { ⌜ Sized l ⌝ }
     requires { ⌜ (mark ≤ used) × (used ≤ length (now journal) / recordLength l) ⌝ }
     requires { ⌜ every (keepsRecord l (length (now nodes) / nodeLength l) (length (now edges) / edgeLength l)) (recordsFrom l mark used (now journal)) ≡ true ⌝ }
-    ensures { λ _. ⌜ tablesOf l (now (nodes .exit)) (now (edges .exit)) ≡ putBack l mark used (now (journal .entry)) (tablesOf l (now (nodes .entry)) (now (edges .entry))) ⌝ }
+    ensures { λ _. ⌜ (tablesOf l (now (nodes .exit)) (now (edges .exit)) ≡ putBack l mark used (now (journal .entry)) (tablesOf l (now (nodes .entry)) (now (edges .entry)))) × RestKept l (now (nodes .entry)) (now (edges .entry)) (now (nodes .exit)) (now (edges .exit)) ⌝ }
 {
     let w = l.change;
     let mut u = used;
@@ -158,7 +158,7 @@ pub fn undo_to(
     requires { ⌜ Sized l ⌝ }
     requires { ⌜ (mark ≤ used) × (used ≤ length (now journal) / recordLength l) ⌝ }
     requires { ⌜ every (keepsRecord l (length (now nodes) / nodeLength l) (length (now edges) / edgeLength l)) (recordsFrom l mark used (now journal)) ≡ true ⌝ }
-    ensures { λ _. ⌜ (tablesOf l (now (nodes .exit)) (now (edges .exit)) ≡ putBack l mark used (now (journal .entry)) (tablesOf l (now (nodes .entry)) (now (edges .entry)))) × (now (journal .exit) ≡ clearedFrom l mark used (now (journal .entry))) ⌝ }
+    ensures { λ _. ⌜ (tablesOf l (now (nodes .exit)) (now (edges .exit)) ≡ putBack l mark used (now (journal .entry)) (tablesOf l (now (nodes .entry)) (now (edges .entry)))) × (now (journal .exit) ≡ clearedFrom l mark used (now (journal .entry))) × RestKept l (now (nodes .entry)) (now (edges .entry)) (now (nodes .exit)) (now (edges .exit)) ⌝ }
 {
     put_back_from(l, nodes, edges, &journal[..], used, mark);
     slots::clear_slots(journal, l.change, mark, used);

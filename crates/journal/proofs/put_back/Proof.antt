@@ -1,9 +1,11 @@
--- `put_back` meets its contract: a record that keeps to its table names a slot of it.
+-- `put_back` meets its contract: a record that keeps to its table names a slot of it, and storing that leaves what stands behind the slots.
 use Prim.Native.Nat.{_*_}
+use mathlib.Core.Path.{refl}
 use native.Mathlib.Omega.{arith}
 use borrow.Author.Needs.{needs}
 use lib.ListN.{length}
-use Rattle.journal.proofs.Records.{node-there, edge-there, put-node, put-edge}
+use Rattle.meaning.specs.Layout.{nodeLength, edgeLength}
+use Rattle.journal.proofs.Records.{node-there, edge-there, put-node, put-edge, rest-stored}
 use Rattle.slots.specs.Parts.{part-length}
 use Rattle.journal.proofs.put_back.Statement.{statement}
 use Rattle.journal.proofs.put_back.Tie as tie
@@ -53,7 +55,9 @@ returns c =
     let c7 = c5 .before .before in
     let c11 = c7 .before .before .before .before in
     let a = c11 .args in
-    put-node (a .l) (a .b .now) (a .nodes .now) (c .before .before .put-slot .last .0) (a .edges .now) _ _ (c11 .pre .0 .node) (c5 .if1 .taken) (c7 .slot-number .ensures) (c3 .part .ensures) (c .before .before .put-slot .ensures .0)
+    let there = node-there (a .l) (length (a .nodes .now)) (length (a .edges .now)) _ (a .b .now) (c11 .pre .0 .node) (c11 .pre .1 .1) (c5 .if1 .taken) (c7 .slot-number .ensures) in
+    let wide = part-length (2 * a .l .width) (a .l .node) (a .b .now) _ (c3 .part .ensures) (omega (arith, c11 .pre .0 .node, c11 .pre .1 .0)) in
+    (put-node (a .l) (a .b .now) (a .nodes .now) (c .before .before .put-slot .last .0) (a .edges .now) _ _ (c11 .pre .0 .node) (c5 .if1 .taken) (c7 .slot-number .ensures) (c3 .part .ensures) (c .before .before .put-slot .ensures .0), (rest-stored (a .l .node) (nodeLength (a .l)) _ _ (a .nodes .now) _ (c11 .pre .0 .node) there wide (c .before .before .put-slot .ensures .1), refl))
 
 same-length-2 : tie.Need-same-length-2
 same-length-2 c = search needs
@@ -65,7 +69,9 @@ returns-2 c =
     let c7 = c5 .before .before in
     let c11 = c7 .before .before .before .before in
     let a = c11 .args in
-    put-edge (a .l) (a .b .now) (a .nodes .now) (a .edges .now) (c .before .before .put-slot2 .last .0) _ _ (c11 .pre .0 .edge) (c5 .if1 .left) (c7 .slot-number .ensures) (c3 .part2 .ensures) (c .before .before .put-slot2 .ensures .0)
+    let there = edge-there (a .l) (length (a .nodes .now)) (length (a .edges .now)) _ (a .b .now) (c11 .pre .0 .edge) (c11 .pre .1 .1) (c5 .if1 .left) (c7 .slot-number .ensures) in
+    let wide = part-length (2 * a .l .width) (a .l .edge) (a .b .now) _ (c3 .part2 .ensures) (omega (arith, c11 .pre .0 .edge, c11 .pre .1 .0)) in
+    (put-edge (a .l) (a .b .now) (a .nodes .now) (a .edges .now) (c .before .before .put-slot2 .last .0) _ _ (c11 .pre .0 .edge) (c5 .if1 .left) (c7 .slot-number .ensures) (c3 .part2 .ensures) (c .before .before .put-slot2 .ensures .0), (refl, rest-stored (a .l .edge) (edgeLength (a .l)) _ _ (a .edges .now) _ (c11 .pre .0 .edge) there wide (c .before .before .put-slot2 .ensures .1)))
 
 pub put-back-spec : {M : Type 1} → statement M
 put-back-spec =

@@ -1,4 +1,4 @@
--- `put_back_from` meets its contract. The loop's invariant: putting back the records below `u` from here gives what putting back all of them gives from the start.
+-- `put_back_from` meets its contract. The loop's invariant: putting back the records below `u` from here gives what putting back all of them gives from the start, and what stands behind the slots is as it was.
 use Prim.Native.Nat.{_-_, _≤_, _/_, _<_}
 use mathlib.Core.List.{[]}
 use mathlib.Core.Path.{_≡_, refl, sym, ap, _∙_}
@@ -6,19 +6,19 @@ use native.Mathlib.Omega.{arith}
 use borrow.Author.Needs.{needs}
 use lib.ListN.{length, getD}
 use Rattle.meaning.specs.Layout.{keepsRecord, readRecord, cut, put, recordLength, nodeLength, edgeLength}
-use Rattle.journal.specs.Journal.{tablesOf, putBack}
+use Rattle.journal.specs.Journal.{tablesOf, RestKept, putBack}
 use Rattle.journal.proofs.Records.{kept-at, back-more, back-none}
 use Rattle.journal.proofs.put_back_from.Statement.{statement}
 use Rattle.journal.proofs.put_back_from.Tie as tie
 
 abbrev Inv-loop : tie.InvT-loop
-Inv-loop l nodes₀ edges₀ journal used mark w u₀ nodes edges u = (mark ≤ u) × (u ≤ used) × (length nodes ≡ length nodes₀) × (length edges ≡ length edges₀) × (putBack l mark u journal (tablesOf l nodes edges) ≡ putBack l mark used journal (tablesOf l nodes₀ edges₀))
+Inv-loop l nodes₀ edges₀ journal used mark w u₀ nodes edges u = (mark ≤ u) × (u ≤ used) × (length nodes ≡ length nodes₀) × (length edges ≡ length edges₀) × (putBack l mark u journal (tablesOf l nodes edges) ≡ putBack l mark used journal (tablesOf l nodes₀ edges₀)) × RestKept l nodes₀ edges₀ nodes edges
 
 abbrev μ-loop : tie.MeasureT-loop
 μ-loop l nodes₀ edges₀ journal used mark w u₀ nodes edges u = u
 
 loop-holds : tie.Need-loop-holds Inv-loop μ-loop
-loop-holds c = (c .before .before .before .pre .1 .0 .0, omega arith, refl, refl, refl)
+loop-holds c = (c .before .before .before .pre .1 .0 .0, omega arith, refl, refl, refl, (refl, refl))
 
 sub-u : tie.Need-sub-u Inv-loop μ-loop
 sub-u c = search needs
@@ -53,7 +53,7 @@ loop-again c =
     let l = a .l in
     let t = tablesOf l (c9 .loop .nodes) (c9 .loop .edges) in
     let q = c5 .slot .ensures .0 ∙ ap (λ w. getD (cut w (a .journal .now)) (c9 .loop .u - 1) []) (c13 .pre .0 .change) in
-    (omega (arith, c8 .loop-test .taken), omega (arith, c9 .loop .inv .1), c4 .put-back .kept .1 .0 ∙ c9 .loop .inv .2, c4 .put-back .kept .1 .1 .0 ∙ c9 .loop .inv .3, sym (back-more l (a .mark) (a .journal .now) (c9 .loop .u) t (c8 .loop-test .taken) (omega (arith, c13 .pre .1 .0 .1, c9 .loop .inv .1)) ∙ ap (λ b. putBack l (a .mark) (c9 .loop .u - 1) (a .journal .now) (put (readRecord l b) t)) (sym q) ∙ ap (putBack l (a .mark) (c9 .loop .u - 1) (a .journal .now)) (sym (c4 .put-back .ensures))) ∙ c9 .loop .inv .4)
+    (omega (arith, c8 .loop-test .taken), omega (arith, c9 .loop .inv .1), c4 .put-back .kept .1 .0 ∙ c9 .loop .inv .2, c4 .put-back .kept .1 .1 .0 ∙ c9 .loop .inv .3, sym (back-more l (a .mark) (a .journal .now) (c9 .loop .u) t (c8 .loop-test .taken) (omega (arith, c13 .pre .1 .0 .1, c9 .loop .inv .1)) ∙ ap (λ b. putBack l (a .mark) (c9 .loop .u - 1) (a .journal .now) (put (readRecord l b) t)) (sym q) ∙ ap (putBack l (a .mark) (c9 .loop .u - 1) (a .journal .now)) (sym (c4 .put-back .ensures .0))) ∙ c9 .loop .inv .4, (c4 .put-back .ensures .1 .0 ∙ c9 .loop .inv .5 .0, c4 .put-back .ensures .1 .1 ∙ c9 .loop .inv .5 .1))
 
 same-length : tie.Need-same-length Inv-loop μ-loop
 same-length c = c .before .loop .inv .2
@@ -64,7 +64,7 @@ same-length-2 c = c .before .loop .inv .3
 returns : tie.Need-returns Inv-loop μ-loop
 returns c =
     let a = c .before .before .before .before .before .args in
-    sym (back-none (a .l) (a .mark) (a .journal .now) (c .before .loop .u) (tablesOf (a .l) (c .before .loop .nodes) (c .before .loop .edges)) (c .loop-test .left)) ∙ c .before .loop .inv .4
+    (sym (back-none (a .l) (a .mark) (a .journal .now) (c .before .loop .u) (tablesOf (a .l) (c .before .loop .nodes) (c .before .loop .edges)) (c .loop-test .left)) ∙ c .before .loop .inv .4, c .before .loop .inv .5)
 
 pub put-back-from-spec : {M : Type 1} → statement M
 put-back-from-spec =

@@ -25,7 +25,7 @@ returns : tie.Need-returns
 returns c =
     let s = c .before .before .before .before .before .before .before .before .before .before .before .before .before .before .before in
     let a = s .args in
-    (c .before .before .before .before .before .before .before .before .put-back-from .ensures, c .before .before .clear-slots .ensures ∙ ap (λ (w : ℕ). slotsCleared w (a .mark) (a .used) (a .journal .now)) (s .pre .0 .change))
+    (c .before .before .before .before .before .before .before .before .put-back-from .ensures .0, c .before .before .clear-slots .ensures ∙ ap (λ (w : ℕ). slotsCleared w (a .mark) (a .used) (a .journal .now)) (s .pre .0 .change), c .before .before .before .before .before .before .before .before .put-back-from .ensures .1)
 
 pub undo-to-spec : {M : Type 1} → statement M
 undo-to-spec =
