@@ -4,8 +4,8 @@ use mathlib.Core.Logic.{_⊎_, inl, inr}
 use mathlib.Core.List.{List, _++_}
 use Prim.Native.Nat.{ℕ, _≤_}
 use native.Mathlib.Omega.{arith}
-use lib.ListN.{length, take, length-append, length-take}
-use lib.Seq.{length-take-le, take-at}
+use lib.ListN.{length, take, drop, length-append, length-take}
+use lib.Seq.{length-take-le, drop-at}
 use Rattle.io.specs.Counts.{Counts}
 use Rattle.cases.specs.Cases.{Copied}
 
@@ -15,16 +15,21 @@ held n r read rest e h =
     let k : n ≤ length (read ++ rest) = omega (arith, length-append read rest) in
     (k, sym (length-take-le n (read ++ rest) k))
 
+-- what was read stays in its place
+pub left : (n : ℕ) (read before : List ℕ) → length read ≡ length (take n before) → n ≤ length before
+    → drop n (read ++ drop n before) ≡ drop n before
+left n read before e h = drop-at read (drop n before) n (e ∙ length-take-le n before h)
+
 -- the front of the buffer is the front of what is copied: all of it, or as much as the buffer holds
-pub copied : (from source rest after : List ℕ) (n : ℕ) → after ≡ source ++ rest → n ≡ length source → source ≡ take n from
-    → (n ≡ length from) ⊎ (n ≡ length after) → Copied from after n
-copied from source rest after n left count e all =
-    let k : n ≤ length after = omega (arith, ap length left, length-append source rest) in
+pub copied : (from before source after : List ℕ) (n : ℕ) → after ≡ source ++ drop n before → n ≡ length source → source ≡ take n from
+    → (n ≡ length from) ⊎ (n ≡ length after) → Copied from before after n
+copied from before source after n left count e all =
+    let k : n ≤ length after = omega (arith, ap length left, length-append source (drop n before)) in
     let j : n ≤ length from = omega (arith, count, ap length e, length-take n from) in
     record {
       within = k;
       counts = sym (length-take-le n after k);
-      same = ap (take n) left ∙ take-at source rest n (sym count) ∙ e;
+      is = left ∙ ap (λ (l : List ℕ). l ++ drop n before) e;
       whole = λ h. whole all j h;
       full = λ h. full all k h;
     }

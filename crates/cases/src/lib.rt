@@ -2,15 +2,19 @@
 // and is not empty. One case is read at a time, so that a file may be of any length.
 ghost use mathlib.Core.Path.{_≡_};
 ghost use mathlib.Core.Option.{none};
+ghost use mathlib.Core.Logic.{_⊎_};
+ghost use lib.ListN.{drop};
 ghost use Rattle.meaning.specs.Image.{constant};
 ghost use Rattle.parts.specs.Series.{For, nthPart};
 ghost use Rattle.io.specs.Counts.{Counts};
 ghost use Rattle.cases.specs.Cases.{Copied};
 
 // Reads the next n bytes to the front of the buffer, and says how many they are: n, or 0 where there are fewer or the buffer is
-// shorter.
+// shorter. What stands behind them stays.
 fn read_payload(buffer: &mut [u8], n: usize) -> usize
     ensures { λ r. ⌜ Counts r (now (buffer .exit)) ⌝ }
+    ensures { λ r. ⌜ (r ≡ n) ⊎ (r ≡ 0) ⌝ }
+    ensures { λ _. ⌜ drop n (now (buffer .exit)) ≡ drop n (now (buffer .entry)) ⌝ }
 {
     if n <= buffer.len() {
         let got = io::read_full(0, &mut buffer[..n]);
@@ -51,9 +55,9 @@ pub fn word(case: &[u8], n: usize) -> u32
     parts::word_of(part(case, n))
 }
 
-// Copies bytes to the front of a buffer, as many as it holds, and says how many.
+// Copies bytes to the front of a buffer, as many as it holds, and says how many. What stands behind them stays.
 pub fn copy(to: &mut [u8], from: &[u8]) -> usize
-    ensures { λ r. ⌜ Copied (now (from .entry)) (now (to .exit)) r ⌝ }
+    ensures { λ r. ⌜ Copied (now (from .entry)) (now (to .entry)) (now (to .exit)) r ⌝ }
 {
     let room = to.len();
     let n = from.len();

@@ -1,9 +1,10 @@
--- `read_payload` meets its contract: a case lies in the buffer where all of its bytes were read.
-use mathlib.Core.Path.{sym}
+-- `read_payload` meets its contract: a case lies in the buffer where all of its bytes were read, and what is behind is as it was.
+use mathlib.Core.Logic.{inl, inr}
+use mathlib.Core.Path.{refl, sym}
 use native.Mathlib.Omega.{arith}
 use lib.ListN.{drop}
 use lib.Seq.{length-take-le}
-use Rattle.cases.proofs.Buffers.{held}
+use Rattle.cases.proofs.Buffers.{held, left}
 use borrow.Author.Needs.{needs}
 use Rattle.cases.proofs.read_payload.Statement.{statement}
 use Rattle.cases.proofs.read_payload.Tie as tie
@@ -21,16 +22,22 @@ same-length : tie.Need-same-length
 same-length c = search needs
 
 returns : tie.Need-returns
-returns c = held _ _ (c .before .before .before .read-full .last .1 .0) (drop (c .before .before .before .before .before .before .before .args .n) (c .before .before .before .before .before .before .before .args .buffer .now)) (c .if2 .taken) (c .before .before .before .read-full .ensures .0)
+returns c =
+    let c3 = c .before .before .before in
+    let a = c3 .before .before .before .before .args in
+    (held _ _ (c3 .read-full .last .1 .0) (drop (a .n) (a .buffer .now)) (c .if2 .taken) (c3 .read-full .ensures .0), (inl refl, left (a .n) (c3 .read-full .last .1 .0) (a .buffer .now) (c3 .read-full .kept .1 .0) (omega arith)))
 
 same-length-2 : tie.Need-same-length-2
 same-length-2 c = search needs
 
 returns-2 : tie.Need-returns-2
-returns-2 c = search needs
+returns-2 c =
+    let c3 = c .before .before .before in
+    let a = c3 .before .before .before .before .args in
+    ((omega arith, refl), (inr refl, left (a .n) (c3 .read-full .last .1 .0) (a .buffer .now) (c3 .read-full .kept .1 .0) (omega arith)))
 
 returns-3 : tie.Need-returns-3
-returns-3 c = search needs
+returns-3 c = ((omega arith, refl), (inr refl, refl))
 
 pub read-payload-spec : {M : Type 1} → statement M
 read-payload-spec =
