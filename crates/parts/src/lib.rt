@@ -66,9 +66,9 @@ pub fn word_of(p: &[u8]) -> u32
     0
 }
 
-// The number of a degree test, behind its node.
+// The number of a degree test, behind its node; 0 if there is none.
 pub fn degree_of(p: &[u8]) -> usize
-    ensures { λ r. ⌜ (length (now (p .entry)) ≡ 3 → r ≡ number (drop 1 (now (p .entry)))) ⌝ }
+    ensures { λ r. ⌜ (length (now (p .entry)) ≡ 3 → r ≡ number (drop 1 (now (p .entry)))) × ((length (now (p .entry)) ≡ 3 → ⊥) → r ≡ 0) ⌝ }
 {
     if p.len() == 3 {
         return fields::number2(p, 1);

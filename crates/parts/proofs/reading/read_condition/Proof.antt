@@ -23,10 +23,10 @@ degree-of-requires : tie.Need-degree-of-requires
 degree-of-requires c κs = search needs
 
 returns-3 : tie.Need-returns-3
-returns-3 c = condition-in-is _ _ _ (c .before .before .before .number-at .ensures .0) _ (c .before .degree-of .ensures) (c .if3 .taken)
+returns-3 c = condition-in-is _ _ _ (c .before .before .before .number-at .ensures .0) _ (c .before .degree-of .ensures .0) (c .if3 .taken)
 
 returns-4 : tie.Need-returns-4
-returns-4 c = condition-out-is _ _ _ (c .before .before .before .number-at .ensures .0) _ (c .before .degree-of .ensures) (c .before .before .before .before .if1 .left) (c .before .before .if2 .left) (c .if3 .left)
+returns-4 c = condition-out-is _ _ _ (c .before .before .before .number-at .ensures .0) _ (c .before .degree-of .ensures .0) (c .before .before .before .before .if1 .left) (c .before .before .if2 .left) (c .if3 .left)
 
 pub read-condition-spec : {M : Type 1} → statement M
 read-condition-spec =
