@@ -7,7 +7,7 @@ use mathlib.Core.List.{List, [], _∷_}
 use Prim.Native.Nat.{ℕ, _+_, _-_, _/_, _<_, _≤_}
 use native.Mathlib.Omega.{arith}
 use lib.ListN.{length, take, drop, length-take}
-use Rattle.meaning.specs.Tags.{breakTag, ifTag, loopTag, ruleSetTag, sequenceTag, tryTag}
+use Rattle.meaning.specs.Tags.{ifTag, loopTag, ruleSetTag, sequenceTag, tryTag}
 use Rattle.meaning.specs.Basics.{choose, every}
 use Rattle.meaning.specs.Layout.{recordLength}
 use Rattle.meaning.specs.Image.{Program, Command, ruleSet, sequence, guarded, loop, field, inOrder, command}
@@ -31,14 +31,14 @@ use Rattle.calling.specs.Called.{Called}
 use Rattle.meaning.specs.declared.Ran.{Ran}
 use Rattle.ends.specs.declared.Kind.{Kind}
 use Rattle.commands.specs.Program.{Runnable, RunsProgram}
-use Rattle.ends.specs.Ends.{LeafTag, Tagged, isDone, partAfter, settled, Earlier, Settled, Closed}
+use Rattle.ends.specs.Ends.{LeafTag, Tagged, kindOf, kind-tagged, isDone, partAfter, settled, Earlier, Settled, Closed}
 use Rattle.commands.specs.Cycle.{Known, Row, at, runsCommand, runsRow, runsGuarded, runsLoop, Begun, Comes}
 use Rattle.commands.proofs.Parts.{in-range, rule-set-is, row-of, row-is, guarded-of, guarded-is, loop-of, loop-is, leafOf, leaf-is, nth-known, main-known}
 use Rattle.commands.proofs.States.{done-is, settled-fuel, settled-steps, enter-none, enter-paid, leaf-work, row-more, row-ends, row-done, guarded-runs, guarded-stops, loop-out, loop-more, loop-closes}
 
 -- the kind of a command that is known
-pub is-kind : {image : List ℕ} {tag : ℕ} {bs : List ℕ} {kind : Kind} → Known image tag bs → (tag ≡ ruleSetTag → ⊥) → (sequenceTag ≤ tag → tag ≤ breakTag → Tagged tag kind) → (k : Kind) → kind ≡ k → Tagged tag k
-is-kind {tag = tag} w other h k e = let r = in-range w in subst (λ (x : Kind). Tagged tag x) e (h (omega (arith, r .0)) (r .1))
+pub is-kind : {image : List ℕ} {tag : ℕ} {bs : List ℕ} {kind : Kind} → Known image tag bs → (tag ≡ ruleSetTag → ⊥) → kind ≡ kindOf tag → (k : Kind) → kind ≡ k → Tagged tag k
+is-kind {tag = tag} w other h k e = let r = in-range w in subst (λ (x : Kind). Tagged tag x) (sym h ∙ e) (kind-tagged tag (omega (arith, r .0)) (r .1))
 
 pub part-less : (e : End) → partAfter e < 3
 unfolding partAfter

@@ -2,9 +2,8 @@
 // after a guard and after the last round of a loop.
 ghost use mathlib.Core.Path.{_≡_};
 ghost use Prim.Native.Nat.{_≤_};
-ghost use Rattle.meaning.specs.Tags.{sequenceTag, breakTag};
 ghost use Rattle.ledger.specs.Running.{Running};
-ghost use Rattle.ends.specs.Ends.{Tagged, isDone, partAfter, Restored, Settled, Closed};
+ghost use Rattle.ends.specs.Ends.{kindOf, isDone, partAfter, Restored, Settled, Closed};
 use meaning::End;
 use meaning::Layout;
 use meaning::Ran;
@@ -21,9 +20,9 @@ pub enum Kind {
     Leaf(End),
 }
 
-// The kind that such a command's tag says.
+// The kind that such a command's tag says; a tag that is no command's, or a rule set's, counts as a break's.
 pub fn kind_of(tag: u8) -> Kind
-    ensures { λ r. ⌜ (sequenceTag ≤ tag → tag ≤ breakTag → Tagged tag r) ⌝ }
+    ensures { λ r. ⌜ r ≡ kindOf tag ⌝ }
 {
     match tag {
         Tag::SEQUENCE => Kind::Sequence,
