@@ -5,7 +5,7 @@ use mathlib.Core.Path.{_≡_, sym, _∙_, ap, subst}
 use mathlib.Core.List.{List, map, reverse}
 use native.Mathlib.Omega.{arith}
 use lib.ListN.{length, getD, drop, length-append, length-drop}
-use Rattle.meaning.specs.Basics.{concat, padded}
+use Rattle.meaning.specs.Basics.{concat}
 use Rattle.meaning.specs.Numbers.{number, bytes}
 use Rattle.meaning.specs.Layout.{Host, Slot, free, Node, Edge, Change, base, nodeLength, edgeLength, writeNode, writeEdge, writeRecord}
 use Rattle.meaning.specs.Commands.{Out}

@@ -1,5 +1,5 @@
 -- Our undo does what the demands say of an accepted one: it stores the counted records back from last to first. First undo record by
--- record, over cut tables: the last counted record is stored back first. Rests on Ours and laws' Records and Pieces.
+-- record, over cut tables: the last counted record is stored back first. Rests on Ours and laws' Calls, Records and Pieces.
 use Prim.Native.Nat.{ℕ, zero, suc, _*_, _/_, _%_, _<_, _≤_}
 use mathlib.Core.Path.{_≡_, refl, sym, _∙_, ap}
 use mathlib.Core.Logic.{_⊎_, inl, inr}
@@ -8,15 +8,14 @@ use mathlib.Core.Option.{none}
 use mathlib.Core.List.{List, [], _∷_, _++_, map, reverse, map-append, reverse-append}
 use native.Mathlib.Omega.{arith}
 use native.Mathlib.Nat.{suc-mul, div-mul-le-self, mul-le-mul-right}
-use borrow.Author.Tests.{leb-true}
-use lib.ListN.{length, getD, take, drop, length-take, length-drop}
-use Rattle.meaning.specs.Basics.{choose, every, concat}
+use lib.ListN.{length, getD, take, length-take, length-drop}
+use Rattle.meaning.specs.Basics.{every, concat}
 use Rattle.meaning.specs.Layout.{Tables, Change, ofNode, ofEdge, put, undone, nodeLength, edgeLength, recordLength, pieces, cut, slotOf, readRecord, keepsRecord}
-use Rattle.meaning.specs.Calls.{LentUndo, Returned, answerNumber, counted, keepsRecords, tablesUndone, undoOn}
+use Rattle.meaning.specs.Calls.{LentUndo, Returned, answerNumber, counted, tablesUndone, undoOn}
 use Rattle.demands.specs.Demands.{undoRefusedWith, recordAt, before, withSlot, storedBack, StoredBack}
 use Rattle.demands.specs.Ours.{ours, undoing-none, undo-outcome}
 use Rattle.meaning.specs.Laws.Tests.{both-true, every-append, choose-eq, choose-ne}
-use Rattle.meaning.specs.Laws.Checks.{firstFailing-none}
+use Rattle.laws.specs.Calls.{undo-accepted}
 use Rattle.laws.specs.Pieces.{fits-length, concat-cut, pieces-suc, stored, cut-stored, length-stored, slot-within}
 use Rattle.laws.specs.Records.{keepsRecord-true}
 use Rattle.meaning.specs.declared.Layout.{Layout}
@@ -152,21 +151,14 @@ module _ (L : Layout) (journal : List ℕ) where
 
 -- what is known of an accepted undo
 fit : (L : Layout) (y : LentUndo) → undoRefusedWith L y ≡ none → Fit L (y .journal) (y .count) (y .nodes) (y .edges)
-unfolding keepsRecords
 fit L y e =
-    let t1 = firstFailing-none _ _ _ e in
-    let t2 = firstFailing-none _ _ _ (t1 .1) in
-    let t3 = firstFailing-none _ _ _ (t2 .1) in
-    let t4 = firstFailing-none _ _ _ (t3 .1) in
-    let t5 = firstFailing-none _ _ _ (t4 .1) in
-    let k = both-true _ _ (t5 .0) in
-    let m : y .count ≤ length (y .journal) / recordLength L = leb-true _ _ (k .0) in
-    let c = mul-le-mul-right (recordLength L) m in
+    let a = undo-accepted L y (undoing-none L y e) in
+    let c = mul-le-mul-right (recordLength L) (a .within) in
     record {
-      nodesWhole = fits-length (nodeLength L) (L .nodes) (y .nodes) (t2 .0) .0;
-      edgesWhole = fits-length (edgeLength L) (L .edges) (y .edges) (t3 .0) .0;
+      nodesWhole = fits-length (nodeLength L) (L .nodes) (y .nodes) (a .nodesFit) .0;
+      edgesWhole = fits-length (edgeLength L) (L .edges) (y .edges) (a .edgesFit) .0;
       room = omega (arith, c, div-mul-le-self (length (y .journal)) (recordLength L));
-      keeps = k .1;
+      keeps = a .kept;
     }
 
 pub ours-undoes : (L : Layout) (y : LentUndo) → undoRefusedWith L y ≡ none → StoredBack L y (ours L .undo y)

@@ -3,11 +3,11 @@
 use Prim.Native.Nat.{ℕ, zero, suc, _+_, _<_, _≤_}
 use mathlib.Core.Path.{_≡_, refl, sym, _∙_, ap}
 use mathlib.Core.List.{List, [], _∷_, _++_}
-use mathlib.Core.Bool.{Bool, true, false, not}
+use mathlib.Core.Bool.{Bool, true, false}
 use mathlib.Core.Option.{Option, some, none}
 use native.Mathlib.Omega.{arith}
 use borrow.Author.Tests.{leb-true}
-use lib.ListN.{length, getD, take, length-append, length-take, length-drop, length-map}
+use lib.ListN.{length, getD, length-append, length-take, length-drop, length-map}
 use Rattle.meaning.specs.Basics.{choose, exists, each, firstFailing}
 use Rattle.meaning.specs.Layout.{Slot, live, Node, Edge, Host, Change, ofNode, ofEdge, put}
 use Rattle.meaning.specs.Image.{RuleNode, Rule}

@@ -1,6 +1,6 @@
 -- Laws of the two calls: what is known of input that is accepted, and what each call does with input that is refused and with
 -- input that is not. Rests on the meaning's Calls.
-use Prim.Native.Nat.{ℕ, _≤_}
+use Prim.Native.Nat.{ℕ, _/_, _≤_}
 use mathlib.Core.Path.{_≡_}
 use mathlib.Core.Bool.{true, false}
 use mathlib.Core.Option.{some, none}
@@ -8,14 +8,14 @@ use mathlib.Core.List.{List}
 use borrow.Author.Tests.{eqb-true, leb-true, eq-eqb, le-leb}
 use lib.ListN.{length}
 use lib.Dec.{eqb}
-use Rattle.meaning.specs.Basics.{choose, isSome, firstFailing}
-use Rattle.meaning.specs.Layout.{nodeLength, edgeLength, recordLength, fitsTable, hostOf, keepsLayout}
+use Rattle.meaning.specs.Basics.{choose, every, isSome, firstFailing}
+use Rattle.meaning.specs.Layout.{nodeLength, edgeLength, recordLength, fitsTable, hostOf, keepsRecord, keepsLayout}
 use Rattle.meaning.specs.Image.{Program, limits, program}
 use Rattle.meaning.specs.References.{references}
 use Rattle.meaning.specs.Placement.{placement}
 use Rattle.meaning.specs.Commands.{State, Out, beginning, exec}
-use Rattle.meaning.specs.Calls.{Lent, LentUndo, mostFuel, refused, referencesHold, placementHolds, runRefusal, journalRoom, finished, started, runOn, run, undoRefusal, undoOn, undo}
-use Rattle.meaning.specs.Laws.Tests.{isSome-true}
+use Rattle.meaning.specs.Calls.{Lent, LentUndo, mostFuel, refused, referencesHold, placementHolds, runRefusal, journalRoom, finished, started, runOn, run, counted, keepsRecords, undoRefusal, undoOn, undo}
+use Rattle.meaning.specs.Laws.Tests.{both-true, isSome-true}
 use Rattle.meaning.specs.Laws.Checks.{firstFailing-none}
 use Rattle.meaning.specs.declared.Layout.{Layout}
 use Rattle.meaning.specs.declared.Refusal.{Refusal}
@@ -103,6 +103,25 @@ module _ (L : Layout) (x : Lent) where
   run-started p e q = rw (e, q)
 
 module _ (L : Layout) (y : LentUndo) where
+  -- what is asked of the input of an undo
+  pub record UndoAccepted : Type 0 where
+    pub reportSize : length (y .report) ≡ 8
+    pub nodesFit : fitsTable (nodeLength L) (L .nodes) (y .nodes) ≡ true
+    pub edgesFit : fitsTable (edgeLength L) (L .edges) (y .edges) ≡ true
+    pub within : y .count ≤ journalRoom L (y .journal)
+    pub kept : every (keepsRecord L (length (y .nodes) / nodeLength L) (length (y .edges) / edgeLength L)) (counted L (y .count) (y .journal)) ≡ true
+
+  pub undo-accepted : undoRefusal L y ≡ none → UndoAccepted
+  unfolding undoRefusal keepsRecords
+  undo-accepted e =
+      let t1 = firstFailing-none _ _ _ e in
+      let t2 = firstFailing-none _ _ _ (t1 .1) in
+      let t3 = firstFailing-none _ _ _ (t2 .1) in
+      let t4 = firstFailing-none _ _ _ (t3 .1) in
+      let t5 = firstFailing-none _ _ _ (t4 .1) in
+      let k = both-true _ _ (t5 .0) in
+      record { reportSize = eqb-true _ _ (t1 .0); nodesFit = t2 .0; edgesFit = t3 .0; within = leb-true _ _ (k .0); kept = k .1 }
+
   pub undo-refused : (w : Refusal) → undoRefusal L y ≡ some w
       → undo L y ≡ refused w (y .nodes) (y .edges) (y .journal) (y .report)
   unfolding undo undoOn

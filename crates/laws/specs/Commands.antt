@@ -14,7 +14,7 @@ use Rattle.meaning.specs.Image.{Rule, Command, ruleSet, sequence, guarded, loop
 use Rattle.meaning.specs.Matching.{leftNodes, leftEdges}
 use Rattle.meaning.specs.FirstMatch.{candidates, fits, complete, firstMatch}
 use Rattle.meaning.specs.Applying.{Ledger, Applied, applied, hindered, apply}
-use Rattle.meaning.specs.Commands.{State, Out, ends, back, enterAt, enter, Chosen, orLater, ruleAt, firstRule, afterApplying, next, decide, again, rounds, ruleCall, work, works, exec, stateAt}
+use Rattle.meaning.specs.Commands.{State, Out, back, enterAt, enter, Chosen, orLater, ruleAt, firstRule, afterApplying, next, decide, again, rounds, ruleCall, work, works, exec, stateAt}
 use Rattle.meaning.specs.Placement.{breaksLie, allBreaksLie}
 use Rattle.meaning.specs.Laws.Tests.{both-true}
 use Rattle.laws.specs.Search.{Low, deep-low}

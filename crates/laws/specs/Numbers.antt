@@ -4,7 +4,7 @@ use Prim.Native.Nat.{ℕ, zero, suc, _+_, _-_, _*_, _/_, _%_, _^_, _<_, _≤_}
 use mathlib.Core.Path.{_≡_, refl, sym, _∙_, ap}
 use mathlib.Core.List.{List, [], _∷_}
 use mathlib.Core.Bool.{true}
-use mathlib.Core.Option.{Option, some, none}
+use mathlib.Core.Option.{Option, some}
 use native.Mathlib.Nat.{mod-one, mod-eq-of-lt, pow-succ', one-le-pow, mul-add-div-right, mul-add-mod-self-right, mul-assoc, pow-le-pow-right, lt-of-lt-of-le}
 use mathlib.Core.Logic.{_↔_}
 use native.Mathlib.Omega.{arith}

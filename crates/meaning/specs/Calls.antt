@@ -5,10 +5,10 @@ use mathlib.Core.Path.{_≡_}
 use mathlib.Core.Bool.{Bool, false}
 use mathlib.Core.Option.{Option, some, none}
 use mathlib.Core.List.{List, [], _∷_, _++_, map, reverse}
-use Prim.Native.Nat.{ℕ, _+_, _-_, _*_, _/_}
+use Prim.Native.Nat.{ℕ, _+_, _*_, _/_}
 use lib.ListN.{length, drop, replicate}
 use lib.Dec.{eqb, leb}
-use Rattle.meaning.specs.Basics.{choose, both, every, zeros, concat, padded, isSome, each, firstFailing}
+use Rattle.meaning.specs.Basics.{choose, both, every, concat, padded, isSome, firstFailing}
 use Rattle.meaning.specs.Numbers.{number, bytes}
 use Rattle.meaning.specs.Layout.{base, Tables, undone, nodeLength, edgeLength, recordLength, fitsTable, pieces, cut, hostOf, writeNodes, writeEdges, writeRecord, keepsLayout, readRecord, keepsRecord}
 use Rattle.meaning.specs.Image.{Program, limits, program}

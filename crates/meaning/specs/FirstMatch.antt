@@ -3,7 +3,7 @@
 -- that must dangle. Rests on Basics, Tags, Layout, Image, References, Matching, Assigned and Search, and on the code's Element
 -- and Test.
 use mathlib.Core.Bool.{Bool, true, false, not}
-use mathlib.Core.Option.{Option, some}
+use mathlib.Core.Option.{Option}
 use mathlib.Core.List.{List, [], _∷_, _++_, map}
 use Prim.Native.Nat.{ℕ, zero, suc, _+_, _-_, max}
 use lib.ListN.{length, drop}

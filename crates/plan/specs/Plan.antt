@@ -13,7 +13,7 @@ use Rattle.meaning.specs.Image.{RuleNode, RuleEdge, RuleGraph, Rule, only, pass
 use Rattle.meaning.specs.References.{labels, lists, takesList, ruleHolds}
 use Rattle.meaning.specs.Matching.{leftNode, leftEdge, leftNodes, leftEdges}
 use Rattle.meaning.specs.Assigned.{isVariable}
-use Rattle.meaning.specs.FirstMatch.{has, firstWith, decidedAt}
+use Rattle.meaning.specs.FirstMatch.{firstWith, decidedAt}
 use Rattle.meaning.specs.declared.Condition.the-variants.{Edge}
 use Rattle.meaning.specs.declared.Test.{Test}
 use Rattle.meaning.specs.declared.Element.{Element}

@@ -11,7 +11,7 @@ use lib.ListN.{getD, replicate}
 use lib.IntN.{ℤ, pos, _+ℤ_}
 use Rattle.meaning.specs.Basics.{choose}
 use Rattle.meaning.specs.Layout.{base, recordLength}
-use Rattle.meaning.specs.Tags.{constantTag, sumTag}
+use Rattle.meaning.specs.Tags.{constantTag, intType, noneMark, sumTag}
 use Rattle.meaning.specs.Image.{Rule, Program, program, ruleSet}
 use Rattle.meaning.specs.References.{ruleHolds}
 use Rattle.meaning.specs.Commands.{ruleAt}
@@ -54,9 +54,9 @@ case14 =
 abbrev rule : Rule
 rule =
     record {
-      variables = 1 ∷ [];
-      left = record { nodes = record { mark = 0; root = 0; label = Variable 0 ∷ [] } ∷ []; edges = [] };
-      right = record { nodes = record { mark = 0; root = 0; label = Sum (variableOperand 0) (constantOperand 1) ∷ [] } ∷ []; edges = [] };
+      variables = intType ∷ [];
+      left = record { nodes = record { mark = noneMark; root = 0; label = Variable 0 ∷ [] } ∷ []; edges = [] };
+      right = record { nodes = record { mark = noneMark; root = 0; label = Sum (variableOperand 0) (constantOperand 1) ∷ [] } ∷ []; edges = [] };
       interface = 1;
       tests = [];
     }

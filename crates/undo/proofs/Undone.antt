@@ -5,14 +5,13 @@ use mathlib.Core.List.{List, [], _∷_}
 use mathlib.Core.Bool.{Bool, true, false}
 use mathlib.Core.Option.{Option, some, none}
 use native.Mathlib.Nat.{zero-mul, sub-zero}
-use borrow.Author.Tests.{eqb-true, leb-true}
 use lib.Dec.{eqb}
 use lib.ListN.{length}
 use Rattle.meaning.specs.Basics.{choose, every, concat, firstFailing}
 use Rattle.meaning.specs.Layout.{Tables, nodeLength, edgeLength, recordLength, keepsRecord}
 use Rattle.meaning.specs.Calls.{reportOf, lengthChecks, refused, keepsRecords, undoRefusal, tablesUndone, undoOn, undo, answerNumber, refusalNumber, lendingUndo, Yields}
-use Rattle.meaning.specs.Laws.Checks.{first-no, first-yes, firstFailing-none, behind-fine, behind-refused}
-use Rattle.meaning.specs.Laws.Tests.{both-true}
+use Rattle.meaning.specs.Laws.Checks.{first-no, first-yes, behind-fine, behind-refused}
+use Rattle.laws.specs.Calls.{undo-accepted}
 use Rattle.laws.specs.Pieces.{concat-cut, fits-length}
 use Rattle.meaning.specs.declared.Layout.{Layout}
 use Rattle.meaning.specs.declared.Refusal.{Refusal}
@@ -52,20 +51,14 @@ module _ (L : Layout) (nodes edges journal : List ℕ) (count : ℕ) (report : L
     pub kept : every (keepsRecord L (length nodes / nodeLength L) (length edges / edgeLength L)) (recordsFrom L 0 count journal) ≡ true
 
   pub sound : undoFails ≡ none → Sound
-  unfolding undoRefusal keepsRecords
   sound e =
-      let t0 = firstFailing-none _ _ _ e in
-      let t1 = firstFailing-none _ _ _ (t0 .1) in
-      let t2 = firstFailing-none _ _ _ (t1 .1) in
-      let t3 = firstFailing-none _ _ _ (t2 .1) in
-      let t4 = firstFailing-none _ _ _ (t3 .1) in
-      let k = both-true _ _ (t4 .0) in
+      let a = undo-accepted L (lendingUndo nodes edges journal count report) e in
       record {
-        reports = eqb-true _ _ (t0 .0);
-        nodesWhole = fits-length _ _ nodes (t1 .0) .0;
-        edgesWhole = fits-length _ _ edges (t2 .0) .0;
-        within = leb-true _ _ (k .0);
-        kept = rw (zero-mul (recordLength L), sub-zero count) (k .1);
+        reports = a .reportSize;
+        nodesWhole = fits-length _ _ nodes (a .nodesFit) .0;
+        edgesWhole = fits-length _ _ edges (a .edgesFit) .0;
+        within = a .within;
+        kept = rw (zero-mul (recordLength L), sub-zero count) (a .kept);
       }
 
   -- What undo leaves.

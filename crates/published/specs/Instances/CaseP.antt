@@ -16,9 +16,9 @@ use Rattle.demands.specs.Ours.{ours}
 use Rattle.demands.specs.Exported.{ours-exported}
 use Rattle.demands.specs.Cases.{lendable}
 use Rattle.meaning.specs.ProvedSet.{fieldBytes, ruleSetField, turns, liveNode, liveEdge}
-use Rattle.meaning.specs.Tags.{anyMark}
+use Rattle.meaning.specs.Tags.{anyMark, blueMark, greyMark, intType, loopTag, noneMark, redMark}
 use Rattle.meaning.specs.Laws.Every.{Every}
-use Rattle.laws.specs.Numbers.{Bytes, bytes-by}
+use Rattle.laws.specs.Numbers.{bytes-by}
 use Rattle.laws.specs.Hosts.{liveAt-lt}
 use Rattle.laws.specs.LegalCommands.{LegalRules}
 use Rattle.laws.specs.LegalImage.{program-legal}
@@ -36,22 +36,22 @@ use Rattle.published.specs.Whence.{right-placed, not-made, marked-stays}
 use Rattle.published.specs.OnlyOutcome.{OneOutcome, one-outcome}
 
 abbrev pub image : List ℕ
-image = turns ++ fieldBytes 0x54 (ruleSetField 0)
+image = turns ++ fieldBytes loopTag (ruleSetField 0)
 
 abbrev pub turn : Rule
 turn =
     record {
-      variables = 1 ∷ 1 ∷ [];
+      variables = intType ∷ intType ∷ [];
       left = record {
-        nodes = record { mark = 4; root = 0; label = Variable 0 ∷ [] } ∷ record { mark = 4; root = 0; label = Variable 1 ∷ [] } ∷ [];
-        edges = record { mark = 0; source = 0; target = 1; label = [] } ∷ [];
+        nodes = record { mark = greyMark; root = 0; label = Variable 0 ∷ [] } ∷ record { mark = greyMark; root = 0; label = Variable 1 ∷ [] } ∷ [];
+        edges = record { mark = noneMark; source = 0; target = 1; label = [] } ∷ [];
       };
       right = record {
         nodes =
-            record { mark = 1; root = 0; label = Variable 0 ∷ [] }
-            ∷ record { mark = 3; root = 0; label = Sum (variableOperand 0) (variableOperand 1) ∷ [] }
+            record { mark = redMark; root = 0; label = Variable 0 ∷ [] }
+            ∷ record { mark = blueMark; root = 0; label = Sum (variableOperand 0) (variableOperand 1) ∷ [] }
             ∷ [];
-        edges = record { mark = 0; source = 1; target = 0; label = [] } ∷ [];
+        edges = record { mark = noneMark; source = 1; target = 0; label = [] } ∷ [];
       };
       interface = 2;
       tests = [];
@@ -64,13 +64,9 @@ pub case-p-is : program image ≡ some tree
 unfolding computing
 case-p-is = refl
 
-bytes : Bytes image
-unfolding computing
-bytes = bytes-by image refl
-
 legal : LegalRules (tree .rules)
 unfolding computing
-legal = program-legal image tree bytes case-p-is refl
+legal = program-legal image tree (bytes-by image refl) case-p-is refl
 
 -- e joins two grey nodes
 pub record Grey (G : Graph) (e : ℕ) : Type 0 where

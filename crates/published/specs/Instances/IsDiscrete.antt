@@ -7,9 +7,10 @@ use mathlib.Core.Option.{some}
 use mathlib.Core.List.{List, [], _∷_}
 use Prim.Native.Nat.{ℕ, zero, suc, _<_, _≤_}
 use native.Mathlib.Omega.{arith}
+use Rattle.meaning.specs.Tags.{listType, noneMark}
 use Rattle.meaning.specs.Image.{Rule, Program, program, ruleSet, sequence, guarded, loop, skip, fail, noMore, then}
 use Rattle.meaning.specs.Computing.{computing}
-use Rattle.laws.specs.Numbers.{Bytes, bytes-by}
+use Rattle.laws.specs.Numbers.{bytes-by}
 use Rattle.laws.specs.LegalCommands.{LegalRules}
 use Rattle.laws.specs.LegalImage.{program-legal}
 use Rattle.meaning.specs.declared.Element.the-variants.{Variable}
@@ -36,8 +37,8 @@ image =
 abbrev pub del : Rule
 del =
     record {
-      variables = 2 ∷ [];
-      left = record { nodes = record { mark = 0; root = 0; label = Variable 0 ∷ [] } ∷ []; edges = [] };
+      variables = listType ∷ [];
+      left = record { nodes = record { mark = noneMark; root = 0; label = Variable 0 ∷ [] } ∷ []; edges = [] };
       right = record { nodes = []; edges = [] };
       interface = 0;
       tests = [];
@@ -47,9 +48,9 @@ del =
 abbrev pub node : Rule
 node =
     record {
-      variables = 2 ∷ [];
-      left = record { nodes = record { mark = 0; root = 0; label = Variable 0 ∷ [] } ∷ []; edges = [] };
-      right = record { nodes = record { mark = 0; root = 0; label = Variable 0 ∷ [] } ∷ []; edges = [] };
+      variables = listType ∷ [];
+      left = record { nodes = record { mark = noneMark; root = 0; label = Variable 0 ∷ [] } ∷ []; edges = [] };
+      right = record { nodes = record { mark = noneMark; root = 0; label = Variable 0 ∷ [] } ∷ []; edges = [] };
       interface = 1;
       tests = [];
     }
@@ -65,13 +66,9 @@ pub is-discrete-is : program image ≡ some tree
 unfolding computing
 is-discrete-is = refl
 
-pub bytes : Bytes image
-unfolding computing
-bytes = bytes-by image refl
-
 pub legal : LegalRules (tree .rules)
 unfolding computing
-legal = program-legal image tree bytes is-discrete-is refl
+legal = program-legal image tree (bytes-by image refl) is-discrete-is refl
 
 -- nodes that no edge touches have the same label
 abbrev pub LoneAlike : Graph → Type 0

@@ -9,6 +9,7 @@ use mathlib.Core.List.{List, [], _∷_, append-nil}
 use Prim.Native.Nat.{ℕ, zero, suc, _<_, _≤_}
 use native.Mathlib.Omega.{arith}
 use lib.ListN.{length}
+use Rattle.meaning.specs.Tags.{listType, noneMark}
 use Rattle.meaning.specs.Image.{RuleGraph, Rule}
 use Rattle.meaning.specs.References.{isInt}
 use Rattle.laws.specs.Values.{LegalRule}
@@ -116,7 +117,7 @@ plain-alike G plain v w k l a b =
 -- Both rules have one unmarked node with a list variable on their left side.
 
 abbrev one : RuleGraph
-one = record { nodes = record { mark = 0; root = 0; label = Variable 0 ∷ [] } ∷ []; edges = [] }
+one = record { nodes = record { mark = noneMark; root = 0; label = Variable 0 ∷ [] } ∷ []; edges = [] }
 
 one-mark : (j : ℕ) → j < 1 → nodeOf one j .mark ≡ 0
 one-mark zero k = refl
@@ -132,7 +133,7 @@ one-label l (suc j) k = absurd (omega arith)
 
 module _ (right : RuleGraph) (interface : ℕ) where
   abbrev rule : Rule
-  rule = record { variables = 2 ∷ []; left = one; right = right; interface = interface; tests = [] }
+  rule = record { variables = listType ∷ []; left = one; right = right; interface = interface; tests = [] }
 
   no-int : (l : List ℕ) (v : ℕ) → isInt rule v ≡ true → length l ≡ 1
   no-int l zero e = let z : _≡_ {A = ℕ} 0 1 = cc in absurd (omega arith)

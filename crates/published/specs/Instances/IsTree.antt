@@ -9,6 +9,7 @@ use mathlib.Core.List.{List, [], _∷_, _++_}
 use Prim.Native.Nat.{ℕ, zero, suc, _*_, _<_}
 use native.Mathlib.Omega.{arith}
 use lib.ListN.{replicate}
+use Rattle.meaning.specs.Tags.{anyMark, blueMark, greyMark, listType, noneMark}
 use Rattle.meaning.specs.Layout.{base, edgeLength, recordLength}
 use Rattle.meaning.specs.Image.{Rule, Program, program, ruleSet, sequence, guarded, loop, skip, fail, noMore, then}
 use Rattle.meaning.specs.Calls.{Lent}
@@ -18,7 +19,7 @@ use Rattle.demands.specs.Exported.{ours-exported}
 use Rattle.demands.specs.Cases.{lendable}
 use Rattle.meaning.specs.ProvedSet.{liveNode, liveEdge, freeNode}
 use Rattle.meaning.specs.Laws.Every.{Every}
-use Rattle.laws.specs.Numbers.{Bytes, bytes-by}
+use Rattle.laws.specs.Numbers.{bytes-by}
 use Rattle.laws.specs.Hosts.{liveAt-lt}
 use Rattle.laws.specs.LegalCommands.{LegalRules}
 use Rattle.laws.specs.LegalImage.{program-legal}
@@ -70,9 +71,9 @@ image =
 abbrev pub init : Rule
 init =
     record {
-      variables = 2 ∷ [];
-      left = record { nodes = record { mark = 4; root = 0; label = Variable 0 ∷ [] } ∷ []; edges = [] };
-      right = record { nodes = record { mark = 3; root = 1; label = Variable 0 ∷ [] } ∷ []; edges = [] };
+      variables = listType ∷ [];
+      left = record { nodes = record { mark = greyMark; root = 0; label = Variable 0 ∷ [] } ∷ []; edges = [] };
+      right = record { nodes = record { mark = blueMark; root = 1; label = Variable 0 ∷ [] } ∷ []; edges = [] };
       interface = 1;
       tests = record { negated = false; condition = InDegree 0 0 } ∷ [];
     }
@@ -81,12 +82,12 @@ init =
 abbrev pub prune : Rule
 prune =
     record {
-      variables = 2 ∷ 2 ∷ 2 ∷ [];
+      variables = listType ∷ listType ∷ listType ∷ [];
       left = record {
-        nodes = record { mark = 3; root = 0; label = Variable 1 ∷ [] } ∷ record { mark = 3; root = 1; label = Variable 2 ∷ [] } ∷ [];
-        edges = record { mark = 0; source = 0; target = 1; label = Variable 0 ∷ [] } ∷ [];
+        nodes = record { mark = blueMark; root = 0; label = Variable 1 ∷ [] } ∷ record { mark = blueMark; root = 1; label = Variable 2 ∷ [] } ∷ [];
+        edges = record { mark = noneMark; source = 0; target = 1; label = Variable 0 ∷ [] } ∷ [];
       };
-      right = record { nodes = record { mark = 3; root = 1; label = Variable 1 ∷ [] } ∷ []; edges = [] };
+      right = record { nodes = record { mark = blueMark; root = 1; label = Variable 1 ∷ [] } ∷ []; edges = [] };
       interface = 1;
       tests = [];
     }
@@ -95,14 +96,14 @@ prune =
 abbrev pub push : Rule
 push =
     record {
-      variables = 2 ∷ 2 ∷ 2 ∷ [];
+      variables = listType ∷ listType ∷ listType ∷ [];
       left = record {
-        nodes = record { mark = 3; root = 1; label = Variable 1 ∷ [] } ∷ record { mark = 4; root = 0; label = Variable 2 ∷ [] } ∷ [];
-        edges = record { mark = 0; source = 0; target = 1; label = Variable 0 ∷ [] } ∷ [];
+        nodes = record { mark = blueMark; root = 1; label = Variable 1 ∷ [] } ∷ record { mark = greyMark; root = 0; label = Variable 2 ∷ [] } ∷ [];
+        edges = record { mark = noneMark; source = 0; target = 1; label = Variable 0 ∷ [] } ∷ [];
       };
       right = record {
-        nodes = record { mark = 3; root = 0; label = Variable 1 ∷ [] } ∷ record { mark = 3; root = 1; label = Variable 2 ∷ [] } ∷ [];
-        edges = record { mark = 0; source = 0; target = 1; label = Variable 0 ∷ [] } ∷ [];
+        nodes = record { mark = blueMark; root = 0; label = Variable 1 ∷ [] } ∷ record { mark = blueMark; root = 1; label = Variable 2 ∷ [] } ∷ [];
+        edges = record { mark = noneMark; source = 0; target = 1; label = Variable 0 ∷ [] } ∷ [];
       };
       interface = 2;
       tests = [];
@@ -112,9 +113,9 @@ push =
 abbrev pub verify : Rule
 verify =
     record {
-      variables = 2 ∷ [];
-      left = record { nodes = record { mark = 3; root = 1; label = Variable 0 ∷ [] } ∷ []; edges = [] };
-      right = record { nodes = record { mark = 3; root = 1; label = Variable 0 ∷ [] } ∷ []; edges = [] };
+      variables = listType ∷ [];
+      left = record { nodes = record { mark = blueMark; root = 1; label = Variable 0 ∷ [] } ∷ []; edges = [] };
+      right = record { nodes = record { mark = blueMark; root = 1; label = Variable 0 ∷ [] } ∷ []; edges = [] };
       interface = 1;
       tests = record { negated = false; condition = InDegree 0 1 } ∷ [];
     }
@@ -123,9 +124,9 @@ verify =
 abbrev pub match : Rule
 match =
     record {
-      variables = 2 ∷ [];
-      left = record { nodes = record { mark = 6; root = 0; label = Variable 0 ∷ [] } ∷ []; edges = [] };
-      right = record { nodes = record { mark = 6; root = 0; label = Variable 0 ∷ [] } ∷ []; edges = [] };
+      variables = listType ∷ [];
+      left = record { nodes = record { mark = anyMark; root = 0; label = Variable 0 ∷ [] } ∷ []; edges = [] };
+      right = record { nodes = record { mark = anyMark; root = 0; label = Variable 0 ∷ [] } ∷ []; edges = [] };
       interface = 1;
       tests = [];
     }
@@ -134,14 +135,14 @@ match =
 abbrev pub looped : Rule
 looped =
     record {
-      variables = 2 ∷ 2 ∷ [];
+      variables = listType ∷ listType ∷ [];
       left = record {
-        nodes = record { mark = 3; root = 1; label = Variable 1 ∷ [] } ∷ [];
-        edges = record { mark = 0; source = 0; target = 0; label = Variable 0 ∷ [] } ∷ [];
+        nodes = record { mark = blueMark; root = 1; label = Variable 1 ∷ [] } ∷ [];
+        edges = record { mark = noneMark; source = 0; target = 0; label = Variable 0 ∷ [] } ∷ [];
       };
       right = record {
-        nodes = record { mark = 3; root = 1; label = Variable 1 ∷ [] } ∷ [];
-        edges = record { mark = 0; source = 0; target = 0; label = Variable 0 ∷ [] } ∷ [];
+        nodes = record { mark = blueMark; root = 1; label = Variable 1 ∷ [] } ∷ [];
+        edges = record { mark = noneMark; source = 0; target = 0; label = Variable 0 ∷ [] } ∷ [];
       };
       interface = 1;
       tests = [];
@@ -162,13 +163,9 @@ pub is-tree-is : program image ≡ some tree
 unfolding computing
 is-tree-is = refl
 
-bytes : Bytes image
-unfolding computing
-bytes = bytes-by image refl
-
 legal : LegalRules (tree .rules)
 unfolding computing
-legal = program-legal image tree bytes is-tree-is refl
+legal = program-legal image tree (bytes-by image refl) is-tree-is refl
 
 -- init: the grey node is the start.
 

@@ -8,12 +8,13 @@ use Prim.Native.Nat.{ℕ}
 use native.Mathlib.Decide.{ℕ-discrete}
 use borrow.Author.Tests.{eqb-true, eq-eqb}
 use lib.Dec.{eqb}
+use Rattle.meaning.specs.Tags.{noneMark}
 use Rattle.meaning.specs.Basics.{choose, either}
 use Rattle.meaning.specs.Laws.Tests.{choose-eq, choose-ne, either-left, either-right, either-true}
 use Rattle.published.specs.Graphs.{EdgeLabel, Graph, Edge, Iso}
 
 abbrev plain : EdgeLabel
-plain = record { mark = 0; list = [] }
+plain = record { mark = noneMark; list = [] }
 
 -- G with an edge f from u to v
 abbrev pub add : Graph → ℕ → ℕ → ℕ → Graph

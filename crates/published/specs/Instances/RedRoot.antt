@@ -7,6 +7,7 @@ use mathlib.Core.List.{List, [], _∷_, _++_}
 use Prim.Native.Nat.{ℕ, zero, suc, _*_, _<_}
 use native.Mathlib.Omega.{arith}
 use lib.ListN.{replicate}
+use Rattle.meaning.specs.Tags.{loopTag, nodeTag, noneMark, redMark}
 use Rattle.meaning.specs.Layout.{base, recordLength}
 use Rattle.meaning.specs.Image.{Rule, Program, program, ruleSet, loop}
 use Rattle.meaning.specs.Calls.{Lent}
@@ -15,7 +16,7 @@ use Rattle.demands.specs.Ours.{ours}
 use Rattle.demands.specs.Exported.{ours-exported}
 use Rattle.demands.specs.Cases.{lendable}
 use Rattle.meaning.specs.ProvedSet.{fieldBytes, ruleField, ruleSetField, liveNode, plainNode}
-use Rattle.laws.specs.Numbers.{Bytes, bytes-by}
+use Rattle.laws.specs.Numbers.{bytes-by}
 use Rattle.laws.specs.LegalCommands.{LegalRules}
 use Rattle.laws.specs.LegalImage.{program-legal}
 use Rattle.published.specs.Graphs.{Graph}
@@ -30,14 +31,14 @@ use Rattle.published.specs.Determined.{KnownNode, root, determined-stead
 use Rattle.published.specs.OnlyOutcome.{OneOutcome, one-outcome}
 
 abbrev pub image : List ℕ
-image = ruleField [] (fieldBytes 0x20 (0 ∷ 1 ∷ [])) (fieldBytes 0x20 (1 ∷ 1 ∷ [])) 1 ++ fieldBytes 0x54 (ruleSetField 0)
+image = ruleField [] (fieldBytes nodeTag (0 ∷ 1 ∷ [])) (fieldBytes nodeTag (1 ∷ 1 ∷ [])) 1 ++ fieldBytes loopTag (ruleSetField 0)
 
 abbrev pub redden : Rule
 redden =
     record {
       variables = [];
-      left = record { nodes = record { mark = 0; root = 1; label = [] } ∷ []; edges = [] };
-      right = record { nodes = record { mark = 1; root = 1; label = [] } ∷ []; edges = [] };
+      left = record { nodes = record { mark = noneMark; root = 1; label = [] } ∷ []; edges = [] };
+      right = record { nodes = record { mark = redMark; root = 1; label = [] } ∷ []; edges = [] };
       interface = 1;
       tests = [];
     }
@@ -49,13 +50,9 @@ pub red-root-is : program image ≡ some tree
 unfolding computing
 red-root-is = refl
 
-bytes : Bytes image
-unfolding computing
-bytes = bytes-by image refl
-
 legal : LegalRules (tree .rules)
 unfolding computing
-legal = program-legal image tree bytes red-root-is refl
+legal = program-legal image tree (bytes-by image refl) red-root-is refl
 
 known : (i : ℕ) → i < 1 → KnownNode redden false i
 known zero k = root 0 (omega arith) refl

@@ -10,10 +10,11 @@ use mathlib.Core.List.{List, [], _∷_}
 use Prim.Native.Nat.{ℕ, zero, suc, _<_}
 use native.Mathlib.Omega.{arith}
 use lib.ListN.{length}
+use Rattle.meaning.specs.Tags.{greyMark, listType, noneMark}
 use Rattle.meaning.specs.Image.{Rule, Program, program, ruleSet, sequence, guarded, loop, skip, fail, noMore, then}
 use Rattle.meaning.specs.Commands.{ruleAt}
 use Rattle.meaning.specs.Computing.{computing}
-use Rattle.laws.specs.Numbers.{Bytes, bytes-by}
+use Rattle.laws.specs.Numbers.{bytes-by}
 use Rattle.laws.specs.LegalCommands.{LegalRules}
 use Rattle.laws.specs.LegalImage.{program-legal}
 use Rattle.meaning.specs.declared.Element.the-variants.{Variable}
@@ -55,10 +56,10 @@ image =
 abbrev pub red1 : Rule
 red1 =
     record {
-      variables = 2 ∷ 2 ∷ [];
+      variables = listType ∷ listType ∷ [];
       left = record {
-        nodes = record { mark = 4; root = 1; label = Variable 1 ∷ [] } ∷ [];
-        edges = record { mark = 0; source = 0; target = 0; label = Variable 0 ∷ [] } ∷ [];
+        nodes = record { mark = greyMark; root = 1; label = Variable 1 ∷ [] } ∷ [];
+        edges = record { mark = noneMark; source = 0; target = 0; label = Variable 0 ∷ [] } ∷ [];
       };
       right = record { nodes = []; edges = [] };
       interface = 0;
@@ -69,17 +70,17 @@ red1 =
 abbrev pub red2 : Rule
 red2 =
     record {
-      variables = 2 ∷ 2 ∷ 2 ∷ 2 ∷ [];
+      variables = listType ∷ listType ∷ listType ∷ listType ∷ [];
       left = record {
-        nodes = record { mark = 4; root = 1; label = Variable 2 ∷ [] } ∷ record { mark = 4; root = 0; label = Variable 3 ∷ [] } ∷ [];
+        nodes = record { mark = greyMark; root = 1; label = Variable 2 ∷ [] } ∷ record { mark = greyMark; root = 0; label = Variable 3 ∷ [] } ∷ [];
         edges =
-            record { mark = 0; source = 0; target = 1; label = Variable 0 ∷ [] }
-            ∷ record { mark = 0; source = 1; target = 0; label = Variable 1 ∷ [] }
+            record { mark = noneMark; source = 0; target = 1; label = Variable 0 ∷ [] }
+            ∷ record { mark = noneMark; source = 1; target = 0; label = Variable 1 ∷ [] }
             ∷ [];
       };
       right = record {
-        nodes = record { mark = 4; root = 1; label = Variable 2 ∷ [] } ∷ [];
-        edges = record { mark = 0; source = 0; target = 0; label = Variable 0 ∷ [] } ∷ [];
+        nodes = record { mark = greyMark; root = 1; label = Variable 2 ∷ [] } ∷ [];
+        edges = record { mark = noneMark; source = 0; target = 0; label = Variable 0 ∷ [] } ∷ [];
       };
       interface = 0;
       tests = [];
@@ -89,21 +90,21 @@ red2 =
 abbrev pub red3 : Rule
 red3 =
     record {
-      variables = 2 ∷ 2 ∷ 2 ∷ 2 ∷ 2 ∷ [];
+      variables = listType ∷ listType ∷ listType ∷ listType ∷ listType ∷ [];
       left = record {
         nodes =
-            record { mark = 4; root = 0; label = Variable 2 ∷ [] }
-            ∷ record { mark = 4; root = 0; label = Variable 4 ∷ [] }
-            ∷ record { mark = 4; root = 1; label = Variable 3 ∷ [] }
+            record { mark = greyMark; root = 0; label = Variable 2 ∷ [] }
+            ∷ record { mark = greyMark; root = 0; label = Variable 4 ∷ [] }
+            ∷ record { mark = greyMark; root = 1; label = Variable 3 ∷ [] }
             ∷ [];
         edges =
-            record { mark = 0; source = 0; target = 2; label = Variable 0 ∷ [] }
-            ∷ record { mark = 0; source = 2; target = 1; label = Variable 1 ∷ [] }
+            record { mark = noneMark; source = 0; target = 2; label = Variable 0 ∷ [] }
+            ∷ record { mark = noneMark; source = 2; target = 1; label = Variable 1 ∷ [] }
             ∷ [];
       };
       right = record {
-        nodes = record { mark = 4; root = 0; label = Variable 2 ∷ [] } ∷ record { mark = 4; root = 1; label = Variable 4 ∷ [] } ∷ [];
-        edges = record { mark = 0; source = 0; target = 1; label = Variable 0 ∷ [] } ∷ [];
+        nodes = record { mark = greyMark; root = 0; label = Variable 2 ∷ [] } ∷ record { mark = greyMark; root = 1; label = Variable 4 ∷ [] } ∷ [];
+        edges = record { mark = noneMark; source = 0; target = 1; label = Variable 0 ∷ [] } ∷ [];
       };
       interface = 2;
       tests = [];
@@ -113,9 +114,9 @@ red3 =
 abbrev pub match : Rule
 match =
     record {
-      variables = 2 ∷ [];
-      left = record { nodes = record { mark = 4; root = 0; label = Variable 0 ∷ [] } ∷ []; edges = [] };
-      right = record { nodes = record { mark = 4; root = 0; label = Variable 0 ∷ [] } ∷ []; edges = [] };
+      variables = listType ∷ [];
+      left = record { nodes = record { mark = greyMark; root = 0; label = Variable 0 ∷ [] } ∷ []; edges = [] };
+      right = record { nodes = record { mark = greyMark; root = 0; label = Variable 0 ∷ [] } ∷ []; edges = [] };
       interface = 1;
       tests = [];
     }
@@ -134,13 +135,9 @@ pub rooted-cycle-is : program image ≡ some tree
 unfolding computing
 rooted-cycle-is = refl
 
-bytes : Bytes image
-unfolding computing
-bytes = bytes-by image refl
-
 legal : LegalRules (tree .rules)
 unfolding computing
-legal = program-legal image tree bytes rooted-cycle-is refl
+legal = program-legal image tree (bytes-by image refl) rooted-cycle-is refl
 
 -- Each rule is determined: the root, its edges, which the rule deletes with it, and their other ends.
 

@@ -9,10 +9,11 @@ use mathlib.Core.List.{List, [], _∷_}
 use Prim.Native.Nat.{ℕ, zero, suc, _<_, _≤_}
 use native.Mathlib.Omega.{arith}
 use native.Mathlib.Decide.{ℕ-discrete}
+use Rattle.meaning.specs.Tags.{listType, noneMark}
 use Rattle.meaning.specs.Image.{RuleNode, RuleEdge, Rule, Program, program, ruleSet, loop}
 use Rattle.meaning.specs.Basics.{choose}
 use Rattle.meaning.specs.Computing.{computing}
-use Rattle.laws.specs.Numbers.{Bytes, bytes-by}
+use Rattle.laws.specs.Numbers.{bytes-by}
 use Rattle.laws.specs.LegalCommands.{LegalRules}
 use Rattle.laws.specs.LegalImage.{program-legal}
 use Rattle.meaning.specs.declared.Element.the-variants.{Variable}
@@ -43,24 +44,24 @@ image =
 
 abbrev three : List RuleNode
 three =
-    record { mark = 0; root = 0; label = Variable 2 ∷ [] }
-    ∷ record { mark = 0; root = 0; label = Variable 3 ∷ [] }
-    ∷ record { mark = 0; root = 0; label = Variable 4 ∷ [] }
+    record { mark = noneMark; root = 0; label = Variable 2 ∷ [] }
+    ∷ record { mark = noneMark; root = 0; label = Variable 3 ∷ [] }
+    ∷ record { mark = noneMark; root = 0; label = Variable 4 ∷ [] }
     ∷ []
 
 abbrev first : RuleEdge
-first = record { mark = 0; source = 0; target = 1; label = Variable 0 ∷ [] }
+first = record { mark = noneMark; source = 0; target = 1; label = Variable 0 ∷ [] }
 
 abbrev second : RuleEdge
-second = record { mark = 0; source = 1; target = 2; label = Variable 1 ∷ [] }
+second = record { mark = noneMark; source = 1; target = 2; label = Variable 1 ∷ [] }
 
 -- from the first node of a path of two edges to its last, where no edge leads
 abbrev pub link : Rule
 link =
     record {
-      variables = 2 ∷ 2 ∷ 2 ∷ 2 ∷ 2 ∷ [];
+      variables = listType ∷ listType ∷ listType ∷ listType ∷ listType ∷ [];
       left = record { nodes = three; edges = first ∷ second ∷ [] };
-      right = record { nodes = three; edges = first ∷ second ∷ record { mark = 0; source = 0; target = 2; label = [] } ∷ [] };
+      right = record { nodes = three; edges = first ∷ second ∷ record { mark = noneMark; source = 0; target = 2; label = [] } ∷ [] };
       interface = 3;
       tests = record { negated = true; condition = edgeBetween 0 2 } ∷ [];
     }
@@ -72,13 +73,9 @@ pub transitive-closure-is : program image ≡ some tree
 unfolding computing
 transitive-closure-is = refl
 
-bytes : Bytes image
-unfolding computing
-bytes = bytes-by image refl
-
 legal : LegalRules (tree .rules)
 unfolding computing
-legal = program-legal image tree bytes transitive-closure-is refl
+legal = program-legal image tree (bytes-by image refl) transitive-closure-is refl
 
 -- A result is the graph with an edge more, under any name f that is free.
 

@@ -9,6 +9,7 @@ use native.Mathlib.Omega.{arith}
 use borrow.Author.Tests.{ltb-true, lt-ltb}
 use lib.Dec.{eqb, ltb}
 use lib.ListN.{length}
+use Rattle.meaning.specs.Tags.{noneMark}
 use Rattle.meaning.specs.Basics.{choose, either}
 use Rattle.meaning.specs.Layout.{isNodeMark, isEdgeMark}
 use Rattle.meaning.specs.References.{isInt}
@@ -27,7 +28,7 @@ roots m =
       source = λ e. 0;
       target = λ e. 0;
       nodeLabel = λ v. record { mark = m v; root = 1; list = [] };
-      edgeLabel = λ e. record { mark = 0; list = [] };
+      edgeLabel = λ e. record { mark = noneMark; list = [] };
     }
 
 abbrev plain : Graph

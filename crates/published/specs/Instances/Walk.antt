@@ -7,6 +7,7 @@ use mathlib.Core.List.{List, [], _∷_, _++_}
 use Prim.Native.Nat.{ℕ, zero, suc, _*_, _<_}
 use native.Mathlib.Omega.{arith}
 use lib.ListN.{replicate}
+use Rattle.meaning.specs.Tags.{edgeTag, listType, loopTag, nodeTag, noneMark, redMark}
 use Rattle.meaning.specs.Layout.{base, recordLength}
 use Rattle.meaning.specs.Image.{Rule, Program, program, ruleSet, loop}
 use Rattle.meaning.specs.Calls.{Lent}
@@ -15,7 +16,7 @@ use Rattle.demands.specs.Ours.{ours}
 use Rattle.demands.specs.Exported.{ours-exported}
 use Rattle.demands.specs.Cases.{lendable}
 use Rattle.meaning.specs.ProvedSet.{fieldBytes, ruleField, variableField, ruleSetField}
-use Rattle.laws.specs.Numbers.{Bytes, bytes-by}
+use Rattle.laws.specs.Numbers.{bytes-by}
 use Rattle.meaning.specs.ProvedSet.{fieldBytes, ruleField, variableField, ruleSetField, liveNode, liveEdge, plainNode, redNode}
 use Rattle.laws.specs.LegalCommands.{LegalRules}
 use Rattle.laws.specs.LegalImage.{program-legal}
@@ -33,25 +34,25 @@ use Rattle.published.specs.Determined.{KnownNode, root, source, target, 
 use Rattle.published.specs.OnlyOutcome.{OneOutcome, one-outcome}
 
 abbrev edge : List ℕ
-edge = fieldBytes 0x21 (0 ∷ 0 ∷ 1 ∷ variableField 0)
+edge = fieldBytes edgeTag (0 ∷ 0 ∷ 1 ∷ variableField 0)
 
 abbrev pub image : List ℕ
 image =
-    ruleField (2 ∷ 2 ∷ 2 ∷ []) (fieldBytes 0x20 (0 ∷ 1 ∷ variableField 1) ++ fieldBytes 0x20 (0 ∷ 0 ∷ variableField 2) ++ edge)
-    (fieldBytes 0x20 (1 ∷ 0 ∷ variableField 1) ++ fieldBytes 0x20 (0 ∷ 1 ∷ variableField 2) ++ edge) 2
-    ++ fieldBytes 0x54 (ruleSetField 0)
+    ruleField (2 ∷ 2 ∷ 2 ∷ []) (fieldBytes nodeTag (0 ∷ 1 ∷ variableField 1) ++ fieldBytes nodeTag (0 ∷ 0 ∷ variableField 2) ++ edge)
+    (fieldBytes nodeTag (1 ∷ 0 ∷ variableField 1) ++ fieldBytes nodeTag (0 ∷ 1 ∷ variableField 2) ++ edge) 2
+    ++ fieldBytes loopTag (ruleSetField 0)
 
 abbrev pub step : Rule
 step =
     record {
-      variables = 2 ∷ 2 ∷ 2 ∷ [];
+      variables = listType ∷ listType ∷ listType ∷ [];
       left = record {
-        nodes = record { mark = 0; root = 1; label = Variable 1 ∷ [] } ∷ record { mark = 0; root = 0; label = Variable 2 ∷ [] } ∷ [];
-        edges = record { mark = 0; source = 0; target = 1; label = Variable 0 ∷ [] } ∷ [];
+        nodes = record { mark = noneMark; root = 1; label = Variable 1 ∷ [] } ∷ record { mark = noneMark; root = 0; label = Variable 2 ∷ [] } ∷ [];
+        edges = record { mark = noneMark; source = 0; target = 1; label = Variable 0 ∷ [] } ∷ [];
       };
       right = record {
-        nodes = record { mark = 1; root = 0; label = Variable 1 ∷ [] } ∷ record { mark = 0; root = 1; label = Variable 2 ∷ [] } ∷ [];
-        edges = record { mark = 0; source = 0; target = 1; label = Variable 0 ∷ [] } ∷ [];
+        nodes = record { mark = redMark; root = 0; label = Variable 1 ∷ [] } ∷ record { mark = noneMark; root = 1; label = Variable 2 ∷ [] } ∷ [];
+        edges = record { mark = noneMark; source = 0; target = 1; label = Variable 0 ∷ [] } ∷ [];
       };
       interface = 2;
       tests = [];
@@ -64,13 +65,9 @@ pub walk-is : program image ≡ some tree
 unfolding computing
 walk-is = refl
 
-bytes : Bytes image
-unfolding computing
-bytes = bytes-by image refl
-
 legal : LegalRules (tree .rules)
 unfolding computing
-legal = program-legal image tree bytes walk-is refl
+legal = program-legal image tree (bytes-by image refl) walk-is refl
 
 edges-kept : EdgesKept step
 edges-kept zero l = (omega arith, refl, omega arith)
