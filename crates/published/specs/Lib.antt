@@ -20,12 +20,7 @@ pub mod OneCall
 pub mod CaseFourteen
 pub mod Conformance
 pub mod Steady
-pub mod Whence
-pub mod OneRoot
-pub mod OneOut
-pub mod Determined
-pub mod Unchanged
-pub mod Symmetric
+pub mod Families
 pub mod Diamond
 pub mod OnlyOutcome
 pub mod Instances

@@ -32,7 +32,7 @@ use Rattle.published.specs.Alike.{Calls}
 use Rattle.published.specs.Conformance.{held}
 use Rattle.published.specs.SameMatch.{Agree}
 use Rattle.published.specs.Steady.{SameOutcome, Steady, one-rule}
-use Rattle.published.specs.Whence.{right-placed, not-made, marked-stays}
+use Rattle.published.specs.Families.Whence.{right-placed, not-made, marked-stays}
 use Rattle.published.specs.OnlyOutcome.{OneOutcome, one-outcome}
 
 abbrev pub image : List ℕ

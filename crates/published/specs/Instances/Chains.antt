@@ -13,9 +13,9 @@ use Rattle.laws.specs.Values.{LegalRule}
 use Rattle.published.specs.Graphs.{NodeLabel, Graph, Node, HostGraph, Iso}
 use Rattle.published.specs.RuleApplication.{Arrives, StaysEdge, Applies}
 use Rattle.published.specs.OneResult.{value-of, source-stays}
-use Rattle.published.specs.OneRoot.{OneRoot, one-root-iso}
-use Rattle.published.specs.OneOut.{OneOut, one-out-iso}
-use Rattle.published.specs.Whence.{Matched, Untouched, marked-whence}
+use Rattle.published.specs.Families.OneRoot.{OneRoot, one-root-iso}
+use Rattle.published.specs.Families.OneOut.{OneOut, one-out-iso}
+use Rattle.published.specs.Families.Whence.{Matched, Untouched, marked-whence}
 
 -- v is grey, and no edge reaches it from another node
 pub record Start (G : Graph) (v : ℕ) : Type 0 where

@@ -19,8 +19,8 @@ use Rattle.published.specs.RuleApplication.{StaysNode, StaysEdge, Applie
 use Rattle.published.specs.Alike.{Calls}
 use Rattle.published.specs.Semantics.{comSeq, inOrder, followed}
 use Rattle.published.specs.Steady.{Steady, sole}
-use Rattle.published.specs.Symmetric.{Lone, symmetric, swapped, swapped-first}
-use Rattle.published.specs.Unchanged.{tests-steady}
+use Rattle.published.specs.Families.Symmetric.{Lone, symmetric, swapped, swapped-first}
+use Rattle.published.specs.Families.Unchanged.{tests-steady}
 use Rattle.published.specs.OnlyOutcome.{OneOutcome, one-outcome}
 
 -- programs/is-discrete/is-discrete.gp2, assembled

@@ -26,8 +26,8 @@ use Rattle.published.specs.Alike.{Calls, Same, sameGraph, sameFail}
 use Rattle.published.specs.Semantics.{call, Outcome, graph, fails, ⟦_⟧, comSeq, inOrder, followed}
 use Rattle.published.specs.Endings.{checked}
 use Rattle.published.specs.Steady.{SameOutcome, Decided, Lockstep, like-decided, sole}
-use Rattle.published.specs.Symmetric.{Lone}
-use Rattle.published.specs.Unchanged.{unchanged-result}
+use Rattle.published.specs.Families.Symmetric.{Lone}
+use Rattle.published.specs.Families.Unchanged.{unchanged-result}
 use Rattle.published.specs.OnlyOutcome.{OneOutcome, decided-outcome}
 use Rattle.published.specs.Instances.IsDiscrete.{image, del, node, tree, is-discrete-is, legal, LoneAlike, was, del-one}
 

@@ -32,10 +32,10 @@ use Rattle.published.specs.Conformance.{held}
 use Rattle.published.specs.Alike.{Calls}
 use Rattle.published.specs.Semantics.{Outcome, graph, ⟦_⟧, comSeq, inOrder, followed}
 use Rattle.published.specs.Steady.{SameOutcome, Steady, one-rule}
-use Rattle.published.specs.OneRoot.{one-root-held, keeps-one-root, one-root-made}
-use Rattle.published.specs.OneOut.{one-out-held, EdgesKept, keeps-one-out}
-use Rattle.published.specs.Determined.{KnownNode, root, source, target, KnownEdge, leaving, reachingDeleted, determined-agrees}
-use Rattle.published.specs.Unchanged.{Unchanged, tests-steady}
+use Rattle.published.specs.Families.OneRoot.{one-root-held, keeps-one-root, one-root-made}
+use Rattle.published.specs.Families.OneOut.{one-out-held, EdgesKept, keeps-one-out}
+use Rattle.published.specs.Families.Determined.{KnownNode, root, source, target, KnownEdge, leaving, reachingDeleted, determined-agrees}
+use Rattle.published.specs.Families.Unchanged.{Unchanged, tests-steady}
 use Rattle.published.specs.OnlyOutcome.{OneOutcome, one-outcome}
 use Rattle.published.specs.Instances.Chains.{Start, Chain, chain-iso, NoGrey, chain-kept}
 

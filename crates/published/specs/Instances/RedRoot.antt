@@ -26,8 +26,8 @@ use Rattle.published.specs.Conformance.{held}
 use Rattle.published.specs.Alike.{Calls}
 use Rattle.published.specs.Semantics.{Outcome, graph, ⟦_⟧, comSeq}
 use Rattle.published.specs.Steady.{SameOutcome, Steady}
-use Rattle.published.specs.OneRoot.{OneRoot, one-root-held}
-use Rattle.published.specs.Determined.{KnownNode, root, determined-steady}
+use Rattle.published.specs.Families.OneRoot.{OneRoot, one-root-held}
+use Rattle.published.specs.Families.Determined.{KnownNode, root, determined-steady}
 use Rattle.published.specs.OnlyOutcome.{OneOutcome, one-outcome}
 
 abbrev pub image : List ℕ

@@ -24,10 +24,10 @@ use Rattle.published.specs.SameMatch.{Agree}
 use Rattle.published.specs.Alike.{Calls}
 use Rattle.published.specs.Semantics.{comSeq, inOrder, followed}
 use Rattle.published.specs.Steady.{Steady, one-match}
-use Rattle.published.specs.OneRoot.{OneRoot, one-root-iso, keeps-one-root}
-use Rattle.published.specs.OneOut.{OneOut}
-use Rattle.published.specs.Determined.{sourceOf, targetOf, KnownNode, root, source, target, KnownEdge, leavingDeleted, reachingDeleted, determined-agrees, determined-steady}
-use Rattle.published.specs.Unchanged.{tests-steady}
+use Rattle.published.specs.Families.OneRoot.{OneRoot, one-root-iso, keeps-one-root}
+use Rattle.published.specs.Families.OneOut.{OneOut}
+use Rattle.published.specs.Families.Determined.{sourceOf, targetOf, KnownNode, root, source, target, KnownEdge, leavingDeleted, reachingDeleted, determined-agrees, determined-steady}
+use Rattle.published.specs.Families.Unchanged.{tests-steady}
 use Rattle.published.specs.OnlyOutcome.{OneOutcome, one-outcome}
 
 -- programs/is-cycle/is-cycle.gp2 without init, assembled

@@ -28,9 +28,9 @@ use Rattle.published.specs.Conformance.{held}
 use Rattle.published.specs.Alike.{Calls}
 use Rattle.published.specs.Semantics.{Outcome, graph, ⟦_⟧, comSeq}
 use Rattle.published.specs.Steady.{SameOutcome, Steady}
-use Rattle.published.specs.OneRoot.{one-root-held}
-use Rattle.published.specs.OneOut.{one-out-held, EdgesKept}
-use Rattle.published.specs.Determined.{KnownNode, root, source, target, KnownEdge, leaving, OneWay, walk-steady}
+use Rattle.published.specs.Families.OneRoot.{one-root-held}
+use Rattle.published.specs.Families.OneOut.{one-out-held, EdgesKept}
+use Rattle.published.specs.Families.Determined.{KnownNode, root, source, target, KnownEdge, leaving, OneWay, walk-steady}
 use Rattle.published.specs.OnlyOutcome.{OneOutcome, one-outcome}
 
 abbrev edge : List ℕ

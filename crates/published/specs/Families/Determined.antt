@@ -17,8 +17,8 @@ use Rattle.published.specs.Graphs.{Graph}
 use Rattle.published.specs.RuleApplication.{nodeOf, edgeOf, Matches}
 use Rattle.published.specs.SameMatch.{Agree}
 use Rattle.published.specs.Steady.{Steady, one-rule}
-use Rattle.published.specs.OneRoot.{OneRoot, RootsKept, keeps-one-root, root-agrees}
-use Rattle.published.specs.OneOut.{OneOut, leaving-agrees, EdgesKept, keeps-one-out}
+use Rattle.published.specs.Families.OneRoot.{OneRoot, RootsKept, keeps-one-root, root-agrees}
+use Rattle.published.specs.Families.OneOut.{OneOut, leaving-agrees, EdgesKept, keeps-one-out}
 
 module _ (r : Rule) where
   abbrev pub LeftEdge : ℕ → Type 0

@@ -14,7 +14,7 @@ use Rattle.laws.specs.Hosts.{liveAt-lt}
 use Rattle.laws.specs.Values.{LegalRule}
 use Rattle.published.specs.Graphs.{NodeLabel, Graph, Node, HostGraph, graphOf, Iso}
 use Rattle.published.specs.RuleApplication.{nodeOf, Matches, Applies}
-use Rattle.published.specs.Whence.{Matched, place, Other, Right, whence}
+use Rattle.published.specs.Families.Whence.{Matched, place, Other, Right, whence}
 
 -- there is at most one root
 abbrev pub OneRoot : Graph → Type 0
