@@ -1,11 +1,13 @@
-# `make run` runs the main job, `make test` runs everything that is checked. The others: `make driver`, `make bench`,
-# `make fuzz`, `make memory`, `make map`, `make install PREFIX=..`.
+# `make run` runs the main job, `make test` runs everything that is checked. The others: `make library`, `make driver`,
+# `make bench`, `make fuzz`, `make memory`, `make map`, `make install PREFIX=..`. ARCH=aarch64 or ARCH=x86_64 says for which
+# processor; without it, for this machine's own.
 
 CARGO = cargo --quiet
 SECOND = second/target/release/second
 GP2 = second/target/release/gp2
-X86 = tools/x86-64
-LIBRARY = target/staticlib/libinterpreter.a
+ARCH ?= $(shell tools/processor own)
+LIBRARY = target/library/$(ARCH)/libnhiemavut.a
+SOURCES = crates.txt $(shell find crates -name '*.rt' -o -name '*.antt')
 
 # What `make run` runs: a runner image, or a program and a host graph in text.
 PROGRAM ?= programs/case-p/case-p.gp2
@@ -14,19 +16,22 @@ FUEL ?= 10
 RECORDS ?= 8
 
 PREFIX ?= /usr/local
+LIBDIR ?= $(PREFIX)/lib
 COUNT ?= 1000
 ROUNDS ?= 10
 
+export ARCH
+
 .PHONY: run test tools runner library driver bench fuzz memory map install clean
 
-# Runs an image by the proved runner.
+# Runs an image by the proved runner, which rt builds as x86-64 code.
 run: tools runner
 ifdef IMAGE
-	@$(X86) run target/bin/runner <$(IMAGE)
+	@tools/processor run x86_64 target/bin/runner <$(IMAGE)
 else
 	@mkdir -p target
 	@$(GP2) asm $(PROGRAM) --host $(HOST) --fuel $(FUEL) --records $(RECORDS) -o target/run.image
-	@$(X86) run target/bin/runner <target/run.image
+	@tools/processor run x86_64 target/bin/runner <target/run.image
 endif
 
 # The second interpreter and its tools, built from the standard library alone.
@@ -36,25 +41,24 @@ tools:
 
 # The runner program and what it rests on: rt builds what it has proved. What is proved already is not proved again.
 runner:
-	@test -x target/bin/runner || echo "proves and builds the runner, some minutes the first time .." >&2
-	@mkdir -p target
-	@rt check runner >target/runner.log 2>&1 || { cat target/runner.log; exit 1; }
+	@tools/prove runner
 
 # The static library for C, built again when a source of it is newer.
 library: $(LIBRARY)
 	@:
 
-$(LIBRARY): crates.txt $(shell find crates -name '*.rt' -o -name '*.antt')
-	@test -f $@ || echo "proves and builds the static library, some minutes the first time .." >&2
-	@mkdir -p target
-	@rt staticlib interpreter >target/staticlib.log 2>&1 || { cat target/staticlib.log; exit 1; }
+target/library/%/libnhiemavut.a: target/module/interpreter/module.ll
+	@mkdir -p $(@D)
+	@tools/module library interpreter $* $@
+
+# Proved code as the kit's compiler gets it, for either processor.
+.PRECIOUS: target/module/%/module.ll
+target/module/%/module.ll: $(SOURCES)
+	@tools/module keep $*
 
 # The worked driver, on the pass that colours a graph with two colours.
-driver: tools library
-	@mkdir -p target/examples
-	@$(X86) cc -std=c11 -O2 -Wall -Wextra -Wpedantic -Werror -Iinclude examples/driver.c $(LIBRARY) -static -o target/examples/driver
-	@$(GP2) asm programs/2-colouring/2-colouring.gp2 -o target/examples/driver.image
-	@$(X86) run target/examples/driver target/examples/driver.image
+driver:
+	@sh examples/run driver
 
 # The proved code beside plain C: whole programs, then the matcher alone.
 bench:
@@ -74,14 +78,15 @@ map:
 	tools/map
 
 install: library
-	mkdir -p $(DESTDIR)$(PREFIX)/include $(DESTDIR)$(PREFIX)/lib/pkgconfig
+	mkdir -p $(DESTDIR)$(PREFIX)/include $(DESTDIR)$(LIBDIR)/pkgconfig
 	cp include/nhiemavut.h $(DESTDIR)$(PREFIX)/include/
-	cp $(LIBRARY) $(DESTDIR)$(PREFIX)/lib/libnhiemavut.a
-	sed 's|@PREFIX@|$(PREFIX)|' include/nhiemavut.pc.in >$(DESTDIR)$(PREFIX)/lib/pkgconfig/nhiemavut.pc
+	cp $(LIBRARY) $(DESTDIR)$(LIBDIR)/
+	sed -e 's|@PREFIX@|$(PREFIX)|' -e 's|@LIBDIR@|$(LIBDIR)|' include/nhiemavut.pc.in >$(DESTDIR)$(LIBDIR)/pkgconfig/nhiemavut.pc
 
 # The second interpreter's own tests, with its check of every stored expected output; the proofs and the programs over stored
-# files, eight checks at a time, since the checks of a layer begin together and end together; what `make run` prints; the C examples and
-# a short comparison of the compiled calls. The last line is rt's own, said again.
+# files, eight checks at a time, since the checks of a layer begin together and end together; what `make run` prints; the stored
+# corpus through this machine's own code; the C examples and a short comparison of the compiled calls, for each processor whose code can be
+# run here. The last line is rt's own, said again.
 test:
 	tools/map --check
 	tools/names
@@ -90,8 +95,8 @@ test:
 	@mkdir -p .gate
 	@{ RT_JOBS=$${RT_JOBS:-8} rt ci 2>&1; echo $$? >.gate/status; } | tee .gate/log; test "$$(cat .gate/status)" = 0
 	$(MAKE) --no-print-directory run | cmp - crates/runner/stdout
-	sh examples/run
-	sh fuzz/run 1000 2
+	ARCH= sh fuzz/run --stored
+	for arch in $$(tools/processor kinds); do ARCH=$$arch sh examples/run && ARCH=$$arch sh fuzz/run 1000 2 || exit 1; done
 	@tail -n 1 .gate/log
 
 clean:

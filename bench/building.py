@@ -1,0 +1,64 @@
+"""What the benchmarks share: the processor whose code they measure, and C and proved code built for it.
+
+ARCH says which (aarch64 or x86_64); without it, this machine's own.
+"""
+import functools
+import pathlib
+import subprocess
+import sys
+
+ROOT = pathlib.Path(__file__).resolve().parent.parent
+PROCESSOR = ROOT / "tools" / "processor"
+GP2 = ROOT / "second" / "target" / "release" / "gp2"
+WARNINGS = ["-std=c11", "-Wall", "-Wextra", "-Werror"]
+
+
+def run(words, **more):
+    """What a command prints. It is run at the top of the repository; where it fails, so does the benchmark."""
+    done = subprocess.run([str(word) for word in words], stdout=subprocess.PIPE, text=True, cwd=ROOT, **more)
+    if done.returncode:
+        sys.exit(done.returncode)
+    return done.stdout
+
+
+ARCH = run([PROCESSOR, "chosen"]).strip()
+CODE = run([PROCESSOR, "code", ARCH]).strip()
+WORK = ROOT / "target" / "bench" / ARCH
+LIBRARY = ROOT / "target" / "library" / ARCH / "libnhiemavut.a"
+
+
+def ready(*goals):
+    """Makes what a benchmark rests on, if programs for ARCH can be compiled and started here; else says what is missing."""
+    if subprocess.run([PROCESSOR, "has", ARCH]).returncode:
+        sys.exit("bench: skipped")
+    WORK.mkdir(parents=True, exist_ok=True)
+    run(["make", "--no-print-directory", f"ARCH={ARCH}", *goals])
+
+
+@functools.cache
+def emulator():
+    return run([PROCESSOR, "emulator", ARCH]).split()
+
+
+def started(program):
+    """The words that start a program."""
+    return [*emulator(), str(program)]
+
+
+def gcc(name, words):
+    """A program, by gcc at -O2."""
+    run([PROCESSOR, "cc", ARCH, *WARNINGS, "-O2", "-static", *words, "-o", WORK / name])
+    return WORK / name
+
+
+def clang_object(name, words):
+    """An object, by the kit's compiler at the level at which rt compiles proved code."""
+    run([PROCESSOR, "clang", ARCH, *WARNINGS, "-O3", *words, "-o", WORK / name])
+    return WORK / name
+
+
+def proved_program(name):
+    """A program of the repository, from its proved module."""
+    ready(f"target/module/{name}/module.ll")
+    run([ROOT / "tools" / "module", "object", name, ARCH, WORK / f"{name}.o"])
+    return gcc(name, [WORK / f"{name}.o"])
