@@ -41,7 +41,7 @@ tools:
 
 # The runner program and what it rests on: rt builds what it has proved. What is proved already is not proved again.
 runner:
-	@tools/prove runner
+	@tools/prove check runner
 
 # The static library for C, built again when a source of it is newer.
 library: $(LIBRARY)
