@@ -85,8 +85,8 @@ install: library
 
 # The second interpreter's own tests, with its check of every stored expected output; the proofs and the programs over stored
 # files, eight checks at a time, since the checks of a layer begin together and end together; what `make run` prints; the stored
-# corpus through this machine's own code; the C examples and a short comparison of the compiled calls, for each processor whose code can be
-# run here. The last line is rt's own, said again.
+# corpus and fresh images through this machine's own code; the C examples and a short comparison of the compiled calls, for each processor
+# whose code can be run here. The last line is rt's own, said again.
 test:
 	tools/map --check
 	tools/names
@@ -96,6 +96,7 @@ test:
 	@{ RT_JOBS=$${RT_JOBS:-8} rt ci 2>&1; echo $$? >.gate/status; } | tee .gate/log; test "$$(cat .gate/status)" = 0
 	$(MAKE) --no-print-directory run | cmp - crates/runner/stdout
 	ARCH= sh fuzz/run --stored
+	ARCH= sh fuzz/run 1000 3 10
 	for arch in $$(tools/processor kinds); do ARCH=$$arch sh examples/run && ARCH=$$arch sh fuzz/run 1000 2 || exit 1; done
 	@tail -n 1 .gate/log
 
