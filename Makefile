@@ -81,7 +81,7 @@ install: library
 	mkdir -p $(DESTDIR)$(PREFIX)/include $(DESTDIR)$(LIBDIR)/pkgconfig
 	cp include/nhiemavut.h $(DESTDIR)$(PREFIX)/include/
 	cp $(LIBRARY) $(DESTDIR)$(LIBDIR)/
-	sed -e 's|@PREFIX@|$(PREFIX)|' -e 's|@LIBDIR@|$(LIBDIR)|' include/nhiemavut.pc.in >$(DESTDIR)$(LIBDIR)/pkgconfig/nhiemavut.pc
+	sed -e 's|@PREFIX@|$(PREFIX)|' -e 's|@LIBDIR@|$(patsubst $(PREFIX)/%,$${prefix}/%,$(LIBDIR))|' include/nhiemavut.pc.in >$(DESTDIR)$(LIBDIR)/pkgconfig/nhiemavut.pc
 
 # The second interpreter's own tests, with its check of every stored expected output; the proofs and the programs over stored
 # files, eight checks at a time, since the checks of a layer begin together and end together; what `make run` prints; the stored
