@@ -87,8 +87,6 @@ static enum next handle(uint32_t answer)
         return GIVE_UP;
     case NHIEMAVUT_LABEL_TOO_LARGE: /* the pass counts beyond 32 bits or makes a label of more than four atoms */
         return GIVE_UP;
-    case NHIEMAVUT_EDGE_ON_FREE_NODE: /* never seen */
-        return GIVE_UP;
     case NHIEMAVUT_BAD_REPORT: /* 9 to 14: the driver lends wrong buffers */
     case NHIEMAVUT_BAD_NODES:
     case NHIEMAVUT_BAD_EDGES:

@@ -35,18 +35,17 @@ enum {
     NHIEMAVUT_MOST_FUEL = 1000000
 };
 
-/* The answers of a call. */
+/* The answers of a call. 7 is none of them, and will not be one: where a switch has a case for it, that case is dead code. */
 enum {
     NHIEMAVUT_RESULT = 0,
 
     /* a run that came to no result: the graph is as it came */
-    NHIEMAVUT_FAIL = 1,              /* the program failed */
-    NHIEMAVUT_OUT_OF_FUEL = 2,       /* no fuel was left to enter a command */
-    NHIEMAVUT_NO_NODE_ROOM = 3,      /* too few node slots for the nodes that a rule adds */
-    NHIEMAVUT_NO_EDGE_ROOM = 4,      /* too few edge slots for the edges that a rule adds */
-    NHIEMAVUT_NO_RECORD_ROOM = 5,    /* too few journal slots for the records of a rule */
-    NHIEMAVUT_LABEL_TOO_LARGE = 6,   /* a sum or difference leaves 32 bits, or a label has over four atoms */
-    NHIEMAVUT_EDGE_ON_FREE_NODE = 7, /* an application left a live edge on a free node; it is proved that no run does */
+    NHIEMAVUT_FAIL = 1,            /* the program failed */
+    NHIEMAVUT_OUT_OF_FUEL = 2,     /* no fuel was left to enter a command */
+    NHIEMAVUT_NO_NODE_ROOM = 3,    /* too few node slots for the nodes that a rule adds */
+    NHIEMAVUT_NO_EDGE_ROOM = 4,    /* too few edge slots for the edges that a rule adds */
+    NHIEMAVUT_NO_RECORD_ROOM = 5,  /* too few journal slots for the records of a rule */
+    NHIEMAVUT_LABEL_TOO_LARGE = 6, /* a sum or difference leaves 32 bits, or a label has over four atoms */
 
     /* a refused call: nothing is run or undone */
     NHIEMAVUT_BAD_REPORT = 9,      /* the report isn't 8 bytes; it is left as it was */
@@ -68,7 +67,7 @@ enum {
  * What the journal holds before doesn't matter: a started run clears it first.
  *
  * Answers 0, with the result in both tables, a record of each change from the journal's front and zeros behind, and
- * steps and records in the report: nhiemavut_undo with that count of records gives the graph back. Answers 1 to 7 where
+ * steps and records in the report: nhiemavut_undo with that count of records gives the graph back. Answers 1 to 6 where
  * the run comes to no result: both tables are as they came, the journal is all zero, and the report has the steps and 0
  * records. Or the lowest of 9 to 18 that applies, before anything is run. A refused call leaves both tables and the
  * journal as they were, and writes zeros in the report, except on 9.

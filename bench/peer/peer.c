@@ -160,7 +160,7 @@ static int read_side(struct reader p, struct side *s)
 
 static int read_test(int tag, struct reader p, struct test *t)
 {
-    if (left(&p) < 1 || p.at[0] > 1)
+    if (tag < 0 || left(&p) < 1 || p.at[0] > 1)
         return 0;
     t->negated = p.at[0];
     t->kind = (uint8_t)tag;

@@ -1,4 +1,4 @@
-//! The answers of document 01's table.
+//! The answers of document 01's table. 7 is none: it was an application that left a live edge on a free node, which never comes.
 
 pub const RESULT: u32 = 0;
 pub const FAIL: u32 = 1;
@@ -7,7 +7,6 @@ pub const NO_ROOM_NODES: u32 = 3;
 pub const NO_ROOM_EDGES: u32 = 4;
 pub const NO_ROOM_JOURNAL: u32 = 5;
 pub const LABEL: u32 = 6;
-pub const EDGE_ON_FREE_NODE: u32 = 7;
 pub const REPORT: u32 = 9;
 pub const NODE_TABLE: u32 = 10;
 pub const EDGE_TABLE: u32 = 11;

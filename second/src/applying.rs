@@ -15,7 +15,7 @@ struct RightLabels {
     edges: Vec<Label>,
 }
 
-/// The graph after the application and its records in order, or the answer from 3 to 7 that ends the
+/// The graph after the application and its records in order, or the answer from 3 to 6 that ends the
 /// run. `room` is the number of records that the journal can still take.
 pub fn apply(
     rule: &Rule,
@@ -46,10 +46,7 @@ pub fn apply(
         records: Vec::new(),
     };
     change.all(rule, found, &labels, observer);
-    if change.host.both_ends_of_live_edges_are_live().is_err() {
-        return Err(answer::EDGE_ON_FREE_NODE);
-    }
-    observer.sees(Event::Applied);
+    observer.sees(Event::Applied(&change.host));
     Ok((change.host, change.records))
 }
 

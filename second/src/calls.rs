@@ -160,7 +160,7 @@ impl RunCall {
         }
     }
 
-    /// After 1 to 7 the graph is what came in and the journal is all zero.
+    /// After 1 to 6 the graph is what came in and the journal is all zero.
     fn without_result(&self, answer: u32, steps: u32) -> Outcome {
         Outcome {
             answer,

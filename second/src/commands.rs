@@ -44,7 +44,7 @@ pub enum Ending {
     Fail,
     /// On the way to the loop around it. Placement keeps it from ending a guard or the whole run.
     Break(State),
-    /// One of the answers 2 to 7, which end the whole run.
+    /// One of the answers 2 to 6, which end the whole run.
     Stop(u32),
 }
 

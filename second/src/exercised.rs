@@ -64,7 +64,7 @@ impl Observer for Exercised {
                 *self.elements.of(element, &rule.variables) += 1;
             }
             Event::Placed(slot, left) => self.slots_reused += u64::from(left.contains(&slot)),
-            Event::Applied => self.applications += 1,
+            Event::Applied(_) => self.applications += 1,
         }
     }
 }
@@ -130,6 +130,7 @@ impl ElementCounts {
 #[cfg(test)]
 mod tests {
     use super::*;
+    use crate::host::Host;
 
     fn seen(events: &[Event]) -> Exercised {
         let mut exercised = Exercised::default();
@@ -140,13 +141,15 @@ mod tests {
     #[test]
     fn what_is_undone_counts_where_a_rule_was_applied_in_it() {
         use Event::{Applied, Attempted, BodyUndone, GuardUndone, Kept};
-        let idle = seen(&[Applied, Attempted, GuardUndone, Attempted, BodyUndone]);
+        let left = Host::default();
+        let applied = Applied(&left);
+        let idle = seen(&[applied, Attempted, GuardUndone, Attempted, BodyUndone]);
         assert_eq!((idle.guards_undone, idle.bodies_undone), (0, 0));
-        let inner = seen(&[Attempted, Attempted, Applied, BodyUndone, GuardUndone]);
+        let inner = seen(&[Attempted, Attempted, applied, BodyUndone, GuardUndone]);
         assert_eq!((inner.guards_undone, inner.bodies_undone), (1, 1));
         let outer = seen(&[
             Attempted,
-            Applied,
+            applied,
             Attempted,
             Kept,
             Attempted,

@@ -1,5 +1,6 @@
 //! What a run tells an observer from outside. Nothing that a run does depends on who observes it.
 
+use crate::host::Host;
 use crate::tree::{Command, Element, Rule, Test};
 
 /// What a run has just done.
@@ -25,8 +26,8 @@ pub enum Event<'a> {
     Evaluated(&'a Rule, &'a Element),
     /// A new item takes a slot; the slots of the left items of its kind.
     Placed(usize, &'a [usize]),
-    /// A rule was applied.
-    Applied,
+    /// A rule was applied, which left this graph.
+    Applied(&'a Host),
 }
 
 pub trait Observer {

@@ -1,9 +1,11 @@
 //! What document 01 says of all runs, held against some ten thousand random small ones.
 
 mod common;
+mod ends;
 mod report;
 
 use common::{Draft, Sample};
+use ends::Ends;
 use report::numbers;
 use second::calls::{run, undo, Outcome};
 use second::corpus;
@@ -48,7 +50,7 @@ fn the_samples_exercise_what_they_should() {
     let mut exercised = Exercised::default();
     let mut answers = [0; 7];
     for draft in drafts() {
-        answers[draft.sample().counted(&mut exercised).answer as usize] += 1;
+        answers[draft.sample().observed(&mut exercised).answer as usize] += 1;
     }
     assert!(answers.iter().all(|count| *count >= 100), "{answers:?}");
     let it = exercised;
@@ -165,13 +167,22 @@ fn less_fuel_than_the_steps_answers_2_and_enough_fuel_changes_nothing() {
 }
 
 #[test]
-fn answers_1_to_7_give_back_the_graph_and_a_zero_journal() {
-    for (sample, outcome) in answered(1..=7) {
+fn answers_1_to_6_give_back_the_graph_and_a_zero_journal() {
+    for (sample, outcome) in answered(1..=6) {
         assert_eq!(outcome.nodes, sample.nodes);
         assert_eq!(outcome.edges, sample.edges);
         assert_eq!(outcome.journal, vec![0; sample.records * 28]);
         assert_eq!(numbers(&outcome).2, 0);
     }
+}
+
+#[test]
+fn no_application_leaves_an_edge_on_a_free_node() {
+    let mut ends = Ends::default();
+    for sample in samples() {
+        sample.observed(&mut ends);
+    }
+    assert!(ends.applications >= 10_000, "{}", ends.applications);
 }
 
 #[test]

@@ -94,7 +94,6 @@ fn stop_number(why: Stop) -> u32
         Stop::NoEdgeRoom => 4,
         Stop::NoRecordRoom => 5,
         Stop::LabelTooLarge => 6,
-        Stop::EdgeOnFreeNode => 7,
     }
 }
 

@@ -1,24 +1,19 @@
--- Laws of what an application comes to: it stops before any change, or it is done. The test after the changes finds nothing.
+-- Laws of what an application comes to: it stops before any change, or it is done.
 -- Rests on Application and Parts, and on ledger's Applications.
 use mathlib.Core.Path.{_≡_, refl, sym, _∙_, ap, subst}
-use mathlib.Core.Bool.{true}
 use mathlib.Core.Option.{some, none}
 use mathlib.Core.List.{List}
 use Prim.Native.Nat.{ℕ, _/_}
 use native.Mathlib.Omega.{arith}
 use lib.ListN.{length, take}
-use Rattle.meaning.specs.Basics.{exists}
-use Rattle.meaning.specs.Layout.{recordLength, readNodes, readEdges}
+use Rattle.meaning.specs.Layout.{recordLength}
 use Rattle.meaning.specs.Image.{Rule}
-use Rattle.meaning.specs.Applying.{Right, Ledger, rightSide, changed, hindrance, onFreeNode, Applied, applied, hindered, tested, apply}
-use Rattle.meaning.specs.Laws.Tests.{some-inj, choose-true}
-use Rattle.laws.specs.Legality.{tested-legal}
+use Rattle.meaning.specs.Applying.{Right, Ledger, rightSide, changed, hindrance, Applied, applied, hindered, apply}
+use Rattle.meaning.specs.Laws.Tests.{some-inj}
 use Rattle.meaning.specs.declared.Layout.{Layout}
 use Rattle.meaning.specs.declared.Stop.{Stop}
-use Rattle.meaning.specs.declared.Stop.the-variants.{EdgeOnFreeNode}
 use Rattle.meaning.specs.Matching.{total}
 use Rattle.ledger.specs.Running.{ledgerOf, Running, Leads}
-use Rattle.ledger.specs.Whole.{running-legal}
 use Rattle.ledger.specs.Rooms.{stopOf}
 use Rattle.ledger.specs.Applications.{stopped-is, applied-is, runs-on}
 use Rattle.ledger.specs.declared.Applied.{Applied as Came}
@@ -88,13 +83,3 @@ module _ {L : Layout} {nodes edges journal : List ℕ} {used : ℕ} {bs slots le
           kept = λ s q. let z : _≡_ {A = ℕ} 0 1 = cc in absurd (omega arith);
           running = still-runs;
         }
-
-    -- no live edge is on a free node
-    pub none-free : exists (onFreeNode (record { nodes = readNodes L nodes′; edges = readEdges L edges′ })) (length (readEdges L edges′)) ≡ true → ⊥
-    unfolding tested
-    none-free q =
-        let t : tested (ledgerOf L nodes′ edges′ journal′ all) ≡ applied (ledgerOf L nodes′ edges′ journal′ all) =
-        tested-legal L (ledgerOf L nodes′ edges′ journal′ all) (running-legal L nodes′ edges′ journal′ all still-runs .host) in
-        let h : hindered EdgeOnFreeNode ≡ applied (ledgerOf L nodes′ edges′ journal′ all) = sym (choose-true _ _ _ q) ∙ t in
-        let z : _≡_ {A = ℕ} 0 1 = cc in
-        omega arith

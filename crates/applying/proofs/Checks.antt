@@ -15,9 +15,8 @@ use Rattle.meaning.specs.References.{names, testNames, variablesOnLeft, ruleHol
 use Rattle.meaning.specs.Matching.{leftEdges, total}
 use Rattle.meaning.specs.Assigned.{assigned}
 use Rattle.meaning.specs.Applying.{freeSlots, rightSide, newNodes, goneNodes, recordsOf, hindrance}
-use Rattle.meaning.specs.Laws.Tests.{choose-true, choose-false}
+use Rattle.meaning.specs.Laws.Tests.{choose-true, choose-false, clauses-true}
 use Rattle.meaning.specs.Laws.Every.{Every, Every-true, Every-parts, Every-then}
-use Rattle.laws.specs.References.{clauses-true}
 use Rattle.meaning.specs.declared.Layout.{Layout}
 use Rattle.meaning.specs.declared.Stop.the-variants.{LabelTooLarge}
 use Rattle.values.specs.Values.{valuesOf, Agree, allHeld}

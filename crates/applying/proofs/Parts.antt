@@ -16,11 +16,12 @@ use Rattle.meaning.specs.Laws.Tests.{isSome-true}
 use Rattle.meaning.specs.Laws.Every.{Every-in}
 use Rattle.laws.specs.Hosts.{LegalEdge}
 use Rattle.laws.specs.Pieces.{length-read}
-use Rattle.laws.specs.Applying.{stores-append, rightSide-some}
+use Rattle.meaning.specs.Laws.Applying.{stores-append, rightSide-some}
 use Rattle.meaning.specs.Laws.Checks.{firstFailing-none}
-use Rattle.laws.specs.Room.{afterNew, changed-is, afterLeft-nodes, afterLeft-edges}
-use Rattle.laws.specs.Attached.{rightSlots}
-use Rattle.laws.specs.Values.{LegalRight, interface-left, interface-right, new-marked, rightSide-legal}
+use Rattle.meaning.specs.Laws.Room.{afterNew, changed-is, afterLeft-nodes, afterLeft-edges}
+use Rattle.meaning.specs.Laws.Attached.{rightSlots}
+use Rattle.meaning.specs.Laws.Interface.{interface-left, interface-right}
+use Rattle.laws.specs.Values.{LegalRight, new-marked, rightSide-legal}
 use Rattle.laws.specs.FirstMatch.{found-match, node-inside, edge-inside}
 use Rattle.fields.specs.Parsed.{Few, rule-few}
 use Rattle.laws.specs.Legality.{Ready, between-legal}

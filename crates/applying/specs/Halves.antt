@@ -8,7 +8,7 @@ use Rattle.meaning.specs.Layout.{recordLength}
 use Rattle.meaning.specs.Image.{Rule}
 use Rattle.meaning.specs.Matching.{leftNodes, leftEdges, total}
 use Rattle.meaning.specs.Applying.{Right, rightSide, changed, hindrance}
-use Rattle.laws.specs.Room.{afterLeft}
+use Rattle.meaning.specs.Laws.Room.{afterLeft}
 use Rattle.meaning.specs.declared.Layout.{Layout}
 use Rattle.ledger.specs.Running.{ledgerOf, Running, Leads}
 use Rattle.ledger.specs.Changes.{Went}

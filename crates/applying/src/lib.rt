@@ -1,14 +1,10 @@
-// Applying a rule at a match: the checks before any change, the changes in document 01's order with one record each, and the
-// test after them.
+// Applying a rule at a match: the checks before any change, and the changes in document 01's order with one record each.
 ghost use mathlib.Core.Path.{_≡_};
-ghost use Prim.Native.Nat.{_+_, _/_, _<_};
+ghost use Prim.Native.Nat.{_/_};
 ghost use lib.ListN.{length, take};
-ghost use lib.Dec.{ltb};
 ghost use Rattle.meaning.specs.Layout.{recordLength};
-ghost use Rattle.meaning.specs.Image.{rule as readRule};
-ghost use Rattle.meaning.specs.Matching.{leftNodes, total};
+ghost use Rattle.meaning.specs.Matching.{total};
 ghost use Rattle.meaning.specs.Applying.{hindrance};
-ghost use Rattle.parts.specs.Series.{For};
 ghost use Rattle.ledger.specs.Running.{ledgerOf, Running};
 ghost use Rattle.ledger.specs.Rooms.{stopOf};
 ghost use Rattle.applying.specs.Application.{AtMatch, Applies};
@@ -160,46 +156,7 @@ fn change(
     add_right(l, nodes, edges, journal, kept, rule, slots, lens, atoms)
 }
 
-// Whether a rule takes nodes away: its interface is fewer than the left nodes.
-fn takes_nodes(rule: &[u8]) -> bool
-    ensures { λ b. ⌜ For (readRule (now (rule .entry))) (λ r. b ≡ ltb (r .interface) (leftNodes r)) ⌝ }
-{
-    let left = parts::left_part(rule);
-    parts::interface_of(rule) < parts::node_count(left)
-}
-
-// The changes, and the test after them. That test, made where nodes go, finds nothing, since an application leaves no edge
-// on a free node.
-fn change_and_test(
-    l: Layout,
-    nodes: &mut [u8],
-    edges: &mut [u8],
-    journal: &mut [u8],
-    used: usize,
-    rule: &[u8],
-    slots: &[usize; Room::ITEMS],
-    lens: &[usize; Room::VARIABLES],
-    atoms: &[u32; Room::ATOMS],
-) -> After
-    requires { ⌜ Unhindered l (now nodes) (now edges) (now journal) used (now rule) (now slots) (now lens) (now atoms) ⌝ }
-    ensures { λ a. ⌜ Applies l (now (nodes .entry)) (now (edges .entry)) (now (journal .entry)) used (now (rule .entry)) (now (slots .entry)) a (now (nodes .exit)) (now (edges .exit)) (now (journal .exit)) ⌝ }
-{
-    let all = change(l, nodes, edges, journal, used, rule, slots, lens, atoms);
-    if takes_nodes(rule) {
-        if ledger::edge_on_free_node(l, &nodes[..], &edges[..]) {
-            return After {
-                applied: Applied::Stopped(Stop::EdgeOnFreeNode),
-                records: all,
-            };
-        }
-    }
-    After {
-        applied: Applied::Done,
-        records: all,
-    }
-}
-
-// Applies a rule at its first match: the checks, then the changes and the test after them.
+// Applies a rule at its first match: the checks, then the changes.
 pub fn apply(
     l: Layout,
     nodes: &mut [u8],
@@ -234,7 +191,11 @@ pub fn apply(
             };
         }
         Applied::Done => {
-            return change_and_test(l, nodes, edges, journal, used, rule, slots, lens, atoms);
+            let all = change(l, nodes, edges, journal, used, rule, slots, lens, atoms);
+            return After {
+                applied: Applied::Done,
+                records: all,
+            };
         }
     }
 }

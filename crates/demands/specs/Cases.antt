@@ -119,17 +119,17 @@ by f =
 
 -- Breaking demand 2: another outcome than ours where ours starts.
 
-pub breaks2 : (I : Interpreter) (x : Lent) → canBeLent x ≡ true → ours base .run x .answer ≤ 7 → (I .run x ≡ ours base .run x → ⊥)
+pub breaks2 : (I : Interpreter) (x : Lent) → canBeLent x ≡ true → ours base .run x .answer ≤ 6 → (I .run x ≡ ours base .run x → ⊥)
     → Demand2 base I → ⊥
 breaks2 I x b l n d = n (one-outcome base base-numbered I d x (lendable x b) (run-settled base x l))
 
-pub atCase : (n : ℕ) → canBeLent (lent (caseAt n)) ≡ true → caseAt n .expected .answer ≤ 7 → (I : Interpreter)
+pub atCase : (n : ℕ) → canBeLent (lent (caseAt n)) ≡ true → caseAt n .expected .answer ≤ 6 → (I : Interpreter)
     → (I .run (lent (caseAt n)) ≡ expects (caseAt n .expected) → ⊥) → Demand2 base I → ⊥
 atCase n b l I h =
-    breaks2 I (lent (caseAt n)) b (subst (λ (o : Outcome). o .answer ≤ 7) (sym (proved n)) l) (λ e. h (e ∙ proved n))
+    breaks2 I (lent (caseAt n)) b (subst (λ (o : Outcome). o .answer ≤ 6) (sym (proved n)) l) (λ e. h (e ∙ proved n))
 
 -- Breaking demand 3: other steps than ours where ours starts.
 
-pub breaks3 : (I : Interpreter) (x : Lent) → canBeLent x ≡ true → ours base .run x .answer ≤ 7 → In (I .run x .answer) (0 ∷ 1 ∷ 6 ∷ [])
+pub breaks3 : (I : Interpreter) (x : Lent) → canBeLent x ≡ true → ours base .run x .answer ≤ 6 → In (I .run x .answer) (0 ∷ 1 ∷ 6 ∷ [])
     → (take 4 (I .run x .report) ≡ take 4 (ours base .run x .report) → ⊥) → Demand3 base I → ⊥
 breaks3 I x b l a n d = n (one-count base base-numbered x (lendable x b) (run-settled base x l) I d a)

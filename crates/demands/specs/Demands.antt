@@ -22,7 +22,7 @@ use Rattle.meaning.specs.Calls.{Lent, LentUndo, mostFuel, referencesHold, place
 use Rattle.laws.specs.Numbers.{Bytes}
 use Rattle.meaning.specs.declared.Layout.{Layout}
 use Rattle.meaning.specs.declared.Stop.{Stop}
-use Rattle.meaning.specs.declared.Stop.the-variants.{OutOfFuel, NoNodeRoom, NoEdgeRoom, NoRecordRoom, LabelTooLarge, EdgeOnFreeNode}
+use Rattle.meaning.specs.declared.Stop.the-variants.{OutOfFuel, NoNodeRoom, NoEdgeRoom, NoRecordRoom, LabelTooLarge}
 use Rattle.meaning.specs.declared.End.{End}
 use Rattle.meaning.specs.declared.End.the-variants.{Done, Failed, Broke, Stopped}
 
@@ -65,7 +65,7 @@ pub record Interpreter : Type 0 where
 -- The published table: the answers of run and those of undo, and of them the ones that end a run that has started.
 
 abbrev pub runTable : List ℕ
-runTable = 0 ∷ 1 ∷ 2 ∷ 3 ∷ 4 ∷ 5 ∷ 6 ∷ 7 ∷ 9 ∷ 10 ∷ 11 ∷ 12 ∷ 13 ∷ 14 ∷ 15 ∷ 16 ∷ 17 ∷ 18 ∷ []
+runTable = 0 ∷ 1 ∷ 2 ∷ 3 ∷ 4 ∷ 5 ∷ 6 ∷ 9 ∷ 10 ∷ 11 ∷ 12 ∷ 13 ∷ 14 ∷ 15 ∷ 16 ∷ 17 ∷ 18 ∷ []
 
 abbrev pub undoTable : List ℕ
 undoTable = 0 ∷ 9 ∷ 10 ∷ 11 ∷ 12 ∷ 20 ∷ []
@@ -76,7 +76,6 @@ stopAnswer NoNodeRoom = 3
 stopAnswer NoEdgeRoom = 4
 stopAnswer NoRecordRoom = 5
 stopAnswer LabelTooLarge = 6
-stopAnswer EdgeOnFreeNode = 7
 
 abbrev pub In : ℕ → List ℕ → Type 0
 In n l = absent n l ≡ false
@@ -186,10 +185,10 @@ module _ (L : Layout) where
   pub record Demand1 (I : Interpreter) : Type 0 where
     pub answers : (x : Lent) → Lendable x → In (I .run x .answer) runTable
     pub refuses : (x : Lent) → Lendable x → (n : ℕ) → runRefusedWith x ≡ some n → I .run x .answer ≡ n
-    pub starts : (x : Lent) → Lendable x → runRefusedWith x ≡ none → I .run x .answer ≤ 7
+    pub starts : (x : Lent) → Lendable x → runRefusedWith x ≡ none → I .run x .answer ≤ 6
     pub untouched : (x : Lent) → Lendable x → 9 ≤ I .run x .answer
         → Untouched (x .nodes) (x .edges) (x .journal) (x .report) (I .run x)
-    pub givesBack : (x : Lent) → Lendable x → 1 ≤ I .run x .answer → I .run x .answer ≤ 7 → GivenBack x (I .run x)
+    pub givesBack : (x : Lent) → Lendable x → 1 ≤ I .run x .answer → I .run x .answer ≤ 6 → GivenBack x (I .run x)
     pub undoAnswers : (y : LentUndo) → LendableUndo y → In (I .undo y .answer) undoTable
     pub undoRefuses : (y : LentUndo) → LendableUndo y → (n : ℕ) → undoRefusedWith y ≡ some n → I .undo y .answer ≡ n
     pub undoUntouched : (y : LentUndo) → LendableUndo y → 9 ≤ I .undo y .answer

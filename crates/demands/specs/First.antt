@@ -20,24 +20,23 @@ use Rattle.meaning.specs.Laws.Checks.{failing-of}
 use Rattle.laws.specs.Calls.{refused-report}
 use Rattle.meaning.specs.declared.Layout.{Layout}
 use Rattle.meaning.specs.declared.Stop.{Stop}
-use Rattle.meaning.specs.declared.Stop.the-variants.{OutOfFuel, NoNodeRoom, NoEdgeRoom, NoRecordRoom, LabelTooLarge, EdgeOnFreeNode}
+use Rattle.meaning.specs.declared.Stop.the-variants.{OutOfFuel, NoNodeRoom, NoEdgeRoom, NoRecordRoom, LabelTooLarge}
 use Rattle.meaning.specs.declared.Refusal.{Refusal}
 use Rattle.meaning.specs.declared.End.{End}
 use Rattle.meaning.specs.declared.End.the-variants.{Done, Failed, Broke, Stopped}
 
--- What started leaves has an answer from 0 to 7, and gives all back unless it is 0.
+-- What started leaves has an answer from 0 to 6, and gives all back unless it is 0.
 
-pub stop-answer : (w : Stop) → (In (stopAnswer w) runTable) × (2 ≤ stopAnswer w) × (stopAnswer w ≤ 7)
+pub stop-answer : (w : Stop) → (In (stopAnswer w) runTable) × (2 ≤ stopAnswer w) × (stopAnswer w ≤ 6)
 unfolding absent both
 stop-answer OutOfFuel = (refl, omega arith, omega arith)
 stop-answer NoNodeRoom = (refl, omega arith, omega arith)
 stop-answer NoEdgeRoom = (refl, omega arith, omega arith)
 stop-answer NoRecordRoom = (refl, omega arith, omega arith)
 stop-answer LabelTooLarge = (refl, omega arith, omega arith)
-stop-answer EdgeOnFreeNode = (refl, omega arith, omega arith)
 
 module _ (L : Layout) (x : Lent) where
-  left-answer : (e : End) (t : State) → (In (outcomeAt L x e t .answer) runTable) × (outcomeAt L x e t .answer ≤ 7)
+  left-answer : (e : End) (t : State) → (In (outcomeAt L x e t .answer) runTable) × (outcomeAt L x e t .answer ≤ 6)
   unfolding absent both
   left-answer Done t = (refl, omega arith)
   left-answer Failed t = (refl, omega arith)
@@ -135,10 +134,10 @@ module _ (L : Layout) (x : Lent) where
           let a = good L x e in rw (ours-outcome L x (a .tree) e (a .form)) (s (end L x (a .tree) .end) (end L x (a .tree) .state) e)
 
   -- what answers below 9 has started
-  pub run-settled : ours L .run x .answer ≤ 7 → runRefusedWith L x ≡ none
+  pub run-settled : ours L .run x .answer ≤ 6 → runRefusedWith L x ≡ none
   run-settled = at (runRefusedWith L x) refl
     where
-      at : (o : Option ℕ) → runRefusedWith L x ≡ o → ours L .run x .answer ≤ 7 → runRefusedWith L x ≡ none
+      at : (o : Option ℕ) → runRefusedWith L x ≡ o → ours L .run x .answer ≤ 6 → runRefusedWith L x ≡ none
       at none e k = e
       at (some n) e k =
           let w = refusing-some L x n e in
@@ -183,14 +182,14 @@ demand1 L =
           let w = refusing-some L x n e in
           ap (λ (o : Outcome). o .answer) (ours-refused L x (w .0) (w .1))
           ∙ refused-answer L (x .nodes) (x .edges) (x .journal) (x .report) (w .0) ∙ w .2;
-      starts = λ x l e. cases L x (λ o. o .answer ≤ 7)
+      starts = λ x l e. cases L x (λ o. o .answer ≤ 6)
           (λ w n q i. let z : _≡_ {A = ℕ} 0 1 = cc in absurd (omega arith))
           (λ e t k. left-answer L x e t .1);
       untouched = λ x l.
           cases L x (λ o. 9 ≤ o .answer → Untouched (x .nodes) (x .edges) (x .journal) (x .report) o)
           (λ w n e q k. untouched L (x .nodes) (x .edges) (x .journal) (x .report) w (rw q (refusal-told L x n e)))
           (λ e t k j. absurd (omega (arith, left-answer L x e t .1)));
-      givesBack = λ x l. cases L x (λ o. 1 ≤ o .answer → o .answer ≤ 7 → GivenBack x o)
+      givesBack = λ x l. cases L x (λ o. 1 ≤ o .answer → o .answer ≤ 6 → GivenBack x o)
           (λ w n e q i j.
           absurd (omega (arith, refused-answer L (x .nodes) (x .edges) (x .journal) (x .report) w, refusal-answer L x n e .1)))
           (λ e t k i j. left-back L x e t i);

@@ -14,7 +14,7 @@ use Rattle.laws.specs.Calls.{Accepted, accepted, accepts, run-refused, ending, 
 use Rattle.meaning.specs.declared.Layout.{Layout}
 use Rattle.meaning.specs.declared.Refusal.{Refusal}
 use Rattle.meaning.specs.declared.Stop.{Stop}
-use Rattle.meaning.specs.declared.Stop.the-variants.{OutOfFuel, NoNodeRoom, NoEdgeRoom, NoRecordRoom, LabelTooLarge, EdgeOnFreeNode}
+use Rattle.meaning.specs.declared.Stop.the-variants.{OutOfFuel, NoNodeRoom, NoEdgeRoom, NoRecordRoom, LabelTooLarge}
 use Rattle.meaning.specs.declared.End.{End}
 use Rattle.meaning.specs.declared.End.the-variants.{Done, Failed, Broke, Stopped}
 
@@ -80,7 +80,6 @@ module _ (L : Layout) (x : Lent) where
   stop-number NoEdgeRoom = refl
   stop-number NoRecordRoom = refl
   stop-number LabelTooLarge = refl
-  stop-number EdgeOnFreeNode = refl
 
   -- what a started run leaves is what its program's end and last state say
   finished-outcome : (e : End) (o : Out) → outcome (finished L e o (x .nodes) (x .edges) (x .journal)) ≡ outcomeAt L x e (o .state)

@@ -28,7 +28,7 @@ use Rattle.demands.specs.Laws.FurtherCommands.{EndsWithRoom, roomierStat
 use Rattle.demands.specs.Laws.FurtherTables.{readNodes-further, readEdges-further, writeNodes-further, writeEdges-further, keepsLayout-further, padded-longer}
 use Rattle.meaning.specs.declared.Layout.{Layout}
 use Rattle.meaning.specs.declared.Stop.{Stop}
-use Rattle.meaning.specs.declared.Stop.the-variants.{OutOfFuel, NoNodeRoom, NoEdgeRoom, NoRecordRoom, LabelTooLarge, EdgeOnFreeNode}
+use Rattle.meaning.specs.declared.Stop.the-variants.{OutOfFuel, NoNodeRoom, NoEdgeRoom, NoRecordRoom, LabelTooLarge}
 use Rattle.meaning.specs.declared.End.{End}
 use Rattle.meaning.specs.declared.End.the-variants.{Done, Failed, Broke, Stopped}
 
@@ -44,7 +44,6 @@ stop-settling NoNodeRoom h = let z : _≡_ {A = ℕ} 0 1 = cc in absurd (omega a
 stop-settling NoEdgeRoom h = let z : _≡_ {A = ℕ} 0 1 = cc in absurd (omega arith)
 stop-settling NoRecordRoom h = let z : _≡_ {A = ℕ} 0 1 = cc in absurd (omega arith)
 stop-settling LabelTooLarge h = refl
-stop-settling EdgeOnFreeNode h = let z : _≡_ {A = ℕ} 0 1 = cc in absurd (omega arith)
 
 settling : (L : Layout) (x : Lent) (e : End) (t : State) → In (outcomeAt L x e t .answer) (0 ∷ 1 ∷ 6 ∷ []) → Settling e
 settling L x Done t h = (tt, λ q. let z : _≡_ {A = ℕ} 0 1 = cc in omega arith)
@@ -55,10 +54,10 @@ settling L x (Stopped w) t h =
     rw i (tt, λ q. let z : _≡_ {A = ℕ} 0 1 = cc in omega arith)
 
 -- an answer of demand 3 is one of a run that starts
-settled-low : (n : ℕ) → In n (0 ∷ 1 ∷ 6 ∷ []) → n ≤ 7
+settled-low : (n : ℕ) → In n (0 ∷ 1 ∷ 6 ∷ []) → n ≤ 6
 settled-low n h = let t = absent-false n (0 ∷ 1 ∷ 6 ∷ []) h in at (t .0) (t .2)
   where
-    at : (j : ℕ) → getD (0 ∷ 1 ∷ 6 ∷ []) j 0 ≡ n → n ≤ 7
+    at : (j : ℕ) → getD (0 ∷ 1 ∷ 6 ∷ []) j 0 ≡ n → n ≤ 6
     at zero e = omega arith
     at (suc zero) e = omega arith
     at (suc (suc zero)) e = omega arith

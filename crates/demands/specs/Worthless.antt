@@ -19,7 +19,7 @@ use Rattle.demands.specs.First.{run-settled}
 use Rattle.demands.specs.Cases.{lent, caseAt, lendable, running, runsOn, by, breaks2, atCase, breaks3}
 use Rattle.laws.specs.Undoing.{base-numbered}
 use Rattle.demands.specs.Third.{entered-is}
-use Rattle.meaning.specs.declared.Stop.the-variants.{OutOfFuel, NoNodeRoom, NoEdgeRoom, NoRecordRoom, LabelTooLarge, EdgeOnFreeNode}
+use Rattle.meaning.specs.declared.Stop.the-variants.{OutOfFuel, NoNodeRoom, NoEdgeRoom, NoRecordRoom, LabelTooLarge}
 use Rattle.meaning.specs.declared.End.{End}
 use Rattle.meaning.specs.declared.End.the-variants.{Done, Failed, Broke, Stopped}
 
@@ -94,7 +94,6 @@ madeDone (Stopped w) = elim w [
   | NoEdgeRoom ↦ Stopped NoEdgeRoom
   | NoRecordRoom ↦ Stopped NoRecordRoom
   | LabelTooLarge ↦ Stopped LabelTooLarge
-  | EdgeOnFreeNode ↦ Stopped EdgeOnFreeNode
 ]
 
 abbrev pub answersAnyway : Interpreter

@@ -18,7 +18,7 @@ use Rattle.meaning.specs.Commands.{State, Out, back, enterAt, enter, Chosen, or
 use Rattle.meaning.specs.Placement.{breaksLie, allBreaksLie}
 use Rattle.meaning.specs.Laws.Tests.{both-true}
 use Rattle.laws.specs.Search.{Low, deep-low}
-use Rattle.laws.specs.Applying.{apply-applied, apply-room}
+use Rattle.meaning.specs.Laws.Applying.{apply-applied, apply-room}
 use Rattle.laws.specs.Restoring.{From, from-same, from-trans, apply-from}
 use Rattle.meaning.specs.declared.End.{End}
 use Rattle.meaning.specs.declared.End.the-variants.{Done, Failed, Broke, Stopped}

@@ -15,7 +15,7 @@ use Rattle.meaning.specs.References.{ruleHolds}
 use Rattle.meaning.specs.Matching.{Match, leftNodes, leftEdges, nodeSlot, edgeSlot, Before}
 use Rattle.meaning.specs.FirstMatch.{fits, candidates, complete, firstMatch}
 use Rattle.laws.specs.Search.{In, Low, deep-low, from-zero, ext-full, ext-at, at-ext, before-apart}
-use Rattle.laws.specs.Hosts.{liveAt-lt}
+use Rattle.meaning.specs.Laws.Slots.{liveAt-lt}
 use Rattle.laws.specs.Levels.{matched}
 
 -- the first match of rule r in host h: a match that no match is before, or none where there is no match

@@ -10,10 +10,10 @@ use native.Mathlib.Nat.{le-refl}
 use Rattle.meaning.specs.Image.{Rule, Command, ruleSet, sequence, guarded, loop, skip, fail, break, Commands, noMore, then}
 use Rattle.meaning.specs.Applying.{Applied, applied, hindered, apply}
 use Rattle.meaning.specs.Commands.{State, Out, ends, enterAt, enter, Chosen, afterApplying, next, decide, again, rounds, ruleCall, work, works, exec}
-use Rattle.laws.specs.Applying.{apply-hindered}
+use Rattle.meaning.specs.Laws.Applying.{apply-hindered}
 use Rattle.laws.specs.Commands.{entered, Kept, call-either, work-kept, works-kept, exec-kept}
 use Rattle.meaning.specs.declared.Stop.{Stop}
-use Rattle.meaning.specs.declared.Stop.the-variants.{OutOfFuel, NoNodeRoom, NoEdgeRoom, NoRecordRoom, LabelTooLarge, EdgeOnFreeNode}
+use Rattle.meaning.specs.declared.Stop.the-variants.{OutOfFuel, NoNodeRoom, NoEdgeRoom, NoRecordRoom, LabelTooLarge}
 use Rattle.meaning.specs.declared.End.{End}
 use Rattle.meaning.specs.declared.End.the-variants.{Done, Failed, Broke, Stopped}
 
@@ -78,7 +78,6 @@ IfOut NoNodeRoom P = Unit {0}
 IfOut NoEdgeRoom P = Unit {0}
 IfOut NoRecordRoom P = Unit {0}
 IfOut LabelTooLarge P = Unit {0}
-IfOut EdgeOnFreeNode P = Unit {0}
 
 abbrev pub AtOut : End → Type 0 → Type 0
 AtOut Done P = Unit {0}
@@ -92,7 +91,6 @@ ifOut-of NoNodeRoom P h = tt
 ifOut-of NoEdgeRoom P h = tt
 ifOut-of NoRecordRoom P h = tt
 ifOut-of LabelTooLarge P h = tt
-ifOut-of EdgeOnFreeNode P h = tt
 
 pub atOut-of : (e : End) (P : Type 0) → (e ≡ Stopped OutOfFuel → P) → AtOut e P
 atOut-of Done P h = tt

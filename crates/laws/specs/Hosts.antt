@@ -1,9 +1,9 @@
 -- Laws of legal slots and hosts: a legal slot is written and read back, what is read where the test of the layout holds is
 -- legal, and a legal host is written as tables that keep the layout. Rests on the meaning's Layout, and on
--- Numbers, Pieces and Layout.
-use Prim.Native.Nat.{ℕ, zero, suc, _+_, _-_, _*_, _/_, _^_, _<_, _≤_}
+-- Numbers, Pieces and Layout, and the meaning's laws of slots and of Attached.
+use Prim.Native.Nat.{ℕ, _+_, _-_, _*_, _/_, _^_, _<_, _≤_}
 use mathlib.Core.Path.{_≡_, refl, sym, _∙_, ap}
-use mathlib.Core.List.{List, [], _∷_, _++_, map, append-assoc}
+use mathlib.Core.List.{List, [], _++_, map, append-assoc}
 use mathlib.Core.Bool.{true}
 use native.Mathlib.Omega.{arith}
 use native.Mathlib.Decide.{ℕ-discrete, decLt}
@@ -11,12 +11,14 @@ use lib.ListN.{length, getD, drop, replicate, length-append, List·getD-eq-defau
 use lib.Seq.{drop-at, drop-drop}
 use Rattle.meaning.specs.Basics.{zeros}
 use Rattle.meaning.specs.Numbers.{bytes}
-use Rattle.meaning.specs.Layout.{Slot, free, live, Node, Edge, Host, isLive, liveAt, isNodeMark, isEdgeMark, nodeLength, edgeLength, cut, readAtoms, readNode, readEdge, readNodes, readEdges, atomBytes, nodeBytes, edgeBytes, writeNode, writeEdge, writeNodes, writeEdges, keepsNode, keepsEdge, keepsLayout}
+use Rattle.meaning.specs.Layout.{Slot, free, live, Node, Edge, Host, liveAt, isNodeMark, isEdgeMark, nodeLength, edgeLength, cut, readAtoms, readNode, readEdge, readNodes, readEdges, atomBytes, nodeBytes, edgeBytes, writeNode, writeEdge, writeNodes, writeEdges, keepsNode, keepsEdge, keepsLayout}
 use Rattle.meaning.specs.declared.Layout.{Layout}
 use Rattle.meaning.specs.Laws.Tests.{both-of, zeros-of}
+use Rattle.meaning.specs.Laws.Slots.{OnLive}
+use Rattle.meaning.specs.Laws.Attached.{Attached, layout-attached}
 use Rattle.laws.specs.Numbers.{Bytes, Bytes-drop, length-bytes, number-bytes, number-take-lt}
 use Rattle.laws.specs.Pieces.{getD-map, length-pieces, Bytes-pieces, take-first, take-second, drop-both, length-read, length-write, cut-write, read-write, every-write}
-use Rattle.laws.specs.Layout.{length-padded, zeros-padded, getD-zeros, Words, length-atoms, Words-atoms, length-atomBytes, atoms-atomBytes, readNode-free, readNode-live, keepsNode-free, keepsNode-live, keepsNode-of, edgeOf, readEdge-free, readEdge-live, KeepsEdge, keepsEdge-free, keepsEdge-live, keepsEdge-of, kept-node, kept-edge}
+use Rattle.laws.specs.Layout.{length-padded, zeros-padded, getD-zeros, Words, length-atoms, Words-atoms, length-atomBytes, atoms-atomBytes, readNode-free, readNode-live, keepsNode-free, keepsNode-live, keepsNode-of, edgeOf, readEdge-free, readEdge-live, keepsEdge-free, keepsEdge-live, keepsEdge-of, kept-node, kept-edge}
 
 -- Legal slots: what a slot may hold.
 
@@ -32,23 +34,6 @@ pub record LegalEdge (L : Layout) (e : Edge) : Type 0 where
   pub target : e .target < 256 ^ L .width
   pub size : length (e .label) ≤ L .atoms
   pub words : Words (e .label)
-
--- both ends are live node slots
-pub record Attached (nodes : List (Slot Node)) (e : Edge) : Type 0 where
-  pub source : liveAt nodes (e .source) ≡ true
-  pub target : liveAt nodes (e .target) ≡ true
-
--- a live slot is in the table
-pub liveAt-lt : {A : Type 0} (l : List (Slot A)) (i : ℕ) → liveAt l i ≡ true → i < length l
-unfolding isLive
-liveAt-lt [] i e = let z : _≡_ {A = ℕ} 0 1 = cc in absurd (omega arith)
-liveAt-lt (s ∷ l) zero e = omega arith
-liveAt-lt (s ∷ l) (suc i) e = let h = liveAt-lt l i e in omega arith
-
--- a free slot, or a live one of which P holds
-abbrev pub OnLive : {A : Type 0} → (A → Type 0) → Slot A → Type 0
-OnLive P free = Unit {0}
-OnLive P (live a) = P a
 
 -- what is behind l, which stands behind four bytes
 drop-four : (n : ℕ) (b l r : List ℕ) → drop 4 b ≡ l ++ r → length l ≡ n → drop (4 + n) b ≡ r
@@ -179,26 +164,21 @@ module _ (L : Layout) (b : List ℕ) (h : Bytes b) where
           })
 
   module _ (nodes : List (Slot Node)) (k : keepsEdge L nodes b ≡ true) where
-    on-live : (P : Edge → Type 0) → (KeepsEdge L nodes b → P (edgeOf L b)) → OnLive P (readEdge L b)
-    on-live P f = at (ℕ-discrete (getD b 0 0) 0)
-      where
-        at : Dec (getD b 0 0 ≡ 0) → OnLive P (readEdge L b)
-        at (yes e) = rw (readEdge-free L b e) tt
-        at (no e) = rw (readEdge-live L b e) (f (keepsEdge-live L nodes b e k))
-
     pub legal-edge : OnLive (LegalEdge L) (readEdge L b)
-    legal-edge =
-        on-live (LegalEdge L)
-        (λ t. record {
-          mark = t .mark;
-          source = number-take-lt (L .width) (drop 4 b) (Bytes-drop 4 b h);
-          target = number-take-lt (L .width) (drop (4 + L .width) b) (Bytes-drop (4 + L .width) b h);
-          size = rw (length-atoms (getD b 3 0) (drop (4 + 2 * L .width) b)) (t .size);
-          words = Words-atoms (getD b 3 0) (drop (4 + 2 * L .width) b) (Bytes-drop (4 + 2 * L .width) b h);
-        })
-
-    pub attached-edge : OnLive (Attached nodes) (readEdge L b)
-    attached-edge = on-live (Attached nodes) (λ t. record { source = t .source; target = t .target })
+    legal-edge = at (ℕ-discrete (getD b 0 0) 0)
+      where
+        at : Dec (getD b 0 0 ≡ 0) → OnLive (LegalEdge L) (readEdge L b)
+        at (yes e) = rw (readEdge-free L b e) tt
+        at (no e) =
+            let t = keepsEdge-live L nodes b e k in
+            rw (readEdge-live L b e)
+            (record {
+              mark = t .mark;
+              source = number-take-lt (L .width) (drop 4 b) (Bytes-drop 4 b h);
+              target = number-take-lt (L .width) (drop (4 + L .width) b) (Bytes-drop (4 + L .width) b h);
+              size = rw (length-atoms (getD b 3 0) (drop (4 + 2 * L .width) b)) (t .size);
+              words = Words-atoms (getD b 3 0) (drop (4 + 2 * L .width) b) (Bytes-drop (4 + 2 * L .width) b h);
+            })
 
 -- Legal hosts.
 
@@ -227,7 +207,7 @@ legal-host L nodes edges hn he k =
     record {
       nodes = OnLive-read (LegalNode L) (nodeLength L) readNode nodes (λ i j. legal-node L _ (node i j) (kn i j));
       edges = OnLive-read (LegalEdge L) (edgeLength L) (readEdge L) edges (λ i j. legal-edge L _ (edge i j) host (ke i j));
-      ends = OnLive-read (Attached host) (edgeLength L) (readEdge L) edges (λ i j. attached-edge L _ (edge i j) host (ke i j));
+      ends = layout-attached L nodes edges k;
     }
   where
     host : List (Slot Node)

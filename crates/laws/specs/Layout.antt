@@ -15,8 +15,7 @@ use Rattle.meaning.specs.Basics.{choose, clauses, zeros, concat, padded}
 use Rattle.meaning.specs.Numbers.{number, bytes, whole}
 use Rattle.meaning.specs.Layout.{Sized, base, Slot, free, live, isLive, Node, Edge, liveAt, isNodeMark, isEdgeMark, nodeLength, edgeLength, pieces, cut, readAtoms, readNode, readEdge, readNodes, readEdges, atomBytes, nodeBytes, edgeBytes, writeNode, writeEdge, writeNodes, writeEdges, keepsNode, keepsEdge, keepsLayout}
 use Rattle.meaning.specs.declared.Layout.{Layout}
-use Rattle.meaning.specs.Laws.Tests.{both-true, both-of, choose-eq, choose-ne, every-true, zeros-true, zeros-of}
-use Rattle.laws.specs.References.{clauses-true}
+use Rattle.meaning.specs.Laws.Tests.{both-true, both-of, choose-eq, choose-ne, every-true, zeros-true, zeros-of, clauses-true}
 use Rattle.laws.specs.Numbers.{Bytes, Bytes-drop, length-bytes, number-bytes, number-take-lt, bytes-number, bytes-number-take}
 use Rattle.laws.specs.Pieces.{getD-map, getD-pieces, map-back, length-pieces, Wide, Wide-pieces, Bytes-pieces, length-slot, concat-pieces, length-concat, pieces-concat, write-read}
 

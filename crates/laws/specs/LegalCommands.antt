@@ -1,25 +1,20 @@
--- Every command keeps the host and the journal legal, and none ends with answer 7. Rests on Commands, Legality and Stops.
+-- Every command keeps the host and the journal legal. Rests on Commands and Legality.
 use Prim.Native.Nat.{ℕ, _^_, _≤_}
-use mathlib.Core.Path.{_≡_, refl, ap}
+use mathlib.Core.Path.{_≡_, refl}
 use mathlib.Core.List.{List}
-use mathlib.Core.Option.{Option, some, none}
-use native.Mathlib.Omega.{arith}
+use mathlib.Core.Option.{some}
 use Rattle.meaning.specs.Basics.{both, all, every, clauses, concat}
 use Rattle.meaning.specs.Image.{Rule, Command}
 use Rattle.meaning.specs.References.{variablesExist, endsExist, testNodesExist, interfaceFits, leftPlain, leftSimple, operandsInt, variablesOnLeft, anyPlaced, ruleHolds}
 use Rattle.meaning.specs.Matching.{Match}
-use Rattle.meaning.specs.Applying.{Applied, applied, hindered, apply}
-use Rattle.meaning.specs.Commands.{State, Chosen, ruleAt, firstRule, afterApplying, ruleCall, exec}
+use Rattle.meaning.specs.Commands.{State, Chosen, ruleAt, firstRule, exec}
 use Rattle.meaning.specs.Laws.Every.{Every, Every-at}
 use Rattle.laws.specs.FirstMatch.{found-match}
 use Rattle.laws.specs.Commands.{firstRule-some, Kept, call-either, exec-kept}
 use Rattle.laws.specs.Values.{LegalRule}
-use Rattle.laws.specs.Legality.{LegalLedger, apply-attached, apply-legal}
-use Rattle.laws.specs.Stops.{OnStop, exec-stops}
+use Rattle.laws.specs.Legality.{LegalLedger, apply-legal}
 use Rattle.laws.specs.References.{Sound}
 use Rattle.meaning.specs.declared.Layout.{Layout}
-use Rattle.meaning.specs.declared.Stop.the-variants.{EdgeOnFreeNode}
-use Rattle.meaning.specs.declared.End.the-variants.{Stopped}
 
 -- each rule of the list is legal; so is the rule that a number outside the list stands for
 abbrev pub LegalRules : List Rule → Type 0
@@ -60,29 +55,3 @@ module _ (L : Layout) (m n : ℕ) (fewNodes : m ≤ 256 ^ L .width) (fewEdges : 
     pub exec-legal : (c : Command) (s : State) → LegalLedger L m n (s .ledger)
         → LegalLedger L m n (exec (L .atoms) room rules c s .state .ledger)
     exec-legal c s h = exec-kept (L .atoms) room rules _ legal-kept c s h
-
-    -- and none ends with answer 7
-    after-attached : (a : Applied) (s : State) → (a ≡ hindered EdgeOnFreeNode → ⊥) → OnStop (λ w. w ≡ EdgeOnFreeNode → ⊥) (afterApplying a s .end)
-    unfolding afterApplying
-    after-attached (applied g) s h = tt
-    after-attached (hindered w) s h = λ e. h (ap hindered e)
-
-    call-attached : (l : List ℕ) (s : State) → LegalLedger L m n (s .ledger)
-        → OnStop (λ w. w ≡ EdgeOnFreeNode → ⊥) (ruleCall (L .atoms) room rules (firstRule rules (s .ledger .host) l) s .end)
-    unfolding ruleCall
-    call-attached l s h = at (firstRule rules (s .ledger .host) l) refl
-      where
-        at : (o : Option Chosen) → firstRule rules (s .ledger .host) l ≡ o
-            → OnStop (λ w. w ≡ EdgeOnFreeNode → ⊥) (ruleCall (L .atoms) room rules o s .end)
-        at none q = tt
-        at (some c) q =
-            let t = chosen s l c q in
-            after-attached (apply (L .atoms) room (c .rule) (c .slots) (s .ledger)) s
-            (apply-attached L m n fewNodes fewEdges room (c .rule) (t .0) (c .slots) (s .ledger) h (t .1))
-
-    pub exec-attached : (c : Command) (s : State) → LegalLedger L m n (s .ledger)
-        → exec (L .atoms) room rules c s .end ≡ Stopped EdgeOnFreeNode → ⊥
-    exec-attached c s h e =
-        let q = exec-stops (L .atoms) room rules (λ s. LegalLedger L m n (s .ledger)) legal-kept (λ w. w ≡ EdgeOnFreeNode → ⊥)
-        (λ e. let z : _≡_ {A = ℕ} 0 1 = cc in omega arith) call-attached c s h in
-        (rw e at q) refl

@@ -1,34 +1,28 @@
--- Legality: applying a rule at a match keeps the host and the journal legal, so the test after an application never fires.
--- Rests on Values, Attached, Room, Records and Restoring.
+-- Legality: applying a rule at a match keeps the host and the journal legal. Rests on Values, Records and Restoring, and on the
+-- meaning's laws of applying, Room and Attached.
 use Prim.Native.Nat.{ℕ, zero, suc, _+_, _^_, _<_, _≤_}
-use mathlib.Core.Path.{_≡_, refl, _∙_}
+use mathlib.Core.Path.{_≡_, _∙_}
 use mathlib.Core.List.{List, [], _∷_, _++_, map}
-use mathlib.Core.Bool.{false, not}
-use mathlib.Core.Option.{Option, some, none}
+use mathlib.Core.Option.{some}
 use native.Mathlib.Omega.{arith}
-use borrow.Author.Tests.{leb-true}
 use lib.ListN.{length, getD, take, drop, length-set, length-take, length-drop}
 use lib.Seq.{getD-take, getD-drop}
-use Rattle.meaning.specs.Basics.{both}
-use Rattle.meaning.specs.Layout.{Slot, free, live, Node, Edge, Host, isLive, liveAt, Change, ofNode, ofEdge, put}
+use Rattle.meaning.specs.Layout.{Slot, free, live, Node, Edge, Change, ofNode, ofEdge, put}
 use Rattle.meaning.specs.Image.{Rule}
-use Rattle.meaning.specs.Matching.{edgeIn, leftNodes, leftEdges, Match}
-use Rattle.meaning.specs.Applying.{Right, rightSide, Ledger, standing, store, stores, lowestFree, freeSlots, edgesGo, nodesChange, addNodes, between, addEdges, changed, newNodes, goneNodes, hindrance, onFreeNode, applied, hindered, tested, unhindered, apply}
-use Rattle.meaning.specs.Laws.Tests.{choose-false, exists-no}
+use Rattle.meaning.specs.Matching.{leftNodes, leftEdges, Match}
+use Rattle.meaning.specs.Applying.{Right, rightSide, Ledger, standing, store, stores, lowestFree, freeSlots, edgesGo, nodesChange, addNodes, between, addEdges, changed, newNodes, goneNodes, applied, apply}
 use Rattle.meaning.specs.Laws.Every.{Every, Every-then}
-use Rattle.laws.specs.Hosts.{LegalNode, LegalEdge, Attached, OnLive, LegalHost, liveAt-lt}
+use Rattle.laws.specs.Hosts.{LegalNode, LegalEdge, LegalHost}
 use Rattle.laws.specs.Records.{LegalChange, Within, Every-append}
 use Rattle.laws.specs.FirstMatch.{node-inside, edge-inside}
-use Rattle.laws.specs.Slots.{lowestFree-lt, come-free}
-use Rattle.laws.specs.Applying.{rightSide-some, hindrance-some, apply-applied}
-use Rattle.meaning.specs.Laws.Checks.{firstFailing-none}
+use Rattle.meaning.specs.Laws.Slots.{lowestFree-lt, come-free, OnLive, liveAt-lt, OnLive-set}
+use Rattle.meaning.specs.Laws.Applying.{rightSide-some, apply-applied}
 use Rattle.laws.specs.Restoring.{from-nodes, changed-from}
-use Rattle.laws.specs.Room.{afterLeft, afterNew, changed-is, afterLeft-nodes, afterLeft-edges, addNodes-edges}
-use Rattle.laws.specs.Values.{LegalRule, LegalValue, LegalRight, interface-left, interface-right, rightSide-legal}
-use Rattle.laws.specs.Attached.{OnLive-set, nodesAfter, rightSlots, between-attached, all-attached}
+use Rattle.meaning.specs.Laws.Room.{afterLeft, afterNew, changed-is, afterLeft-nodes, afterLeft-edges, addNodes-edges}
+use Rattle.meaning.specs.Laws.Interface.{interface-left, interface-right}
+use Rattle.laws.specs.Values.{LegalRule, LegalValue, LegalRight, rightSide-legal}
+use Rattle.meaning.specs.Laws.Attached.{nodesAfter, rightSlots, between-attached, all-attached}
 use Rattle.meaning.specs.declared.Layout.{Layout}
-use Rattle.meaning.specs.declared.Stop.{Stop}
-use Rattle.meaning.specs.declared.Stop.the-variants.{EdgeOnFreeNode}
 
 -- Statements of each element of a list.
 
@@ -176,7 +170,7 @@ module _ (L : Layout) (m n : ℕ) (fewNodes : m ≤ 256 ^ L .width) (fewEdges : 
       -- a right edge between its slots
       pub between-legal : (e : Edge) → LegalValue L (length (right .nodes)) e → LegalEdge L (between (rightSlots r p right g) e)
       between-legal e h =
-          let a = between-attached r p right g (ready .match) (interface-left r (rule .holds)) kept room-nodes L e h in
+          let a = between-attached r p right g (ready .match) (interface-left r (rule .holds)) kept room-nodes e (h .source, h .target) in
           let q = from-nodes g (changed r p right g) (changed-from r p right g) in
           let z = legal .nodes in
           record {
@@ -234,58 +228,17 @@ module _ (L : Layout) (m n : ℕ) (fewNodes : m ≤ 256 ^ L .width) (fewEdges : 
               nodes = s .nodes;
               edges = s .edges;
               ends =
-                  all-attached r p right g (ready .match) (interface-left r (rule .holds)) kept room-nodes L (legal .host .ends)
-                  (values-legal .edges);
+                  all-attached r p right g (ready .match) (interface-left r (rule .holds)) kept room-nodes (legal .host .ends)
+                  (Every-then _ _ (λ e h. (h .source, h .target)) (right .edges) (values-legal .edges));
             };
             records = s .records;
             within = s .within;
           }
 
--- The test after an application: it finds nothing in a legal host.
-
-onFreeNode-no : (L : Layout) (h : Host) → LegalHost L h → (x : ℕ) → onFreeNode h x ≡ false
-unfolding onFreeNode isLive edgeIn both
-onFreeNode-no L h k x = at (getD (h .edges) x free) (k .ends x)
-  where
-    at : (s : Slot Edge) → OnLive (Attached (h .nodes)) s
-        → both (isLive s) (not (both (liveAt (h .nodes) (edgeIn s .source)) (liveAt (h .nodes) (edgeIn s .target)))) ≡ false
-    at free a = refl
-    at (live e) a = rw (a .source, a .target)
-
-pub tested-legal : (L : Layout) (g : Ledger) → LegalHost L (g .host) → tested g ≡ applied g
-unfolding tested
-tested-legal L g k = choose-false _ _ _ (exists-no (onFreeNode (g .host)) (length (g .host .edges)) (λ x h. onFreeNode-no L (g .host) k x))
-
 -- Applying.
 
 module _ (L : Layout) (m n : ℕ) (fewNodes : m ≤ 256 ^ L .width) (fewEdges : n ≤ 256 ^ L .width) where
   module _ (room : ℕ) (r : Rule) (rule : LegalRule r) (p : List ℕ) (g : Ledger) (legal : LegalLedger L m n g) (match : Match (g .host) r p) where
-    -- where nothing hinders, the rule can be applied
-    unhindered-ready : (right : Right) → hindrance (L .atoms) room r p g ≡ none → rightSide (L .atoms) (g .host) r p ≡ some right
-        → Ready (L .atoms) r p g right
-    unfolding hindrance
-    unhindered-ready right q v =
-        let s = firstFailing-none _ _ _ q in
-        let t = firstFailing-none _ _ _ (s .1) in
-        let u = firstFailing-none _ _ _ (t .1) in
-        record { match = match; values = v; nodeRoom = leb-true _ _ (t .0); edgeRoom = leb-true _ _ (u .0) }
-
-    -- no application leaves a live edge on a free node
-    pub apply-attached : apply (L .atoms) room r p g ≡ hindered EdgeOnFreeNode → ⊥
-    unfolding apply unhindered hindrance
-    apply-attached e = at (hindrance (L .atoms) room r p g) (rightSide (L .atoms) (g .host) r p) refl refl e
-      where
-        at : (w : Option Stop) (o : Option Right) → hindrance (L .atoms) room r p g ≡ w → rightSide (L .atoms) (g .host) r p ≡ o
-            → unhindered w o r p g ≡ hindered EdgeOnFreeNode → ⊥
-        at (some w) o q v e = hindrance-some (L .atoms) room r p g w q .1 (cc)
-        at none none q v e = let z : _≡_ {A = ℕ} 0 1 = cc in omega arith
-        at none (some right) q v e =
-            let k = changed-legal L m n fewNodes fewEdges r rule p g legal right (unhindered-ready right q v) in
-            let t = tested-legal L (changed r p right g) (k .host) in
-            let z : _≡_ {A = ℕ} 0 1 = cc in
-            omega arith
-
-    -- and each keeps the ledger legal
     pub apply-legal : (g′ : Ledger) → apply (L .atoms) room r p g ≡ applied g′ → LegalLedger L m n g′
     apply-legal g′ e =
         let a = apply-applied (L .atoms) room r p g g′ e in

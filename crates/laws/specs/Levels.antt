@@ -20,10 +20,10 @@ use Rattle.meaning.specs.References.{ruleHolds}
 use Rattle.meaning.specs.Matching.{Match, MarksAgree, nodeAt, edgeAt, leftNode, leftEdge, leftNodes, leftEdges, nodeSlot, edgeSlot, edgeRuns, testHolds, edgeTouches, rootsAgree}
 use Rattle.meaning.specs.Assigned.{assigned}
 use Rattle.meaning.specs.FirstMatch.{marksAgree, labelAgrees, testsSoFar, joins, linked, leftTouches, canGo, nodeFits, edgeFits, fits, candidates, touchesGone, dangles, complete}
-use Rattle.meaning.specs.Laws.Tests.{not-so, both-true, both-yes, both-of, choose-lt, choose-le, choose-eq, choose-ne, absent-true, absent-of, absent-false, exists-of, exists-true, exists-false, exists-no, all-of, either-left, either-right, either-true}
-use Rattle.laws.specs.Hosts.{liveAt-lt}
+use Rattle.meaning.specs.Laws.Tests.{not-so, both-true, both-yes, both-of, choose-lt, choose-le, choose-eq, choose-ne, absent-true, absent-of, absent-false, exists-of, exists-true, exists-false, exists-no, all-of, either-left, either-right, either-true, clauses-true}
+use Rattle.meaning.specs.Laws.Slots.{liveAt-lt}
 use Rattle.laws.specs.Counting.{count-from}
-use Rattle.laws.specs.References.{clauses-true, ends}
+use Rattle.laws.specs.References.{ends}
 use Rattle.laws.specs.Assignment.{Labelled, LabelsAgree, labelled, agreed}
 use Rattle.laws.specs.Decided.{tests-so-far, tests-same}
 

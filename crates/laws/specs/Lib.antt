@@ -13,16 +13,11 @@ pub mod Assignment
 pub mod Decided
 pub mod Levels
 pub mod FirstMatch
-pub mod Slots
-pub mod Applying
-pub mod Room
 pub mod Restoring
 pub mod Commands
 pub mod Fuel
 pub mod Values
-pub mod Attached
 pub mod Legality
-pub mod Stops
 pub mod LegalCommands
 pub mod LegalImage
 pub mod Undoing

@@ -18,9 +18,10 @@ use Rattle.meaning.specs.declared.Layout.{Layout}
 use Rattle.meaning.specs.Laws.Tests.{both-true, both-of, either-true, either-left, either-right, zeros-of}
 use Rattle.meaning.specs.Laws.Every.{Every}
 use Rattle.laws.specs.Numbers.{length-bytes, number-bytes}
-use Rattle.laws.specs.Pieces.{map-set, Wide, stored, length-concat, pieces-concat, take-second, drop-both}
+use Rattle.laws.specs.Pieces.{map-set, Wide, length-concat, pieces-concat, take-second, drop-both}
 use Rattle.laws.specs.Layout.{length-padded}
-use Rattle.laws.specs.Hosts.{LegalNode, LegalEdge, OnLive, LegalHost, length-writeNode, length-writeEdge, cut-nodes, cut-edges}
+use Rattle.meaning.specs.Laws.Slots.{OnLive}
+use Rattle.laws.specs.Hosts.{LegalNode, LegalEdge, LegalHost, length-writeNode, length-writeEdge, cut-nodes, cut-edges}
 
 -- Changes of slots of any kind.
 

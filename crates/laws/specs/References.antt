@@ -1,16 +1,16 @@
 -- What the tests of references say of a rule's left side, and of the variables of its tests. Rests on the meaning's References.
-use mathlib.Core.Path.{_≡_, refl}
-use mathlib.Core.Bool.{Bool, true, false}
-use mathlib.Core.List.{List, [], _∷_, _++_}
-use Prim.Native.Nat.{ℕ, zero, suc, _<_, _≤_}
+use mathlib.Core.Path.{_≡_}
+use mathlib.Core.Bool.{true, false}
+use mathlib.Core.List.{[], _++_}
+use Prim.Native.Nat.{ℕ, _<_, _≤_}
 use native.Mathlib.Omega.{arith}
 use borrow.Author.Tests.{ltb-true, leb-true, not-true}
 use lib.ListN.{length, getD}
-use Rattle.meaning.specs.Basics.{clauses, every, absent}
+use Rattle.meaning.specs.Basics.{every, absent}
 use Rattle.meaning.specs.Image.{Rule, isType}
 use Rattle.meaning.specs.References.{operandNames, elementNames, conditionOperands, names, labels, elements, testNames, testOperands, isPlain, lists, variablesExist, endsExist, leftPlain, leftSimple, variablesOnLeft, ruleHolds}
 use Rattle.meaning.specs.Matching.{leftEdge, leftNodes, leftEdges}
-use Rattle.meaning.specs.Laws.Tests.{both-true, every-true}
+use Rattle.meaning.specs.Laws.Tests.{both-true, every-true, clauses-true}
 use Rattle.meaning.specs.Laws.Every.{Every, Every-true, Every-at, Every-parts, Every-concat, Every-map, Every-then, Every-with}
 use Rattle.meaning.specs.declared.Test.{Test}
 
@@ -18,13 +18,6 @@ use Rattle.meaning.specs.declared.Test.{Test}
 pub record Sound (r : Rule) : Type 0 where
   pub holds : ruleHolds r ≡ true
   pub types : every isType (r .variables) ≡ true
-
--- each clause of a list that holds
-pub clauses-true : (l : List Bool) → clauses l ≡ true → (i : ℕ) → getD l i true ≡ true
-unfolding clauses
-clauses-true [] e i = refl
-clauses-true (b ∷ l) e zero = both-true _ _ e .0
-clauses-true (b ∷ l) e (suc i) = clauses-true l (both-true _ _ e .1) i
 
 -- P of each variable that the test names
 abbrev pub OfVariables : (ℕ → Type 0) → Test → Type 0

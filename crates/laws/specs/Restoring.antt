@@ -6,11 +6,11 @@ use mathlib.Core.List.{List, [], _∷_, _++_, append-assoc, append-nil}
 use native.Mathlib.Omega.{arith}
 use lib.ListN.{length, take, length-append}
 use lib.Seq.{take-append-seam}
-use Rattle.meaning.specs.Layout.{Slot, live, Node, Edge, Host, Change, ofNode, ofEdge, put, undone}
+use Rattle.meaning.specs.Layout.{Slot, live, Node, Edge, Host, Change, ofNode, ofEdge, undone}
 use Rattle.meaning.specs.Image.{Rule}
 use Rattle.meaning.specs.Applying.{Right, Ledger, standing, store, stores, lowestFree, addNodes, between, addEdges, changed}
-use Rattle.laws.specs.Slots.{undone-append, undone-nodes, put-back}
-use Rattle.laws.specs.Applying.{Applies}
+use Rattle.meaning.specs.Laws.Slots.{undone-append, undone-nodes, put-back}
+use Rattle.meaning.specs.Laws.Applying.{Applies}
 
 pub record From (a b : Ledger) : Type 0 where
   pub new : List (Change (Slot Node) (Slot Edge))

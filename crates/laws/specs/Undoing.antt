@@ -27,13 +27,12 @@ use Rattle.laws.specs.Records.{LegalChange, Every-reverse, mapTables, ke
 use Rattle.laws.specs.Restoring.{from-start}
 use Rattle.laws.specs.Commands.{exec-from, exec-room}
 use Rattle.laws.specs.Legality.{LegalLedger}
-use Rattle.laws.specs.LegalCommands.{LegalRules, exec-legal, exec-attached}
+use Rattle.laws.specs.LegalCommands.{LegalRules, exec-legal}
 use Rattle.laws.specs.LegalImage.{program-legal}
 use Rattle.laws.specs.Calls.{Accepted, accepted}
 use Rattle.meaning.specs.declared.Layout.{Layout}
-use Rattle.meaning.specs.declared.Stop.the-variants.{EdgeOnFreeNode}
 use Rattle.meaning.specs.declared.Refusal.{Refusal}
-use Rattle.meaning.specs.declared.Answer.the-variants.{Result, Stopped as stoppedBy}
+use Rattle.meaning.specs.declared.Answer.the-variants.{Result}
 use Rattle.meaning.specs.declared.End.{End}
 use Rattle.meaning.specs.declared.End.the-variants.{Done, Failed, Broke, Stopped}
 
@@ -127,20 +126,6 @@ module _ (L : Layout) (numbered : Numbered L) (nodes edges journal : List ℕ) (
     pub started-keeps : keepsLayout L (started L p nodes edges journal fuel .nodes) (started L p nodes edges journal fuel .edges) ≡ true
     unfolding started
     started-keeps = finished-keeps (out .end)
-
-    -- it does not answer 7
-    finished-answer : (e : End) → (e ≡ Stopped EdgeOnFreeNode → ⊥) → finished L e out nodes edges journal .answer ≡ stoppedBy EdgeOnFreeNode → ⊥
-    unfolding finished
-    finished-answer Done h e = let z : _≡_ {A = ℕ} 0 1 = cc in omega arith
-    finished-answer Failed h e = let z : _≡_ {A = ℕ} 0 1 = cc in omega arith
-    finished-answer Broke h e = let z : _≡_ {A = ℕ} 0 1 = cc in omega arith
-    finished-answer (Stopped w) h e = h (cc)
-
-    pub started-attached : started L p nodes edges journal fuel .answer ≡ stoppedBy EdgeOnFreeNode → ⊥
-    unfolding started
-    started-attached =
-        finished-answer (out .end)
-        (exec-attached L _ _ fewNodes fewEdges (journalRoom L journal) (p .rules) legal (p .main) start start-legal)
 
     -- Undo of a result: the tables as they came, and the journal cleared.
 
@@ -260,13 +245,6 @@ module _ (L : Layout) (numbered : Numbered L) (nodes edges journal image : List 
     run-keeps k =
         called (λ o. keepsLayout L (o .nodes) (o .edges) ≡ true) (λ w. k)
         (λ a. started-keeps L numbered nodes edges journal hn he (a .nodesFit) (a .edgesFit) (a .journalFits) (a .layout) (a .tree) (rules a) fuel)
-
-    -- run never answers 7
-    pub run-attached : run L (lending nodes edges journal image fuel report) .answer ≡ stoppedBy EdgeOnFreeNode → ⊥
-    unfolding refused
-    run-attached =
-        called (λ o. o .answer ≡ stoppedBy EdgeOnFreeNode → ⊥) (λ w e. let z : _≡_ {A = ℕ} 0 1 = cc in omega arith)
-        (λ a. started-attached L numbered nodes edges journal hn he (a .nodesFit) (a .edgesFit) (a .journalFits) (a .layout) (a .tree) (rules a) fuel)
 
     -- undo of a result gives back what came in
     pub run-undo : (back : List ℕ) → length back ≡ 8 → run L (lending nodes edges journal image fuel report) .answer ≡ Result

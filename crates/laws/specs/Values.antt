@@ -17,19 +17,20 @@ use Rattle.meaning.specs.Numbers.{whole, sum, difference}
 use Rattle.meaning.specs.Layout.{Slot, free, live, Node, Edge, Host, isNodeMark, isEdgeMark}
 use Rattle.meaning.specs.Image.{RuleNode, RuleEdge, Rule, isType}
 use Rattle.meaning.specs.Tags.{anyMark}
-use Rattle.meaning.specs.References.{conditionOperands, interfaceFits, endsExist, anyKept, anyPlaced, ruleHolds}
+use Rattle.meaning.specs.References.{conditionOperands, anyKept, anyPlaced, ruleHolds}
 use Rattle.meaning.specs.Matching.{nodeIn, edgeIn, nodeAt, edgeAt, leftNodes, nodeSlot, Assignment, atomOf}
 use Rattle.meaning.specs.Assigned.{isVariable, share, spare, taken, Item, paired, hostLabels, placedItems, orElse, valueFrom, assigned}
 use Rattle.meaning.specs.Applying.{elementValue, labelValue, rightNode, rightNodes, rightEdge, Right, rightSide}
-use Rattle.meaning.specs.Laws.Tests.{both-true, either-true, either-not, all-true, some-inj, bind-some, ensure-some}
-use Rattle.meaning.specs.Laws.Every.{Every, Every-true, Every-with}
+use Rattle.meaning.specs.Laws.Tests.{both-true, either-true, either-not, all-true, some-inj, bind-some, ensure-some, clauses-true}
+use Rattle.meaning.specs.Laws.Every.{Every, Every-true, Every-with, each-every}
+use Rattle.meaning.specs.Laws.Interface.{right-ends}
 use Rattle.laws.specs.Numbers.{sum-some, difference-some}
 use Rattle.laws.specs.Pieces.{getD-map}
 use Rattle.laws.specs.Layout.{Words}
-use Rattle.laws.specs.Hosts.{LegalNode, LegalEdge, OnLive, LegalHost}
+use Rattle.meaning.specs.Laws.Slots.{OnLive}
+use Rattle.laws.specs.Hosts.{LegalNode, LegalEdge, LegalHost}
 use Rattle.laws.specs.Records.{Every-append}
-use Rattle.laws.specs.References.{clauses-true}
-use Rattle.laws.specs.Applying.{rightNodes-some}
+use Rattle.meaning.specs.Laws.Applying.{rightNodes-some}
 use Rattle.meaning.specs.declared.Layout.{Layout}
 use Rattle.meaning.specs.declared.Operand.{Operand}
 use Rattle.meaning.specs.declared.Operand.the-variants.{Constant as constantOperand, Variable as variableOperand}
@@ -70,26 +71,10 @@ pub record LegalRule (r : Rule) : Type 0 where
   pub types : every isType (r .variables) ≡ true
   pub holds : ruleHolds r ≡ true
 
--- What the references say of the right side.
+-- What the references say of the marks of the right side.
 
 module _ (r : Rule) (holds : ruleHolds r ≡ true) where
-  -- the interface is at most both node counts
-  pub interface-left : r .interface ≤ leftNodes r
-  unfolding ruleHolds interfaceFits
-  interface-left = leb-true _ _ (both-true _ _ (clauses-true _ holds 4) .0)
-
-  pub interface-right : r .interface ≤ length (r .right .nodes)
-  unfolding ruleHolds interfaceFits
-  interface-right = leb-true _ _ (both-true _ _ (clauses-true _ holds 4) .1)
-
-  -- a right edge's ends are right nodes
-  pub right-ends : Every (λ e. (e .source < length (r .right .nodes)) × (e .target < length (r .right .nodes))) (r .right .edges)
-  unfolding ruleHolds endsExist
-  right-ends =
-      Every-true _ _ (λ e q. let t = both-true _ _ q in (ltb-true _ _ (t .0), ltb-true _ _ (t .1))) (r .right .edges)
-      (clauses-true _ holds 2)
-
-  -- and it is not any
+  -- a right edge is not any
   pub right-marked : Every (λ e. eqb (e .mark) anyMark ≡ false) (r .right .edges)
   unfolding ruleHolds anyPlaced
   right-marked = Every-true _ _ (λ e q. not-true _ q) (r .right .edges) (both-true _ _ (clauses-true _ holds 9) .1)
@@ -195,16 +180,6 @@ assigned-words L h k r p v =
     (map-words _ (λ x. edgeIn-words L _ (k .edges x)) (drop (leftNodes r) p))))
 
 -- Labels.
-
--- what follows of each value
-each-every : {A B : Type 0} (f : A → Option B) (P : A → Type 0) (Q : B → Type 0) → ((a : A) (b : B) → P a → f a ≡ some b → Q b)
-    → (l : List A) (m : List B) → Every P l → each f l ≡ some m → Every Q m
-unfolding each
-each-every f P Q i [] m h e = rw (some-inj m [] (sym e)) tt
-each-every f P Q i (a ∷ l) m h e =
-    let t = bind-some (f a) _ m e in
-    let u = bind-some (each f l) _ m (t .2) in
-    rw (some-inj m (t .0 ∷ u .0) (sym (u .2))) (i a (t .0) (h .0) (t .1), each-every f P Q i l (u .0) (h .1) (u .1))
 
 module _ (α : Assignment) (words : (v : ℕ) → Words (α v)) where
   -- a value of one atom

@@ -12,7 +12,7 @@ use Rattle.meaning.specs.Matching.{Match}
 use Rattle.meaning.specs.Applying.{Right, rightSide, Ledger, changed, hindrance, applied, hindered, unhindered, apply}
 use Rattle.meaning.specs.Laws.Checks.{firstFailing-none}
 use Rattle.laws.specs.Values.{LegalRule}
-use Rattle.laws.specs.Legality.{LegalLedger, Ready, changed-legal, tested-legal}
+use Rattle.laws.specs.Legality.{LegalLedger, Ready, changed-legal}
 use Rattle.meaning.specs.declared.Layout.{Layout}
 use Rattle.meaning.specs.declared.Stop.{Stop}
 use Rattle.ledger.specs.Running.{ledgerOf, Running, Leads}
@@ -47,10 +47,10 @@ module _ (L : Layout) (nodes edges journal : List ℕ) (used : ℕ) (run : Runni
         changed-legal L (length nodes / nodeLength L) (length edges / edgeLength L) (few-nodes L nodes edges journal used run)
         (few-edges L nodes edges journal used run) r rule p before (running-legal L nodes edges journal used run) right ready
 
-    -- the test after the changes finds nothing, so the changes are the answer
+    -- or else the changed ledger is
     pub applied-is : apply (L .atoms) (length journal / recordLength L) r p before ≡ applied (changed r p right before)
     unfolding apply unhindered
-    applied-is = rw (fine, values) (tested-legal L (changed r p right before) (after-legal .host))
+    applied-is = rw (fine, values)
 
     -- bytes that hold the changed ledger run on
     pub runs-on : (nodes′ edges′ journal′ : List ℕ) (used′ : ℕ) → Leads L (changed r p right before) nodes′ edges′ journal′ used′

@@ -10,8 +10,8 @@ use lib.ListN.{length, getD, take, drop, length-drop}
 use lib.Seq.{take-suc, getD-drop, length-take-le}
 use Rattle.meaning.specs.Layout.{Slot, Node, Edge, free, live, Change, ofNode, ofEdge, nodeLength, edgeLength, recordLength, readNodes, readEdges}
 use Rattle.meaning.specs.Applying.{Ledger, store, stores, lowestFree, freeSlots, nodesChange, Added, addNodes, between, addEdges}
-use Rattle.laws.specs.Applying.{stores-append}
-use Rattle.laws.specs.Room.{addNodes-free, addEdges-free}
+use Rattle.meaning.specs.Laws.Applying.{stores-append}
+use Rattle.meaning.specs.Laws.Room.{addNodes-free, addEdges-free}
 use Rattle.meaning.specs.declared.Layout.{Layout}
 use Rattle.ledger.specs.Running.{ledgerOf, Held, Leads}
 

@@ -12,7 +12,7 @@ use Rattle.meaning.specs.Layout.{Sized, nodeLength, edgeLength, recordLength, r
 use Rattle.meaning.specs.Image.{Rule}
 use Rattle.meaning.specs.Matching.{leftEdges}
 use Rattle.meaning.specs.Applying.{Ledger, freeSlots, newNodes, goneNodes, recordsOf, rightSide, hindrance}
-use Rattle.laws.specs.Slots.{freeSlots-le}
+use Rattle.meaning.specs.Laws.Slots.{freeSlots-le}
 use Rattle.laws.specs.Pieces.{length-read}
 use Rattle.meaning.specs.declared.Layout.{Layout}
 use Rattle.meaning.specs.declared.Stop.{Stop}

@@ -10,7 +10,9 @@ use Rattle.meaning.specs.Layout.{Slot, Node, Edge, free, Change, Sized, nodeLen
 use Rattle.meaning.specs.Applying.{Ledger, ledgerAt}
 use Rattle.meaning.specs.Commands.{State, stateAt, Out, ends}
 use Rattle.meaning.specs.Laws.Every.{Every}
-use Rattle.laws.specs.Hosts.{LegalNode, LegalEdge, Attached, OnLive}
+use Rattle.meaning.specs.Laws.Slots.{OnLive}
+use Rattle.meaning.specs.Laws.Attached.{Attached}
+use Rattle.laws.specs.Hosts.{LegalNode, LegalEdge}
 use Rattle.laws.specs.Records.{mapChange, LegalChange, Within}
 use Rattle.meaning.specs.declared.Layout.{Layout}
 use Rattle.meaning.specs.declared.Tally.{Tally}

@@ -12,9 +12,9 @@ use Rattle.meaning.specs.Layout.{Slot, Node, Edge, free, Change, ofNode, ofEdge
 use Rattle.meaning.specs.Applying.{standing, store}
 use Rattle.meaning.specs.Laws.Every.{Every}
 use Rattle.laws.specs.Pieces.{getD-map, map-set, stored, length-stored, pieces-suc, pieces-stored, length-pieces, cut-write, read-stored, concat-append, concat-set, length-read, Wide, fits-length, fits-same, slot-within}
-use Rattle.laws.specs.Hosts.{LegalNode, LegalEdge, OnLive, length-writeNode, length-writeEdge, read-write-node, read-write-edge}
+use Rattle.meaning.specs.Laws.Slots.{OnLive, OnLive-set}
+use Rattle.laws.specs.Hosts.{LegalNode, LegalEdge, length-writeNode, length-writeEdge, read-write-node, read-write-edge}
 use Rattle.laws.specs.Records.{mapChange, LegalChange, Within, length-writeRecord, read-write-record, length-written}
-use Rattle.laws.specs.Attached.{OnLive-set}
 use Rattle.meaning.specs.declared.Layout.{Layout}
 use Rattle.ledger.specs.Running.{changeOf, journalOf, ledgerOf, Held, Leads}
 

@@ -1,12 +1,10 @@
 // One change of a slot in a lent table with its record in the journal: a node or an edge comes, changes or goes.
 ghost use mathlib.Core.Path.{_≡_};
-ghost use mathlib.Core.Bool.{true};
 ghost use Prim.Native.Nat.{_+_, _/_, _<_, _≤_};
 ghost use lib.ListN.{length, take, drop};
 ghost use Rattle.meaning.specs.Image.{mostItems};
-ghost use Rattle.meaning.specs.Basics.{exists};
 ghost use Rattle.meaning.specs.Layout.{Sized, free, live, ofNode, ofEdge, nodeLength, edgeLength, recordLength, readNodes, readEdges};
-ghost use Rattle.meaning.specs.Applying.{store, stores, lowestFree, freeSlots, onFreeNode};
+ghost use Rattle.meaning.specs.Applying.{store, stores, lowestFree, freeSlots};
 ghost use Rattle.laws.specs.Hosts.{LegalNode, LegalEdge};
 ghost use Rattle.ledger.specs.Running.{ledgerOf, Held, Leads};
 ghost use Rattle.ledger.specs.Changes.{Went, goes, Below};
@@ -202,37 +200,6 @@ pub fn add_edge(
         label,
     );
     x
-}
-
-// Whether edge x is live with an end on a free node.
-fn on_free_node(l: Layout, nodes: &[u8], edges: &[u8], x: usize) -> bool
-    requires { ⌜ Sized l ⌝ }
-    ensures { λ r. ⌜ r ≡ onFreeNode (record { nodes = readNodes l (now (nodes .entry)); edges = readEdges l (now (edges .entry)) }) x ⌝ }
-{
-    if !slots::live_slot(edges, l.edge, x) {
-        return false;
-    }
-    let b = slots::slot(edges, l.edge, x);
-    if !slots::live_slot(nodes, l.node, slots::held::source(l, b)) {
-        return true;
-    }
-    !slots::live_slot(nodes, l.node, slots::held::target(l, b))
-}
-
-// Whether some live edge has an end on a free node.
-pub fn edge_on_free_node(l: Layout, nodes: &[u8], edges: &[u8]) -> bool
-    requires { ⌜ Sized l ⌝ }
-    ensures { λ r. ⌜ r ≡ exists (onFreeNode (record { nodes = readNodes l (now (nodes .entry)); edges = readEdges l (now (edges .entry)) })) (length (readEdges l (now (edges .entry)))) ⌝ }
-{
-    let n = edges.len() / l.edge;
-    let mut x: usize = 0;
-    while x < n {
-        if on_free_node(l, nodes, edges, x) {
-            return true;
-        }
-        x += 1;
-    }
-    false
 }
 
 // What is lacking before any change, by the checks in order: room for the nodes that come, for the edges that come, for the

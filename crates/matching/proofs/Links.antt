@@ -13,9 +13,8 @@ use Rattle.meaning.specs.Layout.{Host, readNodes, readEdges, hostOf}
 use Rattle.meaning.specs.Image.{Rule}
 use Rattle.meaning.specs.Matching.{leftNodes, leftEdges, leftEdge, nodeSlot, edgeRuns}
 use Rattle.meaning.specs.FirstMatch.{joins, linked, nodeFits, fits, candidates}
-use Rattle.meaning.specs.Laws.Tests.{not-so, both-true, exists-no, all-no, choose-eq, choose-lt, choose-le}
+use Rattle.meaning.specs.Laws.Tests.{not-so, both-true, exists-no, all-no, choose-eq, choose-lt, choose-le, clauses-true}
 use Rattle.laws.specs.Pieces.{length-pieces}
-use Rattle.laws.specs.References.{clauses-true}
 use Rattle.meaning.specs.declared.Layout.{Layout}
 use Rattle.agreeing.specs.Placed.{slots}
 use Rattle.agreeing.specs.Trials.{next-new, next-old}

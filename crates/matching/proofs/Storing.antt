@@ -17,8 +17,8 @@ use Rattle.meaning.specs.Image.{Rule, mostItems, limits}
 use Rattle.meaning.specs.References.{labels, names, testNames, variablesExist, ruleHolds}
 use Rattle.meaning.specs.FirstMatch.{firstWith}
 use Rattle.meaning.specs.Assigned.{assigned}
-use Rattle.meaning.specs.Laws.Tests.{both-true, absent-false, every-true, every-append}
-use Rattle.laws.specs.References.{clauses-true, left-plain}
+use Rattle.meaning.specs.Laws.Tests.{both-true, absent-false, every-true, every-append, clauses-true}
+use Rattle.laws.specs.References.{left-plain}
 use Rattle.laws.specs.Assignment.{labels-length}
 use Rattle.laws.specs.Decided.{first-with}
 use Rattle.labels.specs.Labels.{atomsIn, Held}

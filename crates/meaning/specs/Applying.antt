@@ -1,23 +1,21 @@
--- Applying a rule at a match: the values of the right side, the checks before any change, the changes with one record each,
--- and the test after them. Rests on Basics, Numbers, Tags, Layout, Image, Matching and Assigned, and on the code's Element and
--- Stop.
-use mathlib.Core.Bool.{Bool, not}
+-- Applying a rule at a match: the values of the right side, the checks before any change, and the changes with one record each.
+-- Rests on Basics, Numbers, Tags, Layout, Image, Matching and Assigned, and on the code's Element and Stop.
 use mathlib.Core.Option.{Option, some, none}
 use mathlib.Core.List.{List, [], _∷_, _++_, map}
 use Prim.Native.Nat.{ℕ, zero, suc, _+_, _-_}
 use lib.ListN.{length, getD, take, drop}
 use lib.Dec.{eqb, leb}
-use Rattle.meaning.specs.Basics.{choose, both, exists, concat, isSome, ensure, each, firstFailing, _>>_, _>>=_}
+use Rattle.meaning.specs.Basics.{choose, concat, isSome, ensure, each, firstFailing, _>>_, _>>=_}
 use Rattle.meaning.specs.Numbers.{sum, difference}
-use Rattle.meaning.specs.Layout.{Slot, free, live, Node, Edge, Host, Change, ofNode, ofEdge, put, liveAt}
+use Rattle.meaning.specs.Layout.{Slot, free, live, Node, Edge, Host, Change, ofNode, ofEdge, put}
 use Rattle.meaning.specs.Image.{RuleNode, RuleEdge, Rule}
 use Rattle.meaning.specs.Tags.{anyMark}
-use Rattle.meaning.specs.Matching.{nodeAt, edgeAt, leftNodes, leftEdges, nodeSlot, Assignment, atomOf}
+use Rattle.meaning.specs.Matching.{nodeAt, leftNodes, leftEdges, nodeSlot, Assignment, atomOf}
 use Rattle.meaning.specs.Assigned.{assigned}
 use Rattle.meaning.specs.declared.Element.{Element}
 use Rattle.meaning.specs.declared.Element.the-variants.{Constant, Variable, Sum, Difference}
 use Rattle.meaning.specs.declared.Stop.{Stop}
-use Rattle.meaning.specs.declared.Stop.the-variants.{NoNodeRoom, NoEdgeRoom, NoRecordRoom, LabelTooLarge, EdgeOnFreeNode}
+use Rattle.meaning.specs.declared.Stop.the-variants.{NoNodeRoom, NoEdgeRoom, NoRecordRoom, LabelTooLarge}
 
 -- The right side under an assignment. A label that can't be held has no value; `most` is how many atoms a label holds.
 
@@ -172,24 +170,14 @@ hindrance most room r p g =
     ∷ (leb (length (g .journal) + recordsOf r) room, NoRecordRoom)
     ∷ [])
 
--- The test after the changes: a live edge on a free node (answer 7).
-
-unfoldable pub onFreeNode : Host → ℕ → Bool
-onFreeNode h x =
-    both (liveAt (h .edges) x)
-    (not (both (liveAt (h .nodes) (edgeAt h x .source)) (liveAt (h .nodes) (edgeAt h x .target))))
-
 pub data Applied : Type 0 where
   applied : Ledger → Applied
   hindered : Stop → Applied
 
-unfoldable pub tested : Ledger → Applied
-tested g = choose (exists (onFreeNode (g .host)) (length (g .host .edges))) (hindered EdgeOnFreeNode) (applied g)
-
 unfoldable pub unhindered : Option Stop → Option Right → Rule → List ℕ → Ledger → Applied
 unhindered (some w) right r p g = hindered w
 unhindered none none r p g = hindered LabelTooLarge
-unhindered none (some right) r p g = tested (changed r p right g)
+unhindered none (some right) r p g = applied (changed r p right g)
 
 unfoldable pub apply : ℕ → ℕ → Rule → List ℕ → Ledger → Applied
 apply most room r p g = unhindered (hindrance most room r p g) (rightSide most (g .host) r p) r p g

@@ -17,7 +17,7 @@ use Rattle.meaning.specs.Placement.{placement}
 use Rattle.meaning.specs.Commands.{Out, beginning, exec}
 use Rattle.meaning.specs.declared.Layout.{Layout}
 use Rattle.meaning.specs.declared.Stop.{Stop}
-use Rattle.meaning.specs.declared.Stop.the-variants.{OutOfFuel, NoNodeRoom, NoEdgeRoom, NoRecordRoom, LabelTooLarge, EdgeOnFreeNode}
+use Rattle.meaning.specs.declared.Stop.the-variants.{OutOfFuel, NoNodeRoom, NoEdgeRoom, NoRecordRoom, LabelTooLarge}
 use Rattle.meaning.specs.declared.Refusal.{Refusal}
 use Rattle.meaning.specs.declared.Refusal.the-variants.{ReportLength, NodeTableLength, EdgeTableLength, JournalLength, TooMuchFuel, ImageTooLong, BadHost, BadForm, BadReferences, BadPlacement, BadRecords}
 use Rattle.meaning.specs.declared.Answer.{Answer}
@@ -25,7 +25,7 @@ use Rattle.meaning.specs.declared.Answer.the-variants.{Result, Fail, Sto
 use Rattle.meaning.specs.declared.End.{End}
 use Rattle.meaning.specs.declared.End.the-variants.{Done, Failed, Broke, Stopped}
 
--- The numbers of the answers.
+-- The numbers of the answers. 7 is nobody's, and stays unused.
 
 unfoldable pub stopNumber : Stop → ℕ
 stopNumber OutOfFuel = 2
@@ -33,7 +33,6 @@ stopNumber NoNodeRoom = 3
 stopNumber NoEdgeRoom = 4
 stopNumber NoRecordRoom = 5
 stopNumber LabelTooLarge = 6
-stopNumber EdgeOnFreeNode = 7
 
 unfoldable pub refusalNumber : Refusal → ℕ
 refusalNumber ReportLength = 9

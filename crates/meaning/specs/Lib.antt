@@ -15,4 +15,5 @@ pub mod Calls
 pub mod Computing
 pub mod ProvedSet
 pub mod Examples
+pub mod NoLooseEdge
 pub mod Laws

@@ -124,6 +124,13 @@ MarksAgree left mark = (left ≡ anyMark) ⊎ (left ≡ mark)
 abbrev pub rootsAgree : Rule → ℕ → ℕ → Bool
 rootsAgree r left host = eqb left host
 
+-- every host edge touching the image of a left node outside the interface is the image of a left edge
+abbrev pub DanglingCondition : Host → Rule → List ℕ → Type 0
+DanglingCondition h r p =
+    (x j : ℕ) → liveAt (h .edges) x ≡ true → r .interface ≤ j → j < leftNodes r
+    → (edgeAt h x .source ≡ nodeSlot p j) ⊎ (edgeAt h x .target ≡ nodeSlot p j)
+    → (k : ℕ) × (k < leftEdges r) × (edgeSlot r p k ≡ x)
+
 -- p is a match of rule r in host h
 pub record Match (h : Host) (r : Rule) (p : List ℕ) : Type 0 where
   -- a different live node slot for each left node, a different live edge slot for each left edge
@@ -145,10 +152,8 @@ pub record Match (h : Host) (r : Rule) (p : List ℕ) : Type 0 where
   pub ints : (v : ℕ) → isInt r v ≡ true → length (assignment v) ≡ 1
   pub nodeLabels : (i : ℕ) → i < leftNodes r → nodeAt h (nodeSlot p i) .label ≡ instance assignment (leftNode r i .label)
   pub edgeLabels : (k : ℕ) → k < leftEdges r → edgeAt h (edgeSlot r p k) .label ≡ instance assignment (leftEdge r k .label)
-  -- 5. every host edge touching the image of a left node outside the interface is the image of a left edge
-  pub dangling : (x j : ℕ) → liveAt (h .edges) x ≡ true → r .interface ≤ j → j < leftNodes r
-      → (edgeAt h x .source ≡ nodeSlot p j) ⊎ (edgeAt h x .target ≡ nodeSlot p j)
-      → (k : ℕ) × (k < leftEdges r) × (edgeSlot r p k ≡ x)
+  -- 5. the dangling condition
+  pub dangling : DanglingCondition h r p
   -- 6. every test holds in the host before the change
   pub tests : every (testHolds h p assignment) (r .tests) ≡ true
 

@@ -39,7 +39,6 @@ pub enum Stop {
     NoEdgeRoom,
     NoRecordRoom,
     LabelTooLarge,
-    EdgeOnFreeNode,
 }
 
 // What is wrong with the input of a call.

@@ -9,7 +9,8 @@ use Rattle.meaning.specs.Image.{Rule}
 use Rattle.meaning.specs.References.{operandNames, conditionOperands, conditionNodes, names, testNames, testOperands, variablesExist, testNodesExist, ruleHolds}
 use Rattle.meaning.specs.Matching.{leftNodes}
 use Rattle.meaning.specs.Laws.Every.{Every, Every-true, Every-parts, Every-concat, Every-map}
-use Rattle.laws.specs.References.{clauses-true, OfVariables}
+use Rattle.meaning.specs.Laws.Tests.{clauses-true}
+use Rattle.laws.specs.References.{OfVariables}
 
 module _ (r : Rule) (holds : ruleHolds r ≡ true) where
   -- their nodes are left nodes

@@ -54,7 +54,7 @@ module _ (L : Layout) where
     fail-published z = Results.fail-published L Graph Applied graphOf hit miss numbered I first second x b z
 
     -- both graphs are host graphs
-    pub came-host : I .run x .answer ≤ 7 → HostGraph (held L graphOf (x .nodes) (x .edges))
+    pub came-host : I .run x .answer ≤ 6 → HostGraph (held L graphOf (x .nodes) (x .edges))
     came-host z = host-graph L _ (Results.came-legal L Graph Applied graphOf hit miss numbered I first second x b z)
 
     pub left-host : I .run x .answer ≡ 0 → HostGraph (held L graphOf (I .run x .nodes) (I .run x .edges))

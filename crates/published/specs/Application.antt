@@ -21,7 +21,9 @@ use Rattle.meaning.specs.Applying.{Ledger, applied, apply}
 use Rattle.meaning.specs.Commands.{State, Chosen, ruleAt, firstRule}
 use Rattle.demands.specs.Inference
 use Rattle.demands.specs.Inference.{NoMatch, FirstCalled, Does}
-use Rattle.laws.specs.Hosts.{LegalNode, LegalEdge, Attached, OnLive, LegalHost, liveAt-lt}
+use Rattle.meaning.specs.Laws.Slots.{OnLive, liveAt-lt}
+use Rattle.meaning.specs.Laws.Attached.{Attached}
+use Rattle.laws.specs.Hosts.{LegalNode, LegalEdge, LegalHost}
 use Rattle.laws.specs.Pieces.{getD-map}
 use Rattle.laws.specs.References.{Sound}
 use Rattle.laws.specs.Values.{LegalRule, assigned-words}

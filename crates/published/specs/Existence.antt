@@ -18,7 +18,7 @@ use Rattle.meaning.specs.Image.{RuleNode, Rule}
 use Rattle.meaning.specs.References.{ruleHolds}
 use Rattle.meaning.specs.Commands.{ruleAt}
 use Rattle.meaning.specs.Laws.Tests.{both-true, both-of, exists-no, exists-false, not-so, choose-eq, choose-ne}
-use Rattle.laws.specs.Values.{interface-left}
+use Rattle.meaning.specs.Laws.Interface.{interface-left}
 use Rattle.meaning.specs.declared.Element.{Element}
 use Rattle.meaning.specs.declared.Element.the-variants.{Constant, Variable, Sum, Difference}
 use Rattle.published.specs.Integers.{atom}

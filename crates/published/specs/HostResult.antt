@@ -14,7 +14,8 @@ use Rattle.meaning.specs.Tags.{anyMark}
 use Rattle.meaning.specs.References.{ruleHolds}
 use Rattle.meaning.specs.Laws.Tests.{choose-lt, choose-le, either-not}
 use Rattle.meaning.specs.Laws.Every.{Every-at}
-use Rattle.laws.specs.Values.{LegalRule, interface-left, right-marked, new-marked, node-mark}
+use Rattle.meaning.specs.Laws.Interface.{interface-left}
+use Rattle.laws.specs.Values.{LegalRule, right-marked, new-marked, node-mark}
 use Rattle.published.specs.Graphs.{NodeLabel, EdgeLabel, Graph, Node, Edge, HostGraph}
 use Rattle.published.specs.RuleApplication.{nodeOf, edgeOf, StaysNode, StaysEdge, NodeInstance, placed, Constructed, Matches, Applies}
 use Rattle.published.specs.Application.Values.{node-formed, edge-formed}

@@ -14,11 +14,10 @@ use Rattle.meaning.specs.Basics.{choose}
 use Rattle.meaning.specs.Image.{Rule}
 use Rattle.meaning.specs.References.{conditionNodes, testNodesExist, ruleHolds}
 use Rattle.meaning.specs.Commands.{ruleAt}
-use Rattle.meaning.specs.Laws.Tests.{choose-le}
+use Rattle.meaning.specs.Laws.Tests.{choose-le, clauses-true}
 use Rattle.meaning.specs.Laws.Every.{Every, Every-true, Every-with}
 use Rattle.laws.specs.Pieces.{getD-map}
-use Rattle.laws.specs.References.{clauses-true}
-use Rattle.laws.specs.Values.{interface-left}
+use Rattle.meaning.specs.Laws.Interface.{interface-left}
 use Rattle.meaning.specs.declared.Condition.{Condition}
 use Rattle.meaning.specs.declared.Condition.the-variants.{Edge as edgeBetween, InDegree, OutDegree, Equal, Less}
 use Rattle.published.specs.Graphs.{Graph, Node, Edge, HostGraph, Iso}

@@ -109,6 +109,6 @@ module _ (L : Layout) (I : Interpreter) (second : Demand2 L I) (x : Lent) (b : L
             let t = call-gives rules legal l G (f .place) (f .listed) m in
             (t .0, of-image (graph (t .0)) (t .1))
 
-    -- a stop, answered by 2 to 7, is no fail
+    -- a stop, answered by 2 to 6, is no fail
     pub stop-no-fail : 2 ≤ I .run x .answer → Comes L x fails → ⊥
     stop-no-fail k c = let e = answers-fail .1 c in omega arith

@@ -11,8 +11,7 @@ use borrow.Author.Tests.{ltb-true}
 use lib.ListN.{length}
 use Rattle.meaning.specs.Image.{Rule, RuleNode, RuleEdge}
 use Rattle.meaning.specs.References.{endsExist, ruleHolds}
-use Rattle.meaning.specs.Laws.Tests.{both-true, choose-lt, choose-le, every-true}
-use Rattle.laws.specs.References.{clauses-true}
+use Rattle.meaning.specs.Laws.Tests.{both-true, choose-lt, choose-le, every-true, clauses-true}
 use Rattle.meaning.specs.declared.Element.{Element}
 use Rattle.meaning.specs.declared.Element.the-variants.{Constant, Variable, Sum, Difference}
 use Rattle.published.specs.Graphs.{NodeLabel, EdgeLabel, Graph, Node, Edge, HostGraph, Iso}

@@ -76,7 +76,7 @@ module _ (I : Interpreter) (exported : Exported I) (x : Lent) (b : Lendable x) (
   abbrev Comes : Outcome Graph → Type 0
   Comes X = ⟦_⟧ Graph Applied P G X
 
-  legal : I .run x .answer ≤ 7 → Calls LegalRules P
+  legal : I .run x .answer ≤ 6 → Calls LegalRules P
   legal k =
       let q = ap (λ (o : Answered). o .answer) (exported-run I exported x b) in
       let a = good base x (run-settled base x (omega arith)) in

@@ -94,10 +94,10 @@ module _ {ℓ κ} (L : Layout) (Graph : Type ℓ) (Applied : List Rule → Graph
       abbrev leftGraph : Graph
       leftGraph = held L read (I .run x .nodes) (I .run x .edges)
 
-      starts : I .run x .answer ≤ 7 → runRefusedWith L x ≡ none
+      starts : I .run x .answer ≤ 6 → runRefusedWith L x ≡ none
       starts = at (runRefusedWith L x) refl
         where
-          at : (o : Option ℕ) → runRefusedWith L x ≡ o → I .run x .answer ≤ 7 → runRefusedWith L x ≡ none
+          at : (o : Option ℕ) → runRefusedWith L x ≡ o → I .run x .answer ≤ 6 → runRefusedWith L x ≡ none
           at none e k = e
           at (some n) e k = absurd (omega (arith, first .refuses x b n e, refusal-answer L x n e .1))
 
@@ -169,7 +169,7 @@ module _ {ℓ κ} (L : Layout) (Graph : Type ℓ) (Applied : List Rule → Graph
           result-at a (m .0) (m .1) (m .2) (m .3) z
 
       -- what a started run is lent is legal, and what it leaves where it answers 0
-      pub came-legal : I .run x .answer ≤ 7 → LegalHost L (hostIn L (x .nodes) (x .edges))
+      pub came-legal : I .run x .answer ≤ 6 → LegalHost L (hostIn L (x .nodes) (x .edges))
       came-legal k = start-good (good L x (starts k)) .host
 
       pub left-legal : I .run x .answer ≡ 0 → LegalHost L (hostIn L (I .run x .nodes) (I .run x .edges))

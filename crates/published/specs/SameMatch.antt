@@ -14,13 +14,13 @@ use Rattle.meaning.specs.Image.{RuleNode, RuleEdge, Rule}
 use Rattle.meaning.specs.References.{operandNames, elementNames, labels, elements, names, testNames, isInt, variablesOnLeft, ruleHolds}
 use Rattle.meaning.specs.Matching.{leftNode, leftEdge, leftNodes, leftEdges, instance}
 use Rattle.meaning.specs.FirstMatch.{firstWith}
-use Rattle.meaning.specs.Laws.Tests.{choose-le, some-inj}
+use Rattle.meaning.specs.Laws.Tests.{choose-le, some-inj, clauses-true}
 use Rattle.meaning.specs.Laws.Every.{Every, Every-true, Every-at, Every-parts, Every-concat, Every-map, Every-then, Every-with}
-use Rattle.laws.specs.References.{clauses-true, left-plain, label-plain, label-simple, label-variables, Sound}
+use Rattle.laws.specs.References.{left-plain, label-plain, label-simple, label-variables, Sound}
 use Rattle.laws.specs.Labels.{Singles, taken-instance}
 use Rattle.laws.specs.Assignment.{labels-length, label-node, label-edge, single}
 use Rattle.laws.specs.Decided.{first-with}
-use Rattle.laws.specs.Values.{interface-left}
+use Rattle.meaning.specs.Laws.Interface.{interface-left}
 use Rattle.meaning.specs.declared.Operand.{Operand}
 use Rattle.meaning.specs.declared.Operand.the-variants.{Constant as constantOperand, Variable as variableOperand}
 use Rattle.meaning.specs.declared.Element.{Element}

@@ -16,7 +16,7 @@ use Rattle.meaning.specs.Matching.{nodeAt, nodeSlot, Assignment}
 use Rattle.meaning.specs.Assigned.{assigned}
 use Rattle.meaning.specs.Applying.{labelValue, rootTaken, rightNode, rightNodes, rightEdge, Right, rightSide}
 use Rattle.meaning.specs.Laws.Tests.{some-inj, bind-some}
-use Rattle.laws.specs.Applying.{each-at, nodes-at}
+use Rattle.meaning.specs.Laws.Applying.{each-at, nodes-at}
 use Rattle.labels.specs.Labels.{atomsIn}
 use Rattle.parts.specs.Series.{For}
 use Rattle.parts.specs.Rows.{node, edge, graphItem, itemLabel}

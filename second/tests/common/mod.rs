@@ -2,9 +2,9 @@
 
 use second::calls::{Outcome, RunCall};
 use second::encode::{self, RunnerInput};
-use second::exercised::Exercised;
 use second::host::{Edge, Host, Label, Node};
 use second::layout::Layout;
+use second::observer::{Observer, Unobserved};
 use second::random::Random;
 use second::tree::*;
 
@@ -31,10 +31,10 @@ impl Sample {
 
     /// The outcome of a run whose journal and report hold something beforehand.
     pub fn outcome(&self) -> Outcome {
-        self.counted(&mut Exercised::default())
+        self.observed(&mut Unobserved)
     }
 
-    pub fn counted(&self, exercised: &mut Exercised) -> Outcome {
+    pub fn observed(&self, observer: &mut dyn Observer) -> Outcome {
         let call = RunCall {
             nodes: self.nodes.clone(),
             edges: self.edges.clone(),
@@ -43,7 +43,7 @@ impl Sample {
             fuel: self.fuel,
             report: vec![0xEE; 8],
         };
-        call.outcome_at(&Layout::BASE, exercised)
+        call.outcome_at(&Layout::BASE, observer)
     }
 }
 

@@ -20,9 +20,6 @@ enum-told-4 c = search needs
 enum-told-5 : tie.Need-enum-told-5
 enum-told-5 c = search needs
 
-enum-told-6 : tie.Need-enum-told-6
-enum-told-6 c = search needs
-
 returns : tie.Need-returns
 unfolding stopNumber
 returns c = sym (ap stopNumber (c .enum-told .given .1))
@@ -43,10 +40,6 @@ returns-5 : tie.Need-returns-5
 unfolding stopNumber
 returns-5 c = sym (ap stopNumber (c .enum-told5 .given .1))
 
-returns-6 : tie.Need-returns-6
-unfolding stopNumber
-returns-6 c = sym (ap stopNumber (c .enum-told6 .given .1))
-
 pub stop-number-spec : {M : Type 1} → statement M
 stop-number-spec =
     tie.close
@@ -56,10 +49,8 @@ stop-number-spec =
     enum-told-3
     enum-told-4
     enum-told-5
-    enum-told-6
     returns
     returns-2
     returns-3
     returns-4
-    returns-5
-    returns-6)
+    returns-5)

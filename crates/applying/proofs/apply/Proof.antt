@@ -1,6 +1,6 @@
 -- `applying::apply` meets its contract.
 use borrow.Author.Needs.{needs}
-use Rattle.applying.proofs.Answers.{stops, unhindered-here}
+use Rattle.applying.proofs.Answers.{stops, unhindered-here, does}
 use Rattle.applying.proofs.apply.Statement.{statement}
 use Rattle.applying.proofs.apply.Tie as tie
 
@@ -25,8 +25,8 @@ returns c = stops (c .before .before .before .before .before .before .before .be
 enum-told : tie.Need-enum-told
 enum-told c = search needs
 
-change-and-test-requires : tie.Need-change-and-test-requires
-change-and-test-requires c κs = unhindered-here (c .before .before .before .before .before .before .before .before .before .before .before .before .before .pre .0) (c .before .before .before .before .before .before .before .before .before .before .before .before .before .pre .1) (rw (c .before .before .before .enum-told .given .1) at (c .before .before .before .before .before .hindrance .ensures (c .before .before .before .before .before .before .before .before .before .before .before .before .before .pre .1)))
+change-requires : tie.Need-change-requires
+change-requires c κs = unhindered-here (c .before .before .before .before .before .before .before .before .before .before .before .before .before .pre .0) (c .before .before .before .before .before .before .before .before .before .before .before .before .before .pre .1) (rw (c .before .before .before .enum-told .given .1) at (c .before .before .before .before .before .hindrance .ensures (c .before .before .before .before .before .before .before .before .before .before .before .before .before .pre .1)))
 
 same-length-4 : tie.Need-same-length-4
 same-length-4 c = search needs
@@ -38,7 +38,7 @@ same-length-6 : tie.Need-same-length-6
 same-length-6 c = search needs
 
 returns-2 : tie.Need-returns-2
-returns-2 c = search needs
+returns-2 c = does (unhindered-here (c .before .before .before .before .before .before .before .before .before .before .before .before .before .before .before .before .before .before .before .before .pre .0) (c .before .before .before .before .before .before .before .before .before .before .before .before .before .before .before .before .before .before .before .before .pre .1) (rw (c .before .before .before .before .before .before .before .before .before .before .enum-told .given .1) at (c .before .before .before .before .before .before .before .before .before .before .before .before .hindrance .ensures (c .before .before .before .before .before .before .before .before .before .before .before .before .before .before .before .before .before .before .before .before .pre .1)))) (c .before .before .before .before .before .before .change .ensures)
 
 pub apply-spec : {M : Type 1} → statement M
 apply-spec =
@@ -51,7 +51,7 @@ apply-spec =
     same-length-3
     returns
     enum-told
-    change-and-test-requires
+    change-requires
     same-length-4
     same-length-5
     same-length-6

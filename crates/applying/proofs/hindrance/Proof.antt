@@ -1,7 +1,7 @@
 -- `applying::hindrance` meets its contract.
 use borrow.Author.Needs.{needs}
 use native.Mathlib.Omega.{arith}
-use Rattle.laws.specs.Values.{interface-left, interface-right}
+use Rattle.meaning.specs.Laws.Interface.{interface-left, interface-right}
 use Rattle.fields.specs.Parsed.{rule-few}
 use Rattle.applying.proofs.Checks.{records-half, too-large, lacks}
 use Rattle.applying.proofs.hindrance.Statement.{statement}

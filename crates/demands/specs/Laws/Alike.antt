@@ -17,8 +17,7 @@ use Rattle.meaning.specs.References.{labels, ruleHolds}
 use Rattle.meaning.specs.Matching.{nodeIn, edgeIn, nodeAt, edgeAt, leftNodes, nodeSlot, edgeSlot, Assignment, edgeRuns, edgeLeaves, edgeArrives, outDegree, inDegree, conditionHolds, testHolds, Match}
 use Rattle.meaning.specs.Assigned.{paired, valueFrom, assigned}
 use Rattle.meaning.specs.FirstMatch.{firstMatch}
-use Rattle.meaning.specs.Applying.{rightNode, rightNodes, rightSide, onFreeNode}
-use Rattle.meaning.specs.Laws.Tests.{both-no}
+use Rattle.meaning.specs.Applying.{rightNode, rightNodes, rightSide}
 use Rattle.laws.specs.Edges.{edgeRuns-free, edgeLeaves-free, edgeArrives-free}
 use Rattle.laws.specs.FirstMatch.{First, first-one, first-match}
 use Rattle.meaning.specs.declared.Condition.{Condition}
@@ -152,14 +151,6 @@ module _ (h h′ : Host) (a : Alike h h′) where
   unfolding rightSide
   rightSide-alike most r p =
       rw (assigned-alike r p, rightNodes-alike most r (assigned h′ r p) p 0 (r .right .nodes))
-
-  -- Live edges on free nodes.
-
-  pub onFree-alike : exists (onFreeNode h) (length (h .edges)) ≡ exists (onFreeNode h′) (length (h′ .edges))
-  unfolding onFreeNode
-  onFree-alike =
-      exists-alike onFreeNode
-      (λ x. rw (a .edges x, a .nodes (edgeAt h′ x .source), a .nodes (edgeAt h′ x .target))) (λ g x e. both-no _ _ e)
 
 -- The first match.
 

@@ -2,28 +2,25 @@
 -- match, do the same, and the further slots stay free behind. Rests on Laws/Alike and laws' Room.
 use Prim.Native.Nat.{ℕ, zero, suc, _+_, _<_, _≤_}
 use mathlib.Core.Path.{_≡_, refl, sym, _∙_, ap}
-use mathlib.Core.Bool.{Bool, true, false}
 use mathlib.Core.Option.{Option, some, none}
 use mathlib.Core.List.{List, [], _∷_, _++_, map}
 use native.Mathlib.Omega.{arith}
 use native.Mathlib.Decide.{decLe}
 use lib.ListN.{length, getD, take, drop, replicate, length-drop}
 use lib.Seq.{set-append-left}
-use Rattle.meaning.specs.Basics.{choose, exists}
 use Rattle.meaning.specs.Layout.{Slot, free, live, Node, Edge, Host, Change, ofNode, ofEdge, put}
 use Rattle.meaning.specs.Image.{Rule}
 use Rattle.meaning.specs.Matching.{leftNodes, leftEdges, Match}
-use Rattle.meaning.specs.Applying.{Right, rightSide, Ledger, standing, store, stores, lowestFree, freeSlots, edgesGo, nodesChange, Added, addNodes, between, addEdges, changed, newNodes, goneNodes, recordsOf, hindrance, onFreeNode, Applied, applied, hindered, tested, unhindered, apply, ledgerAt}
+use Rattle.meaning.specs.Applying.{Right, rightSide, Ledger, standing, store, stores, lowestFree, freeSlots, edgesGo, nodesChange, Added, addNodes, between, addEdges, changed, newNodes, goneNodes, recordsOf, hindrance, Applied, applied, hindered, unhindered, apply, ledgerAt}
 use Rattle.meaning.specs.Laws.Every.{Every, Every-then}
 use Rattle.laws.specs.Records.{Every-append}
-use Rattle.laws.specs.Slots.{lowestFree-lt, freeSlots-append, come-free, put-nodes, put-edges}
-use Rattle.laws.specs.Hosts.{liveAt-lt}
+use Rattle.meaning.specs.Laws.Slots.{lowestFree-lt, freeSlots-append, come-free, put-nodes, put-edges, liveAt-lt}
 use Rattle.demands.specs.Laws.Hindrance.{labels-first, nodes-second, edges-third, records-last, unhindered-of}
-use Rattle.laws.specs.Applying.{store-host, rightSide-some}
-use Rattle.laws.specs.Room.{Placed, match-nodes, match-edges, afterLeft, afterNew, afterLeft-nodes, afterLeft-edges, addNodes-edges}
-use Rattle.demands.specs.Laws.Alike.{Alike, rightSide-alike, onFree-alike}
+use Rattle.meaning.specs.Laws.Applying.{store-host, rightSide-some}
+use Rattle.meaning.specs.Laws.Room.{Placed, match-nodes, match-edges, afterLeft, afterNew, afterLeft-nodes, afterLeft-edges, addNodes-edges}
+use Rattle.demands.specs.Laws.Alike.{Alike, rightSide-alike}
 use Rattle.meaning.specs.declared.Stop.{Stop}
-use Rattle.meaning.specs.declared.Stop.the-variants.{OutOfFuel, NoNodeRoom, NoEdgeRoom, NoRecordRoom, LabelTooLarge, EdgeOnFreeNode}
+use Rattle.meaning.specs.declared.Stop.the-variants.{OutOfFuel, NoNodeRoom, NoEdgeRoom, NoRecordRoom, LabelTooLarge}
 
 -- One table.
 
@@ -193,23 +190,10 @@ HasRoom NoNodeRoom = ⊥
 HasRoom NoEdgeRoom = ⊥
 HasRoom NoRecordRoom = ⊥
 HasRoom LabelTooLarge = Unit {0}
-HasRoom EdgeOnFreeNode = Unit {0}
 
 abbrev pub AppliedWithRoom : Applied → Type 0
 AppliedWithRoom (applied g) = Unit {0}
 AppliedWithRoom (hindered w) = HasRoom w
-
-tested-roomier : (a b : ℕ) (g : Ledger) → tested (roomierLedger a b g) ≡ roomierApplied a b (tested g)
-unfolding tested choose
-tested-roomier a b g =
-    rw (← onFree-alike (g .host) (roomier a b (g .host)) (roomier-alike a b (g .host)))
-    (at (exists (onFreeNode (g .host)) (length (g .host .edges))))
-  where
-    at : (t : Bool)
-        → choose t (hindered EdgeOnFreeNode) (applied (roomierLedger a b g))
-        ≡ roomierApplied a b (choose t (hindered EdgeOnFreeNode) (applied g))
-    at true = refl
-    at false = refl
 
 module _ (most room room′ a b : ℕ) (r : Rule) (p : List ℕ) (g : Ledger) (k : room ≤ room′) (m : Match (g .host) r p) where
   abbrev large : Ledger
@@ -238,7 +222,6 @@ module _ (most room room′ a b : ℕ) (r : Rule) (p : List ℕ) (g : Ledger) (k
       let free-small = unhindered-of most room r p g right q n e j in
       let free-large = unhindered-of most room′ r p large right (values ∙ q) (omega arith) (omega arith) (omega arith) in
       rw (free-small, q, free-large, values, q, changed-roomier most r p right g m q a b n e)
-      (tested-roomier a b (changed r p right g))
 
   pub apply-roomier : AppliedWithRoom (apply most room r p g)
       → apply most room′ r p large ≡ roomierApplied a b (apply most room r p g)

@@ -14,7 +14,7 @@ use Rattle.laws.specs.Commands.{entered}
 use Rattle.demands.specs.Laws.Allowance.{more, moreLeft, Enough, More, exec-grows}
 use Rattle.laws.specs.Fuel.{exec-counted, work-counted, works-counted, Spending, enterAt-spends, exec-spending, IfOut, AtOut, atOut-of, call-enough}
 use Rattle.meaning.specs.declared.Stop.{Stop}
-use Rattle.meaning.specs.declared.Stop.the-variants.{OutOfFuel, NoNodeRoom, NoEdgeRoom, NoRecordRoom, LabelTooLarge, EdgeOnFreeNode}
+use Rattle.meaning.specs.declared.Stop.the-variants.{OutOfFuel, NoNodeRoom, NoEdgeRoom, NoRecordRoom, LabelTooLarge}
 use Rattle.meaning.specs.declared.End.{End}
 use Rattle.meaning.specs.declared.End.the-variants.{Done, Failed, Broke, Stopped}
 
@@ -33,7 +33,6 @@ ifOut-map NoNodeRoom P Q f h = tt
 ifOut-map NoEdgeRoom P Q f h = tt
 ifOut-map NoRecordRoom P Q f h = tt
 ifOut-map LabelTooLarge P Q f h = tt
-ifOut-map EdgeOnFreeNode P Q f h = tt
 
 enter-short : (f : ℕ) (k : State → Out) → Falling k → Short k → (d : ℕ) (s : State) → s .fuel ≡ f
     → AtOut (enterAt f k s .end) (enterAt (f + d) k (more d s) .state .fuel ≤ d - 1)
@@ -175,7 +174,6 @@ stopIs NoNodeRoom = no (λ e. let z : _≡_ {A = ℕ} 0 1 = cc in omega arith)
 stopIs NoEdgeRoom = no (λ e. let z : _≡_ {A = ℕ} 0 1 = cc in omega arith)
 stopIs NoRecordRoom = no (λ e. let z : _≡_ {A = ℕ} 0 1 = cc in omega arith)
 stopIs LabelTooLarge = no (λ e. let z : _≡_ {A = ℕ} 0 1 = cc in omega arith)
-stopIs EdgeOnFreeNode = no (λ e. let z : _≡_ {A = ℕ} 0 1 = cc in omega arith)
 
 endIs : (e : End) → Dec (e ≡ Stopped OutOfFuel)
 endIs Done = no (λ e. let z : _≡_ {A = ℕ} 0 1 = cc in omega arith)

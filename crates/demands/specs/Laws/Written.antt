@@ -14,7 +14,8 @@ use Rattle.meaning.specs.Layout.{Slot, free, live, Node, Edge, Change, ofNode, 
 use Rattle.meaning.specs.Laws.Tests.{either-true, zero-at}
 use Rattle.meaning.specs.Laws.Every.{Every}
 use Rattle.laws.specs.Numbers.{Bytes}
-use Rattle.laws.specs.Hosts.{LegalNode, LegalEdge, OnLive}
+use Rattle.meaning.specs.Laws.Slots.{OnLive}
+use Rattle.laws.specs.Hosts.{LegalNode, LegalEdge}
 use Rattle.laws.specs.Records.{LegalChange}
 use Rattle.meaning.specs.declared.Layout.{Layout}
 

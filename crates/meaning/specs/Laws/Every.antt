@@ -1,12 +1,13 @@
 -- A statement of each element of a list, as a type: what `every` is as a test. Rests on Basics.
-use mathlib.Core.Path.{_≡_, refl}
+use mathlib.Core.Path.{_≡_, refl, sym}
 use mathlib.Core.Bool.{Bool, true}
+use mathlib.Core.Option.{Option, some}
 use mathlib.Core.List.{List, [], _∷_, _++_, map}
 use Prim.Native.Nat.{ℕ, zero, suc, _<_}
 use native.Mathlib.Omega.{arith}
 use lib.ListN.{length, getD}
-use Rattle.meaning.specs.Basics.{every, concat}
-use Rattle.meaning.specs.Laws.Tests.{both-true, both-of}
+use Rattle.meaning.specs.Basics.{every, concat, each}
+use Rattle.meaning.specs.Laws.Tests.{both-true, both-of, some-inj, bind-some}
 
 abbrev pub Every : {A : Type 0} → (A → Type 0) → List A → Type 0
 Every P [] = Unit {0}
@@ -60,3 +61,13 @@ module _ {A : Type 0} where
   pub Every-with : (P Q R : A → Type 0) → ((a : A) → P a → Q a → R a) → (l : List A) → Every P l → Every Q l → Every R l
   Every-with P Q R f [] p q = tt
   Every-with P Q R f (a ∷ l) p q = (f a (p .0) (q .0), Every-with P Q R f l (p .1) (q .1))
+
+-- what follows of each value
+pub each-every : {A B : Type 0} (f : A → Option B) (P : A → Type 0) (Q : B → Type 0) → ((a : A) (b : B) → P a → f a ≡ some b → Q b)
+    → (l : List A) (m : List B) → Every P l → each f l ≡ some m → Every Q m
+unfolding each
+each-every f P Q i [] m h e = rw (some-inj m [] (sym e)) tt
+each-every f P Q i (a ∷ l) m h e =
+    let t = bind-some (f a) _ m e in
+    let u = bind-some (each f l) _ m (t .2) in
+    rw (some-inj m (t .0 ∷ u .0) (sym (u .2))) (i a (t .0) (h .0) (t .1), each-every f P Q i l (u .0) (h .1) (u .1))

@@ -11,7 +11,7 @@ use native.Mathlib.Decide.{ℕ-discrete}
 use borrow.Author.Tests.{eq-eqb, ne-eqb, eqb-true, eqb-false, lt-ltb, le-ltb, not-true}
 use lib.Dec.{ltb, eqb}
 use lib.ListN.{length, getD, drop, replicate}
-use Rattle.meaning.specs.Basics.{choose, both, either, all, exists, every, absent, same, zeros, isEmpty, isSome, ensure, each, _>>_, _>>=_}
+use Rattle.meaning.specs.Basics.{choose, both, either, clauses, all, exists, every, absent, same, zeros, isEmpty, isSome, ensure, each, _>>_, _>>=_}
 
 pub not-so : (b : Bool) → (b ≡ true → ⊥) → b ≡ false
 not-so true f = absurd (f refl)
@@ -272,3 +272,10 @@ each-some f (a ∷ l) m e =
     let t = bind-some (f a) _ m e in
     let u = bind-some (each f l) _ m (t .2) in
     ap length (some-inj m (t .0 ∷ u .0) (sym (u .2))) ∙ ap suc (each-some f l (u .0) (u .1))
+
+-- each clause of a list that holds
+pub clauses-true : (l : List Bool) → clauses l ≡ true → (i : ℕ) → getD l i true ≡ true
+unfolding clauses
+clauses-true [] e i = refl
+clauses-true (b ∷ l) e zero = both-true _ _ e .0
+clauses-true (b ∷ l) e (suc i) = clauses-true l (both-true _ _ e .1) i

@@ -20,7 +20,7 @@ use Rattle.meaning.specs.Laws.Every.{Every}
 use Rattle.laws.specs.Counting.{count-from}
 use Rattle.laws.specs.Layout.{Words}
 use Rattle.laws.specs.Values.{LegalOperand}
-use Rattle.laws.specs.Hosts.{liveAt-lt}
+use Rattle.meaning.specs.Laws.Slots.{liveAt-lt}
 use Rattle.meaning.specs.declared.Operand.{Operand}
 use Rattle.meaning.specs.declared.Operand.the-variants.{Constant as constantOperand, Variable as variableOperand}
 use Rattle.meaning.specs.declared.Element.{Element}

@@ -20,10 +20,11 @@ use Rattle.meaning.specs.Applying.{Right, rightSide, Ledger, stores, freeSlots,
 use Rattle.meaning.specs.Laws.Tests.{choose-lt, choose-le, choose-false}
 use Rattle.laws.specs.Pieces.{getD-map}
 use Rattle.laws.specs.FirstMatch.{node-inside, edge-inside}
-use Rattle.laws.specs.Applying.{stores-append, rightSide-some, apply-applied}
-use Rattle.laws.specs.Room.{edgesGo-nodes, nodesChange-edges, afterLeft, afterNew, changed-is, addNodes-edges, addEdges-nodes, nodes-room, edges-room}
+use Rattle.meaning.specs.Laws.Applying.{stores-append, rightSide-some, apply-applied}
+use Rattle.meaning.specs.Laws.Room.{edgesGo-nodes, nodesChange-edges, afterLeft, afterNew, changed-is, addNodes-edges, addEdges-nodes, nodes-room, edges-room}
 use Rattle.laws.specs.Layout.{Words}
-use Rattle.laws.specs.Values.{LegalRule, interface-left, interface-right, new-marked}
+use Rattle.meaning.specs.Laws.Interface.{interface-left, interface-right}
+use Rattle.laws.specs.Values.{LegalRule, new-marked}
 use Rattle.published.specs.Graphs.{graphOf}
 use Rattle.published.specs.RuleApplication.{nodeOf, edgeOf, Premorphism, StaysNode, StaysEdge, Union, placed, Constructed}
 use Rattle.published.specs.Application.Matching.{premorphism}

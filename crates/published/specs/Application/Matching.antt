@@ -21,13 +21,14 @@ use Rattle.meaning.specs.References.{operandNames, conditionOperands, labels, n
 use Rattle.meaning.specs.Matching.{nodeIn, edgeIn, Assignment, atomsOf, instance, atomOf, edgeAt, leftNode, leftEdge, leftNodes, leftEdges, nodeSlot, edgeSlot, testHolds, MarksAgree, Match}
 use Rattle.meaning.specs.Assigned.{isVariable, assigned}
 use Rattle.meaning.specs.FirstMatch.{has, firstWith}
-use Rattle.meaning.specs.Laws.Tests.{either-true}
+use Rattle.meaning.specs.Laws.Tests.{either-true, clauses-true}
 use Rattle.meaning.specs.Laws.Every.{Every, Every-true, Every-of, Every-all, Every-then, Every-with}
-use Rattle.laws.specs.References.{OfVariables, variables-then, left-plain, tests-left, clauses-true, label-plain, ends}
+use Rattle.laws.specs.References.{OfVariables, variables-then, left-plain, tests-left, label-plain, ends}
 use Rattle.laws.specs.Assignment.{labels-length, label-node, label-edge, Labelled, labelled, agreed}
 use Rattle.laws.specs.Decided.{first-with, tests-same}
 use Rattle.laws.specs.Levels.{apart-same}
-use Rattle.laws.specs.Hosts.{LegalNode, LegalEdge, OnLive, LegalHost}
+use Rattle.meaning.specs.Laws.Slots.{OnLive}
+use Rattle.laws.specs.Hosts.{LegalNode, LegalEdge, LegalHost}
 use Rattle.laws.specs.Layout.{Words}
 use Rattle.laws.specs.Values.{LegalRule, assigned-words}
 use Rattle.meaning.specs.declared.Layout.{Layout}

@@ -17,7 +17,7 @@ use Rattle.meaning.specs.Assigned.{assigned}
 use Rattle.meaning.specs.Applying.{elementValue, labelValue, rightNode, rightNodes, rightEdge, Right, rightSide}
 use Rattle.meaning.specs.Laws.Tests.{some-inj, bind-some, ensure-some}
 use Rattle.meaning.specs.Laws.Every.{Every, Every-all, Every-at}
-use Rattle.laws.specs.Applying.{each-at, nodes-at}
+use Rattle.meaning.specs.Laws.Applying.{each-at, nodes-at}
 use Rattle.laws.specs.Layout.{Words}
 use Rattle.laws.specs.Values.{LegalOperand, LegalElement, LegalRuleNode, LegalRuleEdge, LegalRule}
 use Rattle.meaning.specs.declared.Operand.{Operand}

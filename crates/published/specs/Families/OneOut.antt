@@ -9,7 +9,7 @@ use lib.ListN.{length}
 use Rattle.meaning.specs.Layout.{Host}
 use Rattle.meaning.specs.Image.{Rule}
 use Rattle.meaning.specs.Laws.Tests.{choose-lt}
-use Rattle.laws.specs.Hosts.{liveAt-lt}
+use Rattle.meaning.specs.Laws.Slots.{liveAt-lt}
 use Rattle.laws.specs.Values.{LegalRule}
 use Rattle.published.specs.Graphs.{Graph, Edge, HostGraph, graphOf, Iso}
 use Rattle.published.specs.RuleApplication.{edgeOf, StaysNode, StaysEdge, Matches, Applies}

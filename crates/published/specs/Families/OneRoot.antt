@@ -10,7 +10,7 @@ use lib.ListN.{length, getD}
 use Rattle.meaning.specs.Layout.{Host, free}
 use Rattle.meaning.specs.Matching.{nodeIn}
 use Rattle.meaning.specs.Image.{RuleNode, Rule}
-use Rattle.laws.specs.Hosts.{liveAt-lt}
+use Rattle.meaning.specs.Laws.Slots.{liveAt-lt}
 use Rattle.laws.specs.Values.{LegalRule}
 use Rattle.published.specs.Graphs.{NodeLabel, Graph, Node, HostGraph, graphOf, Iso}
 use Rattle.published.specs.RuleApplication.{nodeOf, Matches, Applies}

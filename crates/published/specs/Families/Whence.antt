@@ -12,7 +12,7 @@ use Rattle.meaning.specs.Tags.{anyMark}
 use Rattle.meaning.specs.References.{ruleHolds}
 use Rattle.meaning.specs.Laws.Tests.{choose-lt, choose-le, choose-ne}
 use Rattle.meaning.specs.Laws.Every.{Every, Every-in}
-use Rattle.laws.specs.Values.{interface-right}
+use Rattle.meaning.specs.Laws.Interface.{interface-right}
 use Rattle.published.specs.Graphs.{Graph, Node}
 use Rattle.published.specs.RuleApplication.{nodeOf, StaysNode, placed, Applies}
 use Rattle.published.specs.OneResult.{value-of}

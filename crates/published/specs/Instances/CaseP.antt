@@ -19,7 +19,7 @@ use Rattle.meaning.specs.ProvedSet.{fieldBytes, ruleSetField, turns, liveNode, 
 use Rattle.meaning.specs.Tags.{anyMark, blueMark, greyMark, intType, loopTag, noneMark, redMark}
 use Rattle.meaning.specs.Laws.Every.{Every}
 use Rattle.laws.specs.Numbers.{bytes-by}
-use Rattle.laws.specs.Hosts.{liveAt-lt}
+use Rattle.meaning.specs.Laws.Slots.{liveAt-lt}
 use Rattle.laws.specs.LegalCommands.{LegalRules}
 use Rattle.laws.specs.LegalImage.{program-legal}
 use Rattle.meaning.specs.declared.Operand.the-variants.{Variable as variableOperand}

@@ -20,7 +20,7 @@ use Rattle.demands.specs.Cases.{lendable}
 use Rattle.meaning.specs.ProvedSet.{liveNode, liveEdge, freeNode}
 use Rattle.meaning.specs.Laws.Every.{Every}
 use Rattle.laws.specs.Numbers.{bytes-by}
-use Rattle.laws.specs.Hosts.{liveAt-lt}
+use Rattle.meaning.specs.Laws.Slots.{liveAt-lt}
 use Rattle.laws.specs.LegalCommands.{LegalRules}
 use Rattle.laws.specs.LegalImage.{program-legal}
 use Rattle.meaning.specs.declared.Element.the-variants.{Variable}

@@ -1,47 +1,60 @@
 -- The ends of edges after a rule's changes at a match: an edge that stays has both its ends, by the dangling condition, and a
--- right edge runs between interface nodes and new nodes, which are live. Rests on Values, Room and Hosts.
+-- right edge runs between interface nodes and new nodes, which are live. Rests on Layout, References, Matching, Assigned and
+-- Applying, and on Slots, the laws of applying, Interface and Room.
 use Prim.Native.Nat.{ℕ, zero, suc, _+_, _-_, _<_, _≤_}
 use mathlib.Core.Path.{_≡_, refl, sym, _∙_, ap}
 use mathlib.Core.List.{List, [], _∷_, _++_, map}
 use mathlib.Core.Bool.{true}
+use mathlib.Core.Option.{some}
 use mathlib.Core.Logic.{_⊎_, inl, inr}
 use native.Mathlib.Omega.{arith}
 use native.Mathlib.Decide.{ℕ-discrete, decLt}
 use lib.ListN.{length, getD, set, take, drop, length-drop, List·getD-append}
 use lib.Seq.{getD-set-other, getD-take, getD-drop, getD-append-add, length-take-le}
-use Rattle.meaning.specs.Layout.{Slot, free, live, Node, Edge, isLive, liveAt, ofNode, ofEdge, put}
-use Rattle.meaning.specs.Image.{Rule}
+use Rattle.meaning.specs.Basics.{every, each}
+use Rattle.meaning.specs.Layout.{Slot, free, live, Node, Edge, Host, isLive, liveAt, ofNode, ofEdge, put, readNodes, readEdge, readEdges, keepsEdge, keepsLayout}
+use Rattle.meaning.specs.Image.{RuleEdge, Rule}
+use Rattle.meaning.specs.References.{ruleHolds}
 use Rattle.meaning.specs.Matching.{edgeIn, edgeAt, leftNodes, nodeSlot, Match}
-use Rattle.meaning.specs.Applying.{Right, Ledger, store, stores, lowestFree, freeSlots, edgesGo, nodesChange, between, addEdges, changed}
-use Rattle.meaning.specs.Laws.Every.{Every, Every-then}
-use Rattle.laws.specs.Hosts.{Attached, OnLive}
-use Rattle.laws.specs.Applying.{stores-append}
-use Rattle.laws.specs.Room.{edgesGo-nodes, nodesChange-edges, afterLeft, afterNew, changed-is, addNodes-live, addNodes-at, addNodes-edges, addEdges-nodes}
-use Rattle.laws.specs.Values.{LegalValue}
+use Rattle.meaning.specs.Assigned.{assigned}
+use Rattle.meaning.specs.Applying.{labelValue, rightNodes, rightEdge, Right, rightSide, Ledger, store, stores, lowestFree, freeSlots, edgesGo, nodesChange, between, addEdges, changed, applied, apply}
+use Rattle.meaning.specs.Laws.Tests.{both-true, choose-eq, choose-ne, some-inj, bind-some, clauses-true}
+use Rattle.meaning.specs.Laws.Every.{Every, Every-then, each-every}
+use Rattle.meaning.specs.Laws.Slots.{OnLive, OnLive-set, live-set, free-set}
+use Rattle.meaning.specs.Laws.Applying.{stores-append, rightSide-some, apply-applied}
+use Rattle.meaning.specs.Laws.Interface.{interface-left, interface-right, right-ends}
+use Rattle.meaning.specs.Laws.Room.{edgesGo-nodes, nodesChange-edges, afterLeft, afterNew, changed-is, addNodes-live, addNodes-at, addNodes-edges, addEdges-nodes, nodes-room}
 use Rattle.meaning.specs.declared.Layout.{Layout}
 
--- One slot changed.
+-- both ends of an edge are live node slots
+pub record Attached (nodes : List (Slot Node)) (e : Edge) : Type 0 where
+  pub source : liveAt nodes (e .source) ≡ true
+  pub target : liveAt nodes (e .target) ≡ true
 
-pub OnLive-set : {A : Type 0} (P : A → Type 0) (t : List (Slot A)) (x : ℕ) (s : Slot A) → OnLive P s
-    → ((i : ℕ) → OnLive P (getD t i free)) → (i : ℕ) → OnLive P (getD (set t x s) i free)
-OnLive-set P [] x s h k i = tt
-OnLive-set P (a ∷ t) zero s h k zero = h
-OnLive-set P (a ∷ t) zero s h k (suc i) = k (suc i)
-OnLive-set P (a ∷ t) (suc x) s h k zero = k 0
-OnLive-set P (a ∷ t) (suc x) s h k (suc i) = OnLive-set P t x s h (λ j. k (suc j)) i
+-- Tables that keep the layout.
 
-live-set : {A : Type 0} (t : List (Slot A)) (x : ℕ) (a : A) (y : ℕ) → liveAt t y ≡ true → liveAt (set t x (live a)) y ≡ true
-unfolding isLive
-live-set [] x a y h = h
-live-set (s ∷ t) zero a zero h = refl
-live-set (s ∷ t) zero a (suc y) h = h
-live-set (s ∷ t) (suc x) a zero h = h
-live-set (s ∷ t) (suc x) a (suc y) h = live-set t x a y h
+module _ (L : Layout) (nodes : List (Slot Node)) where
+  slot-attached : (b : List ℕ) → keepsEdge L nodes b ≡ true → OnLive (Attached nodes) (readEdge L b)
+  unfolding keepsEdge readEdge
+  slot-attached b k = at (ℕ-discrete (getD b 0 0) 0)
+    where
+      at : Dec (getD b 0 0 ≡ 0) → OnLive (Attached nodes) (readEdge L b)
+      at (yes e) = rw (choose-eq (getD b 0 0) 0 _ _ e) tt
+      at (no e) =
+          let t = clauses-true _ (sym (choose-ne (getD b 0 0) 0 _ _ e) ∙ k) in
+          rw (choose-ne (getD b 0 0) 0 _ _ e) (record { source = t 4; target = t 5 })
 
-free-set : {A : Type 0} (t : List (Slot A)) (x : ℕ) → getD (set t x free) x free ≡ free
-free-set [] x = refl
-free-set (s ∷ t) zero = refl
-free-set (s ∷ t) (suc x) = free-set t x
+  slots-attached : (bs : List (List ℕ)) → every (keepsEdge L nodes) bs ≡ true → (i : ℕ)
+      → OnLive (Attached nodes) (getD (map (readEdge L) bs) i free)
+  unfolding every
+  slots-attached [] k i = tt
+  slots-attached (b ∷ bs) k zero = slot-attached b (both-true _ _ k .0)
+  slots-attached (b ∷ bs) k (suc i) = slots-attached bs (both-true _ _ k .1) i
+
+pub layout-attached : (L : Layout) (nodes edges : List ℕ) → keepsLayout L nodes edges ≡ true → (i : ℕ)
+    → OnLive (Attached (readNodes L nodes)) (getD (readEdges L edges) i free)
+unfolding keepsLayout
+layout-attached L nodes edges k = slots-attached L (readNodes L nodes) _ (both-true _ _ k .1)
 
 -- What stays where left edges and left nodes go.
 
@@ -183,15 +196,45 @@ module _ (r : Rule) (p : List ℕ) (right : Right) (g : Ledger) (m : Match (g .h
             rw (after-is, e, addNodes-at (drop (r .interface) (right .nodes)) (afterLeft r p right g) d room n (omega arith))
 
     -- and so are the ends of the right edges between them
-    pub between-attached : (L : Layout) (e : Edge) → LegalValue L (length (right .nodes)) e
+    pub between-attached : (e : Edge) → (e .source < length (right .nodes)) × (e .target < length (right .nodes))
         → Attached (nodesAfter r p right g) (between (rightSlots r p right g) e)
-    between-attached L e h = record { source = slot-live (e .source) (h .source); target = slot-live (e .target) (h .target) }
+    between-attached e h = record { source = slot-live (e .source) (h .0); target = slot-live (e .target) (h .1) }
 
     -- every edge in the end has both its ends
-    pub all-attached : (L : Layout) → ((i : ℕ) → OnLive (Attached (g .host .nodes)) (getD (g .host .edges) i free))
-        → Every (LegalValue L (length (right .nodes))) (right .edges)
+    pub all-attached : ((i : ℕ) → OnLive (Attached (g .host .nodes)) (getD (g .host .edges) i free))
+        → Every (λ e. (e .source < length (right .nodes)) × (e .target < length (right .nodes))) (right .edges)
         → (i : ℕ) → OnLive (Attached (nodesAfter r p right g)) (getD (changed r p right g .host .edges) i free)
-    all-attached L h k i =
+    all-attached h k i =
         rw (changed-is r p right g)
         (addEdges-kept (Attached (nodesAfter r p right g)) (rightSlots r p right g) (right .edges) (afterNew r p right g .ledger)
-        (Every-then _ _ (between-attached L) (right .edges) k) (rw addNodes-edges (edge-stays h)) i)
+        (Every-then _ _ between-attached (right .edges) k) (rw addNodes-edges (edge-stays h)) i)
+
+-- A rule whose references hold, applied at a match.
+
+-- the ends of a right edge are right nodes
+module _ (most : ℕ) (h : Host) (r : Rule) (holds : ruleHolds r ≡ true) (p : List ℕ) where
+  edge-ends : (n : ℕ) (e : RuleEdge) (a : Edge) → (e .source < n) × (e .target < n) → rightEdge most (assigned h r p) e ≡ some a
+      → (a .source < n) × (a .target < n)
+  unfolding rightEdge
+  edge-ends n e a k q = let t = bind-some (labelValue most (assigned h r p) (e .label)) _ a q in rw (some-inj a _ (sym (t .2))) k
+
+  value-ends : (right : Right) → rightSide most h r p ≡ some right
+      → Every (λ e. (e .source < length (right .nodes)) × (e .target < length (right .nodes))) (right .edges)
+  unfolding rightSide
+  value-ends right q =
+      let n : ℕ = length (r .right .nodes) in
+      let t = bind-some (rightNodes most r (assigned h r p) h p 0 (r .right .nodes)) _ right q in
+      let u = bind-some (each (rightEdge most (assigned h r p)) (r .right .edges)) _ right (t .2) in
+      rw (rightSide-some most h r p right q .0, some-inj right (record { nodes = t .0; edges = u .0 }) (sym (u .2)))
+      (each-every _ (λ e. (e .source < n) × (e .target < n)) _ (edge-ends n) (r .right .edges) (u .0) (right-ends r holds) (u .1))
+
+-- every edge that it leaves has both its ends, where every edge had them
+pub applied-attached : (most room : ℕ) (r : Rule) (p : List ℕ) (g g′ : Ledger) → ruleHolds r ≡ true → Match (g .host) r p
+    → ((i : ℕ) → OnLive (Attached (g .host .nodes)) (getD (g .host .edges) i free)) → apply most room r p g ≡ applied g′
+    → (i : ℕ) → OnLive (Attached (g′ .host .nodes)) (getD (g′ .host .edges) i free)
+applied-attached most room r p g g′ holds m ends q i =
+    let a = apply-applied most room r p g g′ q in
+    let s = rightSide-some most (g .host) r p (a .right) (a .values) in
+    rw (a .changes)
+    (all-attached r p (a .right) g m (interface-left r holds) (omega (arith, interface-right r holds, s .0))
+    (nodes-room most room r p g g′ m a) ends (value-ends most (g .host) r holds p (a .right) (a .values)) i)

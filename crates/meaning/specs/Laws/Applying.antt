@@ -1,5 +1,5 @@
 -- Laws of Applying: what a store records, what holds where a rule was applied, how many records that took, and that nothing
--- hinders an application for want of fuel. Rests on the meaning's Applying.
+-- hinders an application for want of fuel. Rests on Applying.
 use Prim.Native.Nat.{ℕ, zero, suc, _+_, _<_, _≤_}
 use mathlib.Core.Path.{_≡_, refl, sym, _∙_, ap}
 use mathlib.Core.List.{List, [], _∷_, _++_}
@@ -8,16 +8,16 @@ use mathlib.Core.Option.{Option, some, none}
 use native.Mathlib.Omega.{arith}
 use borrow.Author.Tests.{leb-true}
 use lib.ListN.{length, getD, length-append, length-take, length-drop, length-map}
-use Rattle.meaning.specs.Basics.{choose, exists, each, firstFailing}
+use Rattle.meaning.specs.Basics.{choose, each, firstFailing}
 use Rattle.meaning.specs.Layout.{Slot, live, Node, Edge, Host, Change, ofNode, ofEdge, put}
 use Rattle.meaning.specs.Image.{RuleNode, Rule}
 use Rattle.meaning.specs.Matching.{leftNodes, leftEdges, Assignment}
 use Rattle.meaning.specs.Assigned.{assigned}
-use Rattle.meaning.specs.Applying.{rightNode, rightNodes, Right, rightSide, Ledger, store, stores, lowestFree, freeSlots, nodesChange, addNodes, between, addEdges, changed, newNodes, goneNodes, recordsOf, hindrance, onFreeNode, applied, hindered, tested, unhindered, apply}
+use Rattle.meaning.specs.Applying.{rightNode, rightNodes, Right, rightSide, Ledger, store, stores, lowestFree, freeSlots, nodesChange, addNodes, between, addEdges, changed, newNodes, goneNodes, recordsOf, hindrance, applied, hindered, unhindered, apply}
 use Rattle.meaning.specs.Laws.Tests.{some-inj, bind-some, each-some}
 use Rattle.meaning.specs.Laws.Checks.{firstFailing-none}
 use Rattle.meaning.specs.declared.Stop.{Stop}
-use Rattle.meaning.specs.declared.Stop.the-variants.{OutOfFuel, NoNodeRoom, NoEdgeRoom, NoRecordRoom, LabelTooLarge, EdgeOnFreeNode}
+use Rattle.meaning.specs.declared.Stop.the-variants.{OutOfFuel, NoNodeRoom, NoEdgeRoom, NoRecordRoom, LabelTooLarge}
 
 -- Stores.
 
@@ -132,18 +132,6 @@ pub record Applies (most room : ℕ) (r : Rule) (p : List ℕ) (g g′ : Ledger)
   pub edgeRoom : length (r .right .edges) ≤ freeSlots (g .host .edges) + leftEdges r
   pub recordRoom : length (g .journal) + recordsOf r ≤ room
   pub changes : g′ ≡ changed r p right g
-  pub attached : exists (onFreeNode (g′ .host)) (length (g′ .host .edges)) ≡ false
-
-tested-applied : (g g′ : Ledger) → tested g ≡ applied g′
-    → (g′ ≡ g) × (exists (onFreeNode (g′ .host)) (length (g′ .host .edges)) ≡ false)
-unfolding tested choose
-tested-applied g g′ e = at (exists (onFreeNode (g .host)) (length (g .host .edges))) refl e
-  where
-    at : (b : Bool) → exists (onFreeNode (g .host)) (length (g .host .edges)) ≡ b
-        → choose b (hindered EdgeOnFreeNode) (applied g) ≡ applied g′
-        → (g′ ≡ g) × (exists (onFreeNode (g′ .host)) (length (g′ .host .edges)) ≡ false)
-    at true q e = let z : _≡_ {A = ℕ} 0 1 = cc in absurd (omega arith)
-    at false q e = let h : g′ ≡ g = cc in (h, rw h q)
 
 pub apply-applied : (most room : ℕ) (r : Rule) (p : List ℕ) (g g′ : Ledger) → apply most room r p g ≡ applied g′
     → Applies most room r p g g′
@@ -159,15 +147,13 @@ apply-applied most room r p g g′ e = at (hindrance most room r p g) (rightSide
         let t = firstFailing-none _ _ _ (s .1) in
         let u = firstFailing-none _ _ _ (t .1) in
         let w = firstFailing-none _ _ _ (u .1) in
-        let x = tested-applied _ g′ e in
         record {
           right = right;
           values = v;
           nodeRoom = leb-true _ _ (t .0);
           edgeRoom = leb-true _ _ (u .0);
           recordRoom = leb-true _ _ (w .0);
-          changes = x .0;
-          attached = x .1;
+          changes = cc;
         }
 
 -- the records that it took, and that they are there
@@ -181,32 +167,20 @@ pub apply-room : (most room : ℕ) (r : Rule) (p : List ℕ) (g g′ : Ledger) �
     → Applies most room r p g g′ → length (g′ .journal) ≤ room
 apply-room most room r p g g′ size a = let e = apply-records most room r p g g′ size a in omega (arith, a .recordRoom)
 
--- Where it was not applied, the reason is not a want of fuel; and before any change it is not an edge on a free node.
-
--- not 2, nor 7
-abbrev Other : Stop → Type 0
-Other w = (w ≡ OutOfFuel → ⊥) × (w ≡ EdgeOnFreeNode → ⊥)
+-- Where it was not applied, the reason is not a want of fuel.
 
 checks-some : (a b c d : Bool) (w : Stop)
-    → firstFailing ((a, LabelTooLarge) ∷ (b, NoNodeRoom) ∷ (c, NoEdgeRoom) ∷ (d, NoRecordRoom) ∷ []) ≡ some w → Other w
+    → firstFailing ((a, LabelTooLarge) ∷ (b, NoNodeRoom) ∷ (c, NoEdgeRoom) ∷ (d, NoRecordRoom) ∷ []) ≡ some w → w ≡ OutOfFuel → ⊥
 unfolding firstFailing choose
-checks-some false b c d w e = (λ q. let z : _≡_ {A = ℕ} 0 1 = cc in omega arith, λ q. let z : _≡_ {A = ℕ} 0 1 = cc in omega arith)
-checks-some true false c d w e = (λ q. let z : _≡_ {A = ℕ} 0 1 = cc in omega arith, λ q. let z : _≡_ {A = ℕ} 0 1 = cc in omega arith)
-checks-some true true false d w e = (λ q. let z : _≡_ {A = ℕ} 0 1 = cc in omega arith, λ q. let z : _≡_ {A = ℕ} 0 1 = cc in omega arith)
-checks-some true true true false w e = (λ q. let z : _≡_ {A = ℕ} 0 1 = cc in omega arith, λ q. let z : _≡_ {A = ℕ} 0 1 = cc in omega arith)
-checks-some true true true true w e = let z : _≡_ {A = ℕ} 0 1 = cc in absurd (omega arith)
+checks-some false b c d w e q = let z : _≡_ {A = ℕ} 0 1 = cc in omega arith
+checks-some true false c d w e q = let z : _≡_ {A = ℕ} 0 1 = cc in omega arith
+checks-some true true false d w e q = let z : _≡_ {A = ℕ} 0 1 = cc in omega arith
+checks-some true true true false w e q = let z : _≡_ {A = ℕ} 0 1 = cc in omega arith
+checks-some true true true true w e q = let z : _≡_ {A = ℕ} 0 1 = cc in omega arith
 
-pub hindrance-some : (most room : ℕ) (r : Rule) (p : List ℕ) (g : Ledger) (w : Stop) → hindrance most room r p g ≡ some w → Other w
+hindrance-some : (most room : ℕ) (r : Rule) (p : List ℕ) (g : Ledger) (w : Stop) → hindrance most room r p g ≡ some w → w ≡ OutOfFuel → ⊥
 unfolding hindrance
 hindrance-some most room r p g w e = checks-some _ _ _ _ w e
-
-tested-hindered : (g : Ledger) (w : Stop) → tested g ≡ hindered w → w ≡ OutOfFuel → ⊥
-unfolding tested choose
-tested-hindered g w e q = at (exists (onFreeNode (g .host)) (length (g .host .edges))) e
-  where
-    at : (b : Bool) → choose b (hindered EdgeOnFreeNode) (applied g) ≡ hindered w → ⊥
-    at true e = let z : _≡_ {A = ℕ} 0 1 = cc in omega arith
-    at false e = let z : _≡_ {A = ℕ} 0 1 = cc in omega arith
 
 pub apply-hindered : (most room : ℕ) (r : Rule) (p : List ℕ) (g : Ledger) (w : Stop)
     → apply most room r p g ≡ hindered w
@@ -215,6 +189,6 @@ unfolding apply unhindered
 apply-hindered most room r p g w e q = at (hindrance most room r p g) (rightSide most (g .host) r p) refl e
   where
     at : (v : Option Stop) (o : Option Right) → hindrance most room r p g ≡ v → unhindered v o r p g ≡ hindered w → ⊥
-    at (some v) o h e = hindrance-some most room r p g v h .0 (cc)
+    at (some v) o h e = hindrance-some most room r p g v h (cc)
     at none none h e = let z : _≡_ {A = ℕ} 0 1 = cc in omega arith
-    at none (some right) h e = tested-hindered _ w e q
+    at none (some right) h e = let z : _≡_ {A = ℕ} 0 1 = cc in omega arith

@@ -1,5 +1,5 @@
 -- Room for what comes: once a match's left edges and nodes are gone there is a free slot for each new node and for each right
--- edge, what comes stands in its slot, and nothing live is overwritten. Rests on Slots and Applying.
+-- edge, what comes stands in its slot, and nothing live is overwritten. Rests on Matching and Applying, and on the laws of slots and of applying.
 use Prim.Native.Nat.{ℕ, zero, suc, _+_, _-_, _<_, _≤_, min}
 use mathlib.Core.Path.{_≡_, refl, sym, _∙_, ap}
 use mathlib.Core.List.{List, [], _∷_, _++_, map}
@@ -7,12 +7,12 @@ use mathlib.Core.Bool.{true}
 use native.Mathlib.Omega.{arith}
 use lib.ListN.{length, getD, set, take, drop, length-take, length-drop}
 use lib.Seq.{getD-set-same, getD-set-other, getD-take, getD-drop}
 use Rattle.meaning.specs.Layout.{Slot, free, live, Node, Edge, Host, isLive, liveAt, Change, ofNode, ofEdge, put}
 use Rattle.meaning.specs.Image.{Rule}
 use Rattle.meaning.specs.Matching.{leftNodes, leftEdges, Match}
 use Rattle.meaning.specs.Applying.{Right, Ledger, store, stores, lowestFree, freeSlots, edgesGo, nodesChange, Added, addNodes, between, addEdges, changed}
-use Rattle.laws.specs.Slots.{lowestFree-lt, lowestFree-free, come-free, freeSlots-go, freeSlots-stay}
-use Rattle.laws.specs.Applying.{stores-append, rightSide-some, Applies}
+use Rattle.meaning.specs.Laws.Slots.{lowestFree-lt, lowestFree-free, come-free, freeSlots-go, freeSlots-stay}
+use Rattle.meaning.specs.Laws.Applying.{stores-append, rightSide-some, Applies}
 
 -- The slots of a list are live in a table, and no two are the same.
 

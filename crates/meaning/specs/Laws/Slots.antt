@@ -1,5 +1,5 @@
--- Laws of slots: the lowest free slot and the free slots, what a change does to the tables, and putting back what stood
--- in a slot. Rests on the meaning's Layout and Applying.
+-- Laws of slots: live slots, the lowest free slot and the free slots, what a change does to the tables, and putting back what
+-- stood in a slot. Rests on Layout and Applying.
 use Prim.Native.Nat.{ℕ, zero, suc, _+_, _<_, _≤_}
 use mathlib.Core.Path.{_≡_, refl, _∙_, ap}
 use mathlib.Core.List.{List, [], _∷_, _++_}
@@ -7,8 +7,44 @@ use mathlib.Core.Bool.{true, false}
 use native.Mathlib.Omega.{arith}
 use lib.ListN.{length, getD, set, length-set}
 use lib.Seq.{set-set, set-getD}
 use Rattle.meaning.specs.Layout.{Slot, free, live, Node, Edge, Host, Tables, isLive, liveAt, Change, ofNode, ofEdge, put, undone}
 use Rattle.meaning.specs.Applying.{standing, lowestFree, freeSlots}
+
+-- Live slots.
+
+-- a live slot is in the table
+pub liveAt-lt : {A : Type 0} (l : List (Slot A)) (i : ℕ) → liveAt l i ≡ true → i < length l
+unfolding isLive
+liveAt-lt [] i e = let z : _≡_ {A = ℕ} 0 1 = cc in absurd (omega arith)
+liveAt-lt (s ∷ l) zero e = omega arith
+liveAt-lt (s ∷ l) (suc i) e = let h = liveAt-lt l i e in omega arith
+
+-- a free slot, or a live one of which P holds
+abbrev pub OnLive : {A : Type 0} → (A → Type 0) → Slot A → Type 0
+OnLive P free = Unit {0}
+OnLive P (live a) = P a
+
+-- one slot changed
+pub OnLive-set : {A : Type 0} (P : A → Type 0) (t : List (Slot A)) (x : ℕ) (s : Slot A) → OnLive P s
+    → ((i : ℕ) → OnLive P (getD t i free)) → (i : ℕ) → OnLive P (getD (set t x s) i free)
+OnLive-set P [] x s h k i = tt
+OnLive-set P (a ∷ t) zero s h k zero = h
+OnLive-set P (a ∷ t) zero s h k (suc i) = k (suc i)
+OnLive-set P (a ∷ t) (suc x) s h k zero = k 0
+OnLive-set P (a ∷ t) (suc x) s h k (suc i) = OnLive-set P t x s h (λ j. k (suc j)) i
+
+pub live-set : {A : Type 0} (t : List (Slot A)) (x : ℕ) (a : A) (y : ℕ) → liveAt t y ≡ true → liveAt (set t x (live a)) y ≡ true
+unfolding isLive
+live-set [] x a y h = h
+live-set (s ∷ t) zero a zero h = refl
+live-set (s ∷ t) zero a (suc y) h = h
+live-set (s ∷ t) (suc x) a zero h = h
+live-set (s ∷ t) (suc x) a (suc y) h = live-set t x a y h
+
+pub free-set : {A : Type 0} (t : List (Slot A)) (x : ℕ) → getD (set t x free) x free ≡ free
+free-set [] x = refl
+free-set (s ∷ t) zero = refl
+free-set (s ∷ t) (suc x) = free-set t x
 
 -- The lowest free slot.
 
