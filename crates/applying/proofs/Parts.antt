@@ -1,5 +1,6 @@
 -- Laws of the four parts of an application, one after the other: what each is handed, from what the parts before it left.
--- Rests on Checks, on making's Making, on ledger's Changes and Applications, and on laws' Room, Attached and Legality.
+-- Rests on Checks, on making's Making, on ledger's Changes and Applications, on the meaning's
+-- Laws/Room and Laws/Attached, and on laws' Legality.
 use mathlib.Core.Path.{_≡_, refl, sym, _∙_, ap, subst}
 use mathlib.Core.Option.{some}
 use mathlib.Core.List.{List, _++_}

@@ -16,3 +16,4 @@ pub mod Fails
 pub mod Cases
 pub mod Worthless
 pub mod WorthlessUndo
+pub mod Table

@@ -1,6 +1,6 @@
 -- Laws of legal slots and hosts: a legal slot is written and read back, what is read where the test of the layout holds is
--- legal, and a legal host is written as tables that keep the layout. Rests on the meaning's Layout, and on
--- Numbers, Pieces and Layout, and the meaning's laws of slots and of Attached.
+-- legal, and a legal host is written as tables that keep the layout. Rests on the meaning's Layout,
+-- Laws/Slots and Laws/Attached, and on Numbers, Pieces and Layout.
 use Prim.Native.Nat.{ℕ, _+_, _-_, _*_, _/_, _^_, _<_, _≤_}
 use mathlib.Core.Path.{_≡_, refl, sym, _∙_, ap}
 use mathlib.Core.List.{List, [], _++_, map, append-assoc}

@@ -1,5 +1,5 @@
 -- Laws of Layout: what is read from bytes and written to them, slot by slot and table by table, and what the test of the
--- layout says of them. Rests on the meaning's Layout, and on Numbers, Pieces and References.
+-- layout says of them. Rests on the meaning's Layout, and on Numbers and Pieces.
 use Prim.Native.Nat.{ℕ, zero, suc, _+_, _-_, _*_, _/_, _%_, _<_, _≤_}
 use mathlib.Core.Path.{_≡_, refl, sym, _∙_, ap}
 use mathlib.Core.List.{List, [], _∷_, _++_, map}

@@ -1,5 +1,5 @@
--- Legality: applying a rule at a match keeps the host and the journal legal. Rests on Values, Records and Restoring, and on the
--- meaning's laws of applying, Room and Attached.
+-- Legality: applying a rule at a match keeps the host and the journal legal. Rests on the meaning's Laws/Applying,
+-- Laws/Room and Laws/Attached, and on Values, Records and Restoring.
 use Prim.Native.Nat.{ℕ, zero, suc, _+_, _^_, _<_, _≤_}
 use mathlib.Core.Path.{_≡_, _∙_}
 use mathlib.Core.List.{List, [], _∷_, _++_, map}

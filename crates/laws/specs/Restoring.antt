@@ -1,5 +1,5 @@
 -- Restoring: `From a b` says that b is a with some changes, all of them recorded, so that putting the new records back
--- gives a's host. Stores, the parts of applying and applying itself keep it. Rests on Slots and Applying.
+-- gives a's host. Stores, the parts of applying and applying itself keep it. Rests on the meaning's Applying, Laws/Slots and Laws/Applying.
 use Prim.Native.Nat.{ℕ, _+_, _-_}
 use mathlib.Core.Path.{_≡_, refl, sym, _∙_, ap}
 use mathlib.Core.List.{List, [], _∷_, _++_, append-assoc, append-nil}

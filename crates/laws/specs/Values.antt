@@ -1,6 +1,6 @@
 -- The right side's values in a legal host: of a rule that has the form and whose references hold, each right node is legal,
 -- and each right edge has a legal mark, a label that can be held, and right nodes for its ends.
--- Rests on the meaning's Applying, and on References, Applying, Hosts and Records.
+-- Rests on the meaning's Applying, Laws/Interface and Laws/Applying, and on Hosts and Records.
 use Prim.Native.Nat.{ℕ, zero, suc, _+_, _<_, _≤_}
 use mathlib.Core.Path.{_≡_, refl, sym, _∙_, ap}
 use mathlib.Core.List.{List, [], _∷_, _++_, map}

@@ -1,17 +1,17 @@
 -- No application leaves a live edge on a free node: in tables that keep the layout, a rule whose references hold, applied at a
 -- match, leaves both ends of every live edge live. It needs the dangling condition: a case shows where it would fail without.
--- Rests on Layout, References, Matching and Applying, on the laws of Attached, and for the case on ProvedSet and Computing.
+-- Rests on Layout, References, Matching and Applying, on Laws/Attached, and for the case on ProvedSet and Computing.
 use mathlib.Core.Path.{_≡_, refl}
 use mathlib.Core.Bool.{true}
-use mathlib.Core.List.{List, [], _∷_, _++_}
+use mathlib.Core.List.{List, [], _∷_}
 use mathlib.Core.Logic.{inr}
 use Prim.Native.Nat.{ℕ, zero, suc, _<_}
 use native.Mathlib.Omega.{arith}
 use lib.ListN.{getD}
 use Rattle.meaning.specs.Layout.{base, Slot, free, live, Node, Edge, Host, isLive, liveAt, Change, hostOf, keepsLayout}
-use Rattle.meaning.specs.Image.{Rule}
+use Rattle.meaning.specs.Image.{RuleNode, Rule}
 use Rattle.meaning.specs.References.{ruleHolds}
-use Rattle.meaning.specs.Matching.{edgeIn, edgeAt, DanglingCondition, Match}
+use Rattle.meaning.specs.Matching.{edgeIn, edgeAt, Match}
 use Rattle.meaning.specs.Applying.{Ledger, ledgerAt, changed, applied, apply}
 use Rattle.meaning.specs.ProvedSet.{plainNode, liveEdge}
 use Rattle.meaning.specs.Computing.{computing}
@@ -41,20 +41,30 @@ no-loose-edge L nodes edges layout r holds p match most room journal g is x =
     at free a e = let z : _≡_ {A = ℕ} 0 1 = cc in absurd (omega arith)
     at (live e) a q = (a .source, a .target)
 
--- The case: an edge runs from node 0 to node 1, and the rule takes a node away, placed at node 0.
+-- The case: document 01's case 5, a rule that deletes a node, placed at a node that has a loop.
 
-abbrev joined : Host
-joined = hostOf base (plainNode ++ plainNode) (liveEdge 0 1)
+abbrev looped : Host
+looped = hostOf base plainNode (liveEdge 0 0)
 
-abbrev takesNode : Rule
-takesNode =
+abbrev plain : RuleNode
+plain = record { mark = 0; root = 0; label = [] }
+
+-- a plain node on the left, with these nodes on the right and this interface
+abbrev onPlain : List RuleNode → ℕ → Rule
+onPlain right k =
     record {
       variables = [];
-      left = record { nodes = record { mark = 0; root = 0; label = [] } ∷ []; edges = [] };
-      right = record { nodes = []; edges = [] };
-      interface = 0;
+      left = record { nodes = plain ∷ []; edges = [] };
+      right = record { nodes = right; edges = [] };
+      interface = k;
       tests = [];
     }
+
+abbrev deletesNode : Rule
+deletesNode = onPlain [] 0
+
+abbrev keepsNode : Rule
+keepsNode = onPlain (plain ∷ []) 1
 
 at-none : (P : ℕ → Type 0) (k : ℕ) → k < 0 → P k
 at-none P k h = absurd (omega arith)
@@ -63,10 +73,9 @@ at-one : (P : ℕ → Type 0) → P 0 → (i : ℕ) → i < 1 → P i
 at-one P p zero h = p
 at-one P p (suc i) h = absurd (omega arith)
 
--- the placement has all of a match but the dangling condition
-all-but : DanglingCondition joined takesNode (0 ∷ []) → Match joined takesNode (0 ∷ [])
+matches : Match looped keepsNode (0 ∷ [])
 unfolding computing
-all-but d =
+matches =
     record {
       size = refl;
       nodesLive = at-one _ refl;
@@ -82,22 +91,23 @@ all-but d =
       ints = λ v e. let z : _≡_ {A = ℕ} 0 1 = cc in absurd (omega arith);
       nodeLabels = at-one _ refl;
       edgeLabels = at-none _;
-      dangling = d;
+      dangling = λ x j l h k. absurd (omega arith);
       tests = refl;
     }
 
--- every premise of the theorem holds but that condition, and the edge has lost an end
+-- Host and rule are legal, and the rule's left side has a match there if the node is kept, so that the dangling condition alone
+-- stands against it. Applied there all the same, the rule leaves the edge without its ends.
 pub needs-dangling :
-    (keepsLayout base (plainNode ++ plainNode) (liveEdge 0 1) ≡ true)
-    × (ruleHolds takesNode ≡ true)
-    × (DanglingCondition joined takesNode (0 ∷ []) → Match joined takesNode (0 ∷ []))
-    × (g : Ledger) × (apply 4 1 takesNode (0 ∷ []) (ledgerAt joined []) ≡ applied g) × (NoLooseEdge (g .host) → ⊥)
+    (keepsLayout base plainNode (liveEdge 0 0) ≡ true)
+    × (ruleHolds deletesNode ≡ true)
+    × Match looped keepsNode (0 ∷ [])
+    × (g : Ledger) × (apply 4 1 deletesNode (0 ∷ []) (ledgerAt looped []) ≡ applied g) × (NoLooseEdge (g .host) → ⊥)
 unfolding computing
 needs-dangling = (
   refl,
   refl,
-  all-but,
-  changed takesNode (0 ∷ []) (record { nodes = []; edges = [] }) (ledgerAt joined []),
+  matches,
+  changed deletesNode (0 ∷ []) (record { nodes = []; edges = [] }) (ledgerAt looped []),
   refl,
   λ n.
       let z = n 0 refl .0 in let w : _≡_ {A = ℕ} 0 1 = cc in omega arith,

@@ -1,5 +1,5 @@
 -- Further free slots behind both tables: stores inside the tables, new nodes and right edges, and so an application at a
--- match, do the same, and the further slots stay free behind. Rests on Laws/Alike and laws' Room.
+-- match, do the same, and the further slots stay free behind. Rests on Laws/Alike and the meaning's Laws/Room.
 use Prim.Native.Nat.{ℕ, zero, suc, _+_, _<_, _≤_}
 use mathlib.Core.Path.{_≡_, refl, sym, _∙_, ap}
 use mathlib.Core.Option.{Option, some, none}

@@ -1,6 +1,6 @@
 -- The ends of edges after a rule's changes at a match: an edge that stays has both its ends, by the dangling condition, and a
 -- right edge runs between interface nodes and new nodes, which are live. Rests on Layout, References, Matching, Assigned and
--- Applying, and on Slots, the laws of applying, Interface and Room.
+-- Applying, and in this folder on Slots, Applying, Interface and Room.
 use Prim.Native.Nat.{ℕ, zero, suc, _+_, _-_, _<_, _≤_}
 use mathlib.Core.Path.{_≡_, refl, sym, _∙_, ap}
 use mathlib.Core.List.{List, [], _∷_, _++_, map}

@@ -1,5 +1,6 @@
 -- Room for what comes: once a match's left edges and nodes are gone there is a free slot for each new node and for each right
--- edge, what comes stands in its slot, and nothing live is overwritten. Rests on Matching and Applying, and on the laws of slots and of applying.
+-- edge, what comes stands in its slot, and nothing live is overwritten. Rests on Matching and Applying, and in this folder on Slots and
+-- Applying.
 use Prim.Native.Nat.{ℕ, zero, suc, _+_, _-_, _<_, _≤_, min}
 use mathlib.Core.Path.{_≡_, refl, sym, _∙_, ap}
 use mathlib.Core.List.{List, [], _∷_, _++_, map}
