@@ -35,7 +35,7 @@ enum {
     NHIEMAVUT_MOST_FUEL = 1000000
 };
 
-/* The answers of a call. 7 is none of them, and will not be one: where a switch has a case for it, that case is dead code. */
+/* The answers of a call. 7 is none of them and stays unused: an older switch's case 7 is dead code. */
 enum {
     NHIEMAVUT_RESULT = 0,
 

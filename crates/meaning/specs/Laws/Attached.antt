@@ -12,7 +12,7 @@ use native.Mathlib.Decide.{ℕ-discrete, decLt}
 use lib.ListN.{length, getD, set, take, drop, length-drop, List·getD-append}
 use lib.Seq.{getD-set-other, getD-take, getD-drop, getD-append-add, length-take-le}
 use Rattle.meaning.specs.Basics.{every, each}
-use Rattle.meaning.specs.Layout.{Slot, free, live, Node, Edge, Host, isLive, liveAt, ofNode, ofEdge, put, readNodes, readEdge, readEdges, keepsEdge, keepsLayout}
+use Rattle.meaning.specs.Layout.{Slot, free, live, Node, Edge, Host, isLive, liveAt, ofNode, ofEdge, put, statePlace, readNodes, readEdge, readEdges, keepsEdge, keepsLayout}
 use Rattle.meaning.specs.Image.{RuleEdge, Rule}
 use Rattle.meaning.specs.References.{ruleHolds}
 use Rattle.meaning.specs.Matching.{edgeIn, edgeAt, leftNodes, nodeSlot, Match}
@@ -36,13 +36,13 @@ pub record Attached (nodes : List (Slot Node)) (e : Edge) : Type 0 where
 module _ (L : Layout) (nodes : List (Slot Node)) where
   slot-attached : (b : List ℕ) → keepsEdge L nodes b ≡ true → OnLive (Attached nodes) (readEdge L b)
   unfolding keepsEdge readEdge
-  slot-attached b k = at (ℕ-discrete (getD b 0 0) 0)
+  slot-attached b k = at (ℕ-discrete (getD b statePlace 0) 0)
     where
-      at : Dec (getD b 0 0 ≡ 0) → OnLive (Attached nodes) (readEdge L b)
-      at (yes e) = rw (choose-eq (getD b 0 0) 0 _ _ e) tt
+      at : Dec (getD b statePlace 0 ≡ 0) → OnLive (Attached nodes) (readEdge L b)
+      at (yes e) = rw (choose-eq (getD b statePlace 0) 0 _ _ e) tt
       at (no e) =
-          let t = clauses-true _ (sym (choose-ne (getD b 0 0) 0 _ _ e) ∙ k) in
-          rw (choose-ne (getD b 0 0) 0 _ _ e) (record { source = t 4; target = t 5 })
+          let t = clauses-true _ (sym (choose-ne (getD b statePlace 0) 0 _ _ e) ∙ k) in
+          rw (choose-ne (getD b statePlace 0) 0 _ _ e) (record { source = t 4; target = t 5 })
 
   slots-attached : (bs : List (List ℕ)) → every (keepsEdge L nodes) bs ≡ true → (i : ℕ)
       → OnLive (Attached nodes) (getD (map (readEdge L) bs) i free)
