@@ -63,9 +63,10 @@ static uint32_t number(const uint8_t *p, unsigned n)
     return x;
 }
 
-/* Takes the next field; its tag, or -1 where there is none that is whole. */
+/* Takes the next field; its tag, or -1 and an empty payload where there is none that is whole. */
 static int next(struct reader *r, struct reader *payload)
 {
+    payload->at = payload->end = r->end;
     if (r->end - r->at < 3)
         return -1;
     size_t n = number(r->at + 1, 2);
@@ -160,7 +161,7 @@ static int read_side(struct reader p, struct side *s)
 
 static int read_test(int tag, struct reader p, struct test *t)
 {
-    if (tag < 0 || left(&p) < 1 || p.at[0] > 1)
+    if (left(&p) < 1 || p.at[0] > 1)
         return 0;
     t->negated = p.at[0];
     t->kind = (uint8_t)tag;

@@ -1,14 +1,15 @@
 -- The published table has no number too many: each of its numbers is answered on something that can be lent, by every interpreter
 -- that meets the demands. Rests on OneOutcome and Cases.
-use Prim.Native.Nat.{ℕ, _<_}
+use Prim.Native.Nat.{ℕ, suc, _<_}
 use mathlib.Core.Path.{_≡_, refl, sym, _∙_, ap}
 use mathlib.Core.Bool.{Bool, true, false}
 use mathlib.Core.List.{List, [], _∷_, _++_, map}
 use lib.ListN.{length, getD, replicate, length-map}
-use Rattle.meaning.specs.Basics.{every, absent}
-use Rattle.meaning.specs.Layout.{base}
+use Rattle.meaning.specs.Basics.{every, absent, padded}
+use Rattle.meaning.specs.Layout.{base, nodeLength}
+use Rattle.meaning.specs.Image.{limits}
 use Rattle.meaning.specs.Tags.{constantTag, sumTag}
-use Rattle.meaning.specs.Calls.{Lent, LentUndo}
+use Rattle.meaning.specs.Calls.{mostFuel, Lent, LentUndo}
 use Rattle.meaning.specs.ProvedSet.{plainNode, fieldBytes, ruleField, nodeField, edgeField, ruleSetField, skipField, failField, breakField, marksRed}
 use Rattle.meaning.specs.Computing.{computing}
 use Rattle.meaning.specs.Laws.Tests.{absent-false, every-true}
@@ -55,10 +56,10 @@ runSamples =
     ∷ buffers (0 ∷ []) [] [] 1 eight
     ∷ buffers [] (0 ∷ []) [] 1 eight
     ∷ buffers [] [] (0 ∷ []) 1 eight
-    ∷ buffers [] [] [] 1000001 eight
-    ∷ program (replicate 8193 0)
+    ∷ buffers [] [] [] (suc mostFuel) eight
+    ∷ program (replicate (suc (limits .bytes)) 0)
     -- a node of state 2; no program; a rule that isn't there; a break outside a loop
-    ∷ buffers (2 ∷ replicate 19 0) [] [] 1 eight
+    ∷ buffers (padded (nodeLength base) (2 ∷ [])) [] [] 1 eight
     ∷ program []
     ∷ program (ruleSetField 0)
     ∷ program breakField

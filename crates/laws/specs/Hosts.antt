@@ -143,8 +143,6 @@ module _ (L : Layout) where
           ∙ drop-at (atomBytes (e .label)) (filling e) (4 * length (e .label)) (omega (arith, length-atomBytes (e .label))))
           ∙ zeros-of (edgeLength L - length (edgeBytes L (live e)))
 
--- What is written of legal slots is bytes.
-
 -- What is read where the test holds is legal.
 
 module _ (L : Layout) (b : List ℕ) (h : Bytes b) where

@@ -101,7 +101,7 @@ pub needs-dangling :
     (keepsLayout base plainNode (liveEdge 0 0) ≡ true)
     × (ruleHolds deletesNode ≡ true)
     × Match looped keepsNode (0 ∷ [])
-    × (g : Ledger) × (apply 4 1 deletesNode (0 ∷ []) (ledgerAt looped []) ≡ applied g) × (NoLooseEdge (g .host) → ⊥)
+    × (g : Ledger) × (apply (base .atoms) 1 deletesNode (0 ∷ []) (ledgerAt looped []) ≡ applied g) × (NoLooseEdge (g .host) → ⊥)
 unfolding computing
 needs-dangling = (
   refl,
