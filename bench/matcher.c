@@ -242,7 +242,7 @@ static int condition_holds(const struct search *s, const struct test *test)
         return 0;
     case 0x41:
         for (x = 0; x < s->edge_slots; x++, edge += EDGE)
-            degree += edge[0] && (int)two(edge + 6) == a && (int)two(edge + 4) != a;
+            degree += edge[0] && (int)two(edge + 6) == a;
         return degree == test->b;
     case 0x42:
         for (x = 0; x < s->edge_slots; x++, edge += EDGE)

@@ -474,7 +474,7 @@ static int test_holds(const struct search *s, const struct test *t)
         break;
     case 0x41:
         for (unsigned x = 0; x < h->edge_slots; x++)
-            n += live_edge(h, x) && target(h, x) == a && source(h, x) != a;
+            n += live_edge(h, x) && target(h, x) == a;
         holds = n == t->number;
         break;
     case 0x42:

@@ -21,6 +21,9 @@ pub struct Exercised {
     /// Tests that did not hold, negation included.
     pub tests_false: TestCounts,
     pub negated_tests: u64,
+    /// In-degree tests of nodes with loops that ask for the number of their place, and negated ones.
+    pub in_degree_at_loops: [u64; 3],
+    pub not_in_degree_at_loops: [u64; 3],
     /// Elements of right labels that were evaluated.
     pub elements: ElementCounts,
     /// Left nodes and edges of mark any in matches.
@@ -58,7 +61,7 @@ impl Observer for Exercised {
             Event::GuardUndone => self.guards_undone += u64::from(self.applied_in_last()),
             Event::BodyUndone => self.bodies_undone += u64::from(self.applied_in_last()),
             Event::Dangled => self.dangling_refusals += 1,
-            Event::Tested(tests, held) => self.tested(tests, held),
+            Event::Tested(tests, held, at_loop) => self.tested(tests, held, at_loop),
             Event::Matched(rule) => self.matched(rule),
             Event::Evaluated(rule, element) => {
                 *self.elements.of(element, &rule.variables) += 1;
@@ -81,14 +84,28 @@ impl Exercised {
         before.is_some_and(|before| self.applications > before)
     }
 
-    fn tested(&mut self, tests: &[Test], held: &[bool]) {
-        for (test, holds) in tests.iter().zip(held) {
+    fn tested(&mut self, tests: &[Test], held: &[bool], at_loop: &[bool]) {
+        for ((test, holds), at_loop) in tests.iter().zip(held).zip(at_loop) {
             let counts = match holds {
                 true => &mut self.tests_true,
                 false => &mut self.tests_false,
             };
             *counts.of(&test.kind) += 1;
             self.negated_tests += u64::from(test.negated);
+            if *at_loop {
+                self.tested_at_loop(test);
+            }
+        }
+    }
+
+    fn tested_at_loop(&mut self, test: &Test) {
+        let counts = match test.negated {
+            true => &mut self.not_in_degree_at_loops,
+            false => &mut self.in_degree_at_loops,
+        };
+        if let TestKind::InDegree(_, number) = test.kind {
+            let count = counts.get_mut(usize::from(number));
+            count.into_iter().for_each(|count| *count += 1);
         }
     }
 

@@ -49,10 +49,11 @@ macro_rules! published {
     };
 }
 
-pub const PROGRAMS: [Published; 9] = [
+pub const PROGRAMS: [Published; 10] = [
     published!("transitive-closure", Input::Unmarked, |nodes| (0, nodes * nodes.saturating_sub(1))),
     published!("is-discrete", Input::Unmarked, |_| (0, 0)),
     published!("is-cycle", Input::Grey, |_| (0, 0)),
+    published!("is-cycle-by-degrees", Input::Grey, |_| (0, 0)),
     published!("is-tree", Input::Grey, |_| (0, 0)),
     published!("is-binary-dag", Input::Grey, |_| (0, 0)),
     published!("is-connected", Input::Grey, |_| (0, 0)),
@@ -110,6 +111,7 @@ pub fn program_runs() -> Vec<ProgramRun> {
         hosts::transitive_closure(),
         hosts::is_discrete(),
         hosts::is_cycle(),
+        hosts::is_cycle_by_degrees(),
         hosts::is_tree(),
         hosts::is_binary_dag(),
         hosts::is_connected(),

@@ -121,7 +121,8 @@ impl<'h> Search<'_, 'h> {
             return None;
         }
         let held = which_tests_hold(rule, host, placement, &values);
-        self.observer.sees(Event::Tested(&rule.tests, &held));
+        let at_loop = which_ask_at_a_loop(rule, host, placement);
+        self.observer.sees(Event::Tested(&rule.tests, &held, &at_loop));
         if held.contains(&false) {
             return None;
         }
@@ -346,6 +347,18 @@ fn test_holds(test: &Test, host: &Host, placement: &Placement, values: &Assignme
     holds != test.negated
 }
 
+/// Which tests ask for a degree of a node that has a loop.
+fn which_ask_at_a_loop(rule: &Rule, host: &Host, placement: &Placement) -> Vec<bool> {
+    let at_loop = |test: &Test| match test.kind {
+        TestKind::InDegree(node, _) | TestKind::OutDegree(node, _) => {
+            let slot = placement.nodes[usize::from(node)];
+            an_edge_runs(host, slot, slot)
+        }
+        TestKind::Edge(..) | TestKind::Relation(..) => false,
+    };
+    rule.tests.iter().map(at_loop).collect()
+}
+
 /// An edge of any label and mark runs from a to b.
 fn an_edge_runs(host: &Host, a: usize, b: usize) -> bool {
     let mut edges = host.live_edges();
@@ -360,11 +373,11 @@ fn out_degree(host: &Host, node: usize) -> usize {
         .count()
 }
 
-/// The edges that arrive from another node.
+/// The edges that arrive at the node, loops included.
 fn in_degree(host: &Host, node: usize) -> usize {
     let edges = host.live_edges();
     edges
-        .filter(|(_, edge)| usize::from(edge.target) == node && usize::from(edge.source) != node)
+        .filter(|(_, edge)| usize::from(edge.target) == node)
         .count()
 }
 

@@ -18,8 +18,9 @@ pub enum Event<'a> {
     BodyUndone,
     /// A placement keeps the matching rules 1 to 4 and breaks the dangling condition.
     Dangled,
-    /// The tests of a rule at a placement that keeps the matching rules 1 to 5, and whether each holds.
-    Tested(&'a [Test], &'a [bool]),
+    /// The tests of a rule at a placement that keeps the matching rules 1 to 5, whether each holds, and whether each asks for
+    /// a degree of a node that has a loop.
+    Tested(&'a [Test], &'a [bool], &'a [bool]),
     /// A match of the rule was found.
     Matched(&'a Rule),
     /// An element of one of the rule's right labels is evaluated.

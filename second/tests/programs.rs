@@ -141,6 +141,9 @@ fn every_program_has_hosts_for_either_answer() {
     }
 }
 
+/// The rule loop of is-tree never matches, as its text says.
+const NEEDED_BY_NONE: (&str, usize) = ("is-tree", 5);
+
 /// With any one rule of a program kept from matching, a run on one of its hosts goes another way.
 #[test]
 fn every_rule_is_needed_by_some_host() {
@@ -157,8 +160,19 @@ fn every_rule_is_needed_by_some_host() {
             let image = encode::program(&crippled);
             let mut pairs = runs.iter().zip(&outcomes);
             let needed = pairs.any(|(program_run, outcome)| run(program_run, &image) != *outcome);
-            assert!(needed, "no host needs rule {number} of {}", program.name);
+            let expected = (program.name, number) != NEEDED_BY_NONE;
+            assert_eq!(needed, expected, "hosts and rule {number} of {}", program.name);
         }
+    }
+}
+
+/// The degrees that is-cycle-by-degrees asks for are those that the dangling condition asks for.
+#[test]
+fn is_cycle_does_the_same_with_its_degrees_written_out() {
+    let [plain, by_degrees] = ["is-cycle", "is-cycle-by-degrees"].map(|name| families::published(name).expect("both are published"));
+    let [plain_image, image] = [plain, by_degrees].map(image_of);
+    for program_run in listed_runs(plain).chain(small_runs(plain)) {
+        assert_eq!(run(&program_run, &image), run(&program_run, &plain_image), "{}", program_run.host_name);
     }
 }
 

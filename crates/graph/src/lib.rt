@@ -4,7 +4,7 @@ ghost use Prim.Native.Nat.{_<_, _≤_};
 ghost use lib.ListN.{length, getD, drop};
 ghost use Rattle.meaning.specs.Basics.{exists, count};
 ghost use Rattle.meaning.specs.Layout.{Sized, lengthPlace, mostAtoms, readAtoms, liveAt, readNodes, readEdges, hostOf};
-ghost use Rattle.meaning.specs.Matching.{nodeAt, edgeAt, edgeRuns, edgeLeaves, edgeArrives, inDegree, outDegree, edgeTouches};
+ghost use Rattle.meaning.specs.Matching.{nodeAt, edgeAt, edgeRuns, inDegree, outDegree, edgeTouches};
 ghost use Rattle.labels.specs.Labels.{Holds};
 ghost use Rattle.slots.specs.Slots.{labelEnd};
 ghost use Rattle.graph.specs.Graph.{Legal, counts};
@@ -13,7 +13,7 @@ use meaning::Layout;
 use slots::held;
 use slots::held::Place;
 
-// Incidence edges count at a slot.
+// Which edges count at a slot.
 pub enum Incidence {
     Leaving,
     Arriving,
@@ -182,47 +182,6 @@ pub fn edge_runs(l: Layout, nodes: &[u8], edges: &[u8], s: usize, t: usize, x: u
     false
 }
 
-// Whether edge x is live and leaves slot s.
-pub fn edge_leaves(l: Layout, nodes: &[u8], edges: &[u8], s: usize, x: usize) -> bool
-    requires { ⌜ Legal l (now nodes) (now edges) ⌝ }
-    requires { ⌜ x < length (hostOf l (now nodes) (now edges) .edges) ⌝ }
-    ensures { λ r. ⌜ r ≡ edgeLeaves (hostOf l (now (nodes .entry)) (now (edges .entry))) s x ⌝ }
-{
-    if edge_live(l, nodes, edges, x) {
-        return edge_source(l, nodes, edges, x) == s;
-    }
-    false
-}
-
-// Whether edge x is live and arrives at slot t from another.
-pub fn edge_arrives(l: Layout, nodes: &[u8], edges: &[u8], t: usize, x: usize) -> bool
-    requires { ⌜ Legal l (now nodes) (now edges) ⌝ }
-    requires { ⌜ x < length (hostOf l (now nodes) (now edges) .edges) ⌝ }
-    ensures { λ r. ⌜ r ≡ edgeArrives (hostOf l (now (nodes .entry)) (now (edges .entry))) t x ⌝ }
-{
-    if edge_live(l, nodes, edges, x) {
-        if edge_target(l, nodes, edges, x) == t {
-            return edge_source(l, nodes, edges, x) != t;
-        }
-    }
-    false
-}
-
-// Whether edge x is live and touches slot c.
-pub fn edge_touches(l: Layout, nodes: &[u8], edges: &[u8], c: usize, x: usize) -> bool
-    requires { ⌜ Legal l (now nodes) (now edges) ⌝ }
-    requires { ⌜ x < length (hostOf l (now nodes) (now edges) .edges) ⌝ }
-    ensures { λ r. ⌜ r ≡ edgeTouches (hostOf l (now (nodes .entry)) (now (edges .entry))) c x ⌝ }
-{
-    if edge_live(l, nodes, edges, x) {
-        if edge_source(l, nodes, edges, x) == c {
-            return true;
-        }
-        return edge_target(l, nodes, edges, x) == c;
-    }
-    false
-}
-
 // What the edges do.
 
 // Whether some edge runs from slot s to slot t.
@@ -247,11 +206,16 @@ fn edge_counts(l: Layout, nodes: &[u8], edges: &[u8], which: Incidence, c: usize
     requires { ⌜ x < length (hostOf l (now nodes) (now edges) .edges) ⌝ }
     ensures { λ r. ⌜ r ≡ counts which (hostOf l (now (nodes .entry)) (now (edges .entry))) c x ⌝ }
 {
-    match which {
-        Incidence::Leaving => edge_leaves(l, nodes, edges, c, x),
-        Incidence::Arriving => edge_arrives(l, nodes, edges, c, x),
-        Incidence::Touching => edge_touches(l, nodes, edges, c, x),
+    if edge_live(l, nodes, edges, x) {
+        let leaves = edge_source(l, nodes, edges, x) == c;
+        let arrives = edge_target(l, nodes, edges, x) == c;
+        return match which {
+            Incidence::Leaving => leaves,
+            Incidence::Arriving => arrives,
+            Incidence::Touching => leaves | arrives,
+        };
     }
+    false
 }
 
 // How many edges count at slot c.
@@ -281,7 +245,7 @@ pub fn out_degree(l: Layout, nodes: &[u8], edges: &[u8], s: usize) -> usize
     count_edges(l, nodes, edges, Incidence::Leaving, s)
 }
 
-// How many edges arrive at slot t from another.
+// How many edges arrive at slot t.
 pub fn in_degree(l: Layout, nodes: &[u8], edges: &[u8], t: usize) -> usize
     requires { ⌜ Legal l (now nodes) (now edges) ⌝ }
     ensures { λ r. ⌜ r ≡ inDegree (hostOf l (now (nodes .entry)) (now (edges .entry))) t ⌝ }

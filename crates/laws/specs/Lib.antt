@@ -7,7 +7,6 @@ pub mod Records
 pub mod Search
 pub mod References
 pub mod Counting
-pub mod Edges
 pub mod Labels
 pub mod Assignment
 pub mod Decided

@@ -5,7 +5,7 @@ use mathlib.Core.List.{List, [], _∷_, _++_, map}
 use Prim.Native.Nat.{ℕ, _*_}
 use lib.ListN.{replicate}
 use Rattle.meaning.specs.Layout.{base, edgeLength, recordLength}
-use Rattle.meaning.specs.Tags.{ruleTag, variablesTag, leftTag, rightTag, interfaceTag, testsTag, constantTag, sumTag, outDegreeTag, ifTag, loopTag}
+use Rattle.meaning.specs.Tags.{ruleTag, variablesTag, leftTag, rightTag, interfaceTag, testsTag, constantTag, sumTag, inDegreeTag, outDegreeTag, ifTag, loopTag}
 use Rattle.meaning.specs.Calls.{Returned, run, undo, reportOf, lending, lendingUndo}
 use Rattle.meaning.specs.ProvedSet.{Case, given, liveNode, freeNode, liveEdge, nodeRecord, edgeRecord, plainNode, redNode, fieldBytes, ruleField, nodeField, edgeField, variableField, ruleSetField, marksRed, skipField, breakField, noResult, results, onPlainNode}
 use Rattle.meaning.specs.Computing.{computing}
@@ -18,15 +18,19 @@ freeEdge = replicate (edgeLength base) 0
 abbrev deletesLooped : List ℕ
 deletesLooped = ruleField [] (nodeField 0 [] ++ edgeField 0 0) [] 0
 
--- M, where no edge leaves the node
-abbrev marksLone : List ℕ
-marksLone =
+-- M, under tests
+abbrev marksUnder : List ℕ → List ℕ
+marksUnder tests =
     fieldBytes ruleTag
     (fieldBytes variablesTag []
     ++ fieldBytes leftTag (nodeField 0 [])
     ++ fieldBytes rightTag (nodeField 1 [])
     ++ fieldBytes interfaceTag (1 ∷ [])
-    ++ fieldBytes testsTag (fieldBytes outDegreeTag (0 ∷ 0 ∷ 0 ∷ 0 ∷ [])))
+    ++ fieldBytes testsTag tests)
+
+-- the test that a degree of the node, the in-degree or the out-degree by its tag, is n
+abbrev degreeField : ℕ → ℕ → List ℕ
+degreeField tag n = fieldBytes tag (0 ∷ 0 ∷ 0 ∷ n ∷ [])
 
 -- x becomes x + 1
 abbrev adds : List ℕ
@@ -66,11 +70,20 @@ examples =
       nodes = plainNode;
       edges = freeEdge;
       records = 8;
-      image = marksLone ++ ruleSetField 0;
+      image = marksUnder (degreeField outDegreeTag 0) ++ ruleSetField 0;
       fuel = 100;
       expected = results 1 1 redNode freeEdge (nodeRecord 0 plainNode);
     }
-    -- a loop is one edge at its node
+    -- a loop leaves its node once and arrives there once
+    ∷ record {
+      nodes = plainNode;
+      edges = liveEdge 0 0;
+      records = 8;
+      image = marksUnder (degreeField inDegreeTag 1 ++ degreeField outDegreeTag 1) ++ ruleSetField 0;
+      fuel = 100;
+      expected = results 1 1 redNode (liveEdge 0 0) (nodeRecord 0 plainNode);
+    }
+    -- and is one edge there, so that both can go
     ∷ record {
       nodes = plainNode;
       edges = liveEdge 0 0;

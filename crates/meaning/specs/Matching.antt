@@ -93,12 +93,13 @@ module _ (h : Host) where
   unfoldable pub edgeTouches : ℕ → ℕ → Bool
   edgeTouches c x = both (liveAt (h .edges) x) (either (eqb (edgeAt h x .source) c) (eqb (edgeAt h x .target) c))
 
+  -- edge x is live and leaves node slot s
   unfoldable pub edgeLeaves : ℕ → ℕ → Bool
   edgeLeaves s x = both (liveAt (h .edges) x) (eqb (edgeAt h x .source) s)
 
-  -- edge x arrives at slot t from another node
+  -- edge x is live and arrives at node slot t
   unfoldable pub edgeArrives : ℕ → ℕ → Bool
-  edgeArrives t x = both (liveAt (h .edges) x) (both (eqb (edgeAt h x .target) t) (not (eqb (edgeAt h x .source) t)))
+  edgeArrives t x = both (liveAt (h .edges) x) (eqb (edgeAt h x .target) t)
 
   unfoldable pub outDegree : ℕ → ℕ
   outDegree s = count (edgeLeaves s) (length (h .edges))

@@ -21,7 +21,7 @@ use Rattle.meaning.specs.Laws.Interface.{interface-left}
 use Rattle.meaning.specs.declared.Condition.{Condition}
 use Rattle.meaning.specs.declared.Condition.the-variants.{Edge as edgeBetween, InDegree, OutDegree, Equal, Less}
 use Rattle.published.specs.Graphs.{Graph, Node, Edge, HostGraph, Iso}
-use Rattle.published.specs.RuleApplication.{edgeOf, Premorphism, Injective, Incident, Dangling, Exactly, Leaves, Arrives, Holds, TestTrue, StaysNode, StaysEdge, Union, placed, Constructed, Matches, Applies, Applied}
+use Rattle.published.specs.RuleApplication.{edgeOf, Premorphism, Injective, Incident, Dangling, Exactly, Holds, TestTrue, StaysNode, StaysEdge, Union, placed, Constructed, Matches, Applies, Applied}
 
 -- An equivalence.
 
@@ -232,20 +232,21 @@ module _ (G G′ : Graph) (host : HostGraph G) (i : Iso G G′) where
   target-to : (v e : ℕ) → Edge G e → G .target e ≡ v → G′ .target (i .edge e) ≡ i .node v
   target-to v e k q = i .targets e k ∙ ap (i .node) q
 
-  leaves-to : (v e : ℕ) → Leaves G v e → Leaves G′ (i .node v) (i .edge e)
-  leaves-to v e p = (i .edges e (p .0), source-to v e (p .0) (p .1))
+  -- as many edges of G have their source at v, or their target, as edges of G′ have it at the image of v
+  ends-over : (end end′ : ℕ → ℕ) (v m : ℕ)
+      → ((e : ℕ) → Edge G e → end e ≡ v → end′ (i .edge e) ≡ i .node v)
+      → ((e : ℕ) → Edge G′ e → end′ e ≡ i .node v → end (i .edgeBack e) ≡ v)
+      → Exactly m (λ e. Edge G e × (end e ≡ v)) ↔ Exactly m (λ e. Edge G′ e × (end′ e ≡ i .node v))
+  ends-over end end′ v m to at = (
+    exactly-over _ _ (i .edge) (i .edgeBack) there back (λ e p. i .edgeThere e (p .0)) (λ e p. i .edgeHere e (p .0)) m,
+    exactly-over _ _ (i .edgeBack) (i .edge) back there (λ e p. i .edgeHere e (p .0)) (λ e p. i .edgeThere e (p .0)) m,
+  )
+    where
+      there : (e : ℕ) → Edge G e × (end e ≡ v) → Edge G′ (i .edge e) × (end′ (i .edge e) ≡ i .node v)
+      there e p = (i .edges e (p .0), to e (p .0) (p .1))
 
-  leaves-at : (v e : ℕ) → Node G v → Leaves G′ (i .node v) e → Leaves G v (i .edgeBack e)
-  leaves-at v e h p = (i .edgesBack e (p .0), source-at v e h (p .0) (p .1))
-
-  arrives-to : (v e : ℕ) → Node G v → Arrives G v e → Arrives G′ (i .node v) (i .edge e)
-  arrives-to v e h p =
-      (i .edges e (p .0), target-to v e (p .0) (p .1), λ q. p .2 (node-one _ v (host .sources e (p .0)) h (sym (i .sources e (p .0)) ∙ q)))
-
-  arrives-at : (v e : ℕ) → Node G v → Arrives G′ (i .node v) e → Arrives G v (i .edgeBack e)
-  arrives-at v e h p =
-      let b = i .edgesBack e (p .0) in
-      (b, target-at v e h (p .0) (p .1), λ q. p .2 (ap (G′ .source) (sym (i .edgeHere e (p .0))) ∙ source-to v _ b q))
+      back : (e : ℕ) → Edge G′ e × (end′ e ≡ i .node v) → Edge G (i .edgeBack e) × (end (i .edgeBack e) ≡ v)
+      back e p = (i .edgesBack e (p .0), at e (p .0) (p .1))
 
   module _ (node : ℕ → ℕ) (α : ℕ → List ℕ) where
     holds-over : (c : Condition) → Every (λ a. Node G (node a)) (conditionNodes c)
@@ -255,18 +256,10 @@ module _ (G G′ : Graph) (host : HostGraph G) (i : Iso G G′) where
       λ t. (i .edge (t .0), i .edges _ (t .1), source-to _ _ (t .1) (t .2), target-to _ _ (t .1) (t .3)),
       λ t. (i .edgeBack (t .0), i .edgesBack _ (t .1), source-at _ _ (n .0) (t .1) (t .2), target-at _ _ (n .1 .0) (t .1) (t .3)),
     )
-    holds-over (InDegree a m) n = (
-      exactly-over (Arrives G (node a)) (Arrives G′ (i .node (node a))) (i .edge) (i .edgeBack) (λ e. arrives-to _ e (n .0))
-          (λ e. arrives-at _ e (n .0)) (λ e p. i .edgeThere e (p .0)) (λ e p. i .edgeHere e (p .0)) m,
-      exactly-over (Arrives G′ (i .node (node a))) (Arrives G (node a)) (i .edgeBack) (i .edge) (λ e. arrives-at _ e (n .0))
-          (λ e. arrives-to _ e (n .0)) (λ e p. i .edgeHere e (p .0)) (λ e p. i .edgeThere e (p .0)) m,
-    )
-    holds-over (OutDegree a m) n = (
-      exactly-over (Leaves G (node a)) (Leaves G′ (i .node (node a))) (i .edge) (i .edgeBack) (λ e. leaves-to _ e)
-          (λ e. leaves-at _ e (n .0)) (λ e p. i .edgeThere e (p .0)) (λ e p. i .edgeHere e (p .0)) m,
-      exactly-over (Leaves G′ (i .node (node a))) (Leaves G (node a)) (i .edgeBack) (i .edge) (λ e. leaves-at _ e (n .0))
-          (λ e. leaves-to _ e) (λ e p. i .edgeHere e (p .0)) (λ e p. i .edgeThere e (p .0)) m,
-    )
+    holds-over (InDegree a m) n =
+        ends-over (G .target) (G′ .target) (node a) m (λ e. target-to _ e) (λ e. target-at _ e (n .0))
+    holds-over (OutDegree a m) n =
+        ends-over (G .source) (G′ .source) (node a) m (λ e. source-to _ e) (λ e. source-at _ e (n .0))
     holds-over (Equal a b) n = (λ e. e, λ e. e)
     holds-over (Less a b) n = (λ e. e, λ e. e)
 

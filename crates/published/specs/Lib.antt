@@ -6,6 +6,7 @@ pub mod Isomorphism
 pub mod OneResult
 pub mod SameMatch
 pub mod Application
+pub mod Degrees
 pub mod HostResult
 pub mod Semantics
 pub mod Endings

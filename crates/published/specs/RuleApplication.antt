@@ -5,9 +5,8 @@
 -- As in document 000, integers have no bound and labels no greatest length, so that every sum and difference has a value and
 -- every label an instance; and roots go with roots, other nodes with other nodes (its 2.3: morphisms reflect rootedness).
 -- What differs, as document 01 decides:
--- * the in-degree counts the edges that come from another node alone, so that it leaves loops out;
--- * the mark any (magenta in document 000's 2.1) goes with every mark, none included, and on the right keeps the mark; document
---   000 has it match arbitrary marks, and does not speak of items without one.
+-- the mark any (magenta in document 000's 2.1) goes with every mark, none included, and on the right keeps the mark; document
+-- 000 has it match arbitrary marks, and does not speak of items without one.
 -- What of document 000 is not modelled: strings and characters with their types and the type atom; products, quotients, and
 -- degrees and lengths in labels; of conditions all but a list of tests, each negated or not, that are all to be true: an edge
 -- between two nodes, of any label and mark, an in-degree or out-degree, = and < of two integers.
@@ -117,9 +116,8 @@ pub record Exactly (n : ℕ) (P : ℕ → Type 0) : Type 0 where
 abbrev pub Leaves : Graph → ℕ → ℕ → Type 0
 Leaves G v e = Edge G e × (G .source e ≡ v)
 
--- edge e arrives at v from another node
 abbrev pub Arrives : Graph → ℕ → ℕ → Type 0
-Arrives G v e = Edge G e × (G .target e ≡ v) × (G .source e ≡ v → ⊥)
+Arrives G v e = Edge G e × (G .target e ≡ v)
 
 module _ (G : Graph) (node : ℕ → ℕ) (α : ℕ → List ℕ) where
   -- the value of a condition under g and α is true

@@ -44,22 +44,16 @@ fn about_nodes(random: &mut Random, host: &Host, left: &Left) -> TestKind {
     let loops = host.loops_at(slot);
     match random.below(3) {
         0 => TestKind::Edge(a as u8, b as u8),
-        1 => {
-            let others = host.arriving_from_others(slot);
-            TestKind::InDegree(a as u8, degree(random, others, others + loops))
-        }
-        _ => {
-            let all = host.leaving(slot);
-            TestKind::OutDegree(a as u8, degree(random, all, all - loops))
-        }
+        1 => TestKind::InDegree(a as u8, degree(random, host.arriving(slot), loops)),
+        _ => TestKind::OutDegree(a as u8, degree(random, host.leaving(slot), loops)),
     }
 }
 
-/// The right number mostly; else the one with loops counted otherwise, one whose low byte is right, or a small one.
-fn degree(random: &mut Random, right: usize, loops_otherwise: usize) -> u16 {
+/// The right number mostly; else the one with loops left out, one whose low byte is right, or a small one.
+fn degree(random: &mut Random, right: usize, loops: usize) -> u16 {
     let drawn = match random.weighted(&[58, 18, 5, 19]) {
         0 => right,
-        1 => loops_otherwise,
+        1 => right - loops,
         2 => right + 0x100,
         _ => random.below(4),
     };
@@ -70,7 +64,7 @@ fn holds(kind: &TestKind, host: &Host, left: &Left) -> bool {
     let slot = |node: u8| left.nodes[node as usize];
     match *kind {
         TestKind::Edge(a, b) => host.has_edge(slot(a), slot(b)),
-        TestKind::InDegree(node, count) => host.arriving_from_others(slot(node)) == count as usize,
+        TestKind::InDegree(node, count) => host.arriving(slot(node)) == count as usize,
         TestKind::OutDegree(node, count) => host.leaving(slot(node)) == count as usize,
         TestKind::Relation(Relation::Equal, a, b) => {
             number(&a, &left.values) == number(&b, &left.values)

@@ -1,9 +1,9 @@
 //! Inputs that random ones meet seldom: several reasons to end a run at once, the last item of lists of the greatest
-//! length, and labels that differ in one atom.
+//! length, labels that differ in one atom, and degrees of nodes with loops.
 
 use super::LAYOUT;
 use crate::build::*;
-use crate::encode::{self, node_slot, RunnerInput};
+use crate::encode::{self, edge_slot, node_slot, RunnerInput};
 use crate::tree::*;
 
 /// Why an application can't be made.
@@ -27,6 +27,7 @@ pub fn corners() -> Vec<RunnerInput> {
     let mut inputs: Vec<RunnerInput> = every_reasons().into_iter().map(input_of).collect();
     inputs.extend([last_of_eight_rules(), last_of_all_rules()]);
     inputs.extend(LISTS.map(|(a, b)| one_list_twice(a, b)));
+    inputs.extend(every_looped().into_iter().map(at_loops));
     inputs
 }
 
@@ -156,6 +157,71 @@ fn one_list_twice(first: &[i32], second: &[i32]) -> RunnerInput {
     }
 }
 
+/// A degree test of a node with loops and edges from and to another node.
+#[derive(Clone, Copy, Debug)]
+struct Looped {
+    loops: u16,
+    arriving: u16,
+    leaving: u16,
+    test: Test,
+}
+
+/// One loop or two, alone or with an edge from or to the other node, under each test for a degree of 0, 1 or 2.
+fn every_looped() -> Vec<Looped> {
+    let mut every = Vec::new();
+    for (arriving, leaving) in [(0, 0), (1, 0), (0, 1)] {
+        for loops in [1, 2] {
+            every.extend(degree_tests().map(|test| Looped {
+                loops,
+                arriving,
+                leaving,
+                test,
+            }));
+        }
+    }
+    every
+}
+
+/// Of node 0: in-degree and out-degree 0, 1 and 2, plain and negated.
+fn degree_tests() -> impl Iterator<Item = Test> {
+    let kinds = (0..3).flat_map(|number| {
+        [
+            TestKind::InDegree(0, number),
+            TestKind::OutDegree(0, number),
+        ]
+    });
+    kinds.flat_map(|kind| [false, true].map(|negated| Test { negated, kind }))
+}
+
+/// A rule that marks a node red under the test, on a node with loops, in slot 0, beside a green one.
+fn at_loops(looped: Looped) -> RunnerInput {
+    let marks_red = node_rule(&[node(mark::NONE, &[])], &[node(mark::RED, &[])], 1);
+    let rule = Rule {
+        tests: vec![looped.test],
+        ..marks_red
+    };
+    let edges = |count: u16, source: u16, target: u16| {
+        vec![edge_slot(mark::NONE, source, target, &[]); usize::from(count)]
+    };
+    let edges = [
+        edges(looped.arriving, 1, 0),
+        edges(looped.loops, 0, 0),
+        edges(looped.leaving, 0, 1),
+    ];
+    RunnerInput {
+        nodes: [mark::NONE, mark::GREEN]
+            .map(|mark| node_slot(mark, false, &[]))
+            .concat(),
+        edges: edges.concat().concat(),
+        records: 1,
+        fuel: 1,
+        program: encode::program(&Program {
+            rules: vec![rule],
+            main: call(0),
+        }),
+    }
+}
+
 #[cfg(test)]
 mod tests {
     use super::*;
@@ -187,6 +253,20 @@ mod tests {
         for (first, second) in LISTS {
             let answer = run_input(&one_list_twice(first, second)).answer;
             assert_eq!(answer == 0, first == second, "{first:?} {second:?}");
+        }
+    }
+
+    #[test]
+    fn a_loop_counts_once_in_each_degree() {
+        for looped in every_looped() {
+            let (degree, number) = match looped.test.kind {
+                TestKind::InDegree(_, number) => (looped.arriving + looped.loops, number),
+                TestKind::OutDegree(_, number) => (looped.leaving + looped.loops, number),
+                other => panic!("{other:?} asks for no degree"),
+            };
+            let holds = (degree == number) != looped.test.negated;
+            let answer = run_input(&at_loops(looped)).answer;
+            assert_eq!(answer == 0, holds, "{looped:?}");
         }
     }
 }

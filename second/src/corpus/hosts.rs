@@ -127,11 +127,11 @@ impl Host {
             .count()
     }
 
-    pub fn arriving_from_others(&self, node: usize) -> usize {
+    pub fn arriving(&self, node: usize) -> usize {
         self.edges
             .iter()
             .flatten()
-            .filter(|e| e.target == node && e.source != node)
+            .filter(|edge| edge.target == node)
             .count()
     }
 

@@ -102,7 +102,17 @@ fn named(exercised: &Exercised) -> Vec<(String, u64)> {
         .to_vec();
     named.extend(named_tests("true", &e.tests_true));
     named.extend(named_tests("false", &e.tests_false));
+    named.extend(named_numbers("loop, in-degree", &e.in_degree_at_loops));
+    named.extend(named_numbers("loop, in-degree not", &e.not_in_degree_at_loops));
     named
+}
+
+/// Counts of what is asked about each number from 0 on.
+fn named_numbers(asked: &str, counts: &[u64]) -> Vec<(String, u64)> {
+    let named = counts.iter().enumerate();
+    named
+        .map(|(number, count)| (format!("{asked} {number}"), *count))
+        .collect()
 }
 
 fn named_tests(outcome: &str, counts: &TestCounts) -> [(String, u64); 5] {

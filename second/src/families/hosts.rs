@@ -90,7 +90,15 @@ pub fn is_discrete() -> Runs {
 }
 
 pub fn is_cycle() -> Runs {
-    let mut runs = Runs::of("is-cycle");
+    cycles_and_others("is-cycle")
+}
+
+pub fn is_cycle_by_degrees() -> Runs {
+    cycles_and_others("is-cycle-by-degrees")
+}
+
+fn cycles_and_others(program: &str) -> Runs {
+    let mut runs = Runs::of(program);
     for length in [1, 2, 3, 4, 10, 60] {
         runs.add(format!("cycle of {length}"), Graph::cycle(length));
     }

@@ -36,11 +36,11 @@ fn each_test_holds_as_document_01_says() {
         (TestKind::OutDegree(0, 2), false),
         (TestKind::OutDegree(0, 4), false),
         (TestKind::OutDegree(1, 1), true),
-        (TestKind::InDegree(0, 1), true),
-        (TestKind::InDegree(0, 2), false),
-        (TestKind::InDegree(0, 0), false),
-        (TestKind::InDegree(1, 3), true),
-        (TestKind::InDegree(1, 259), false),
+        (TestKind::InDegree(0, 2), true),
+        (TestKind::InDegree(0, 1), false),
+        (TestKind::InDegree(0, 3), false),
+        (TestKind::InDegree(1, 4), true),
+        (TestKind::InDegree(1, 260), false),
     ];
     let number = Operand::Constant;
     let related = |relation, a, b| TestKind::Relation(relation, number(a), number(b));

@@ -25,7 +25,7 @@ pub fn purpose(program: &str, before: &Graph, left: &Left) -> Result<(), String>
     match program {
         "transitive-closure" => closes(before, left),
         "is-discrete" => recognises(is_discrete(before), left, is_empty),
-        "is-cycle" => recognises(is_cycle(before), left, is_empty),
+        "is-cycle" | "is-cycle-by-degrees" => recognises(is_cycle(before), left, is_empty),
         "is-tree" => recognises(is_tree(before), left, is_one_blue_root),
         "is-binary-dag" => recognises(is_binary_dag(before), left, is_empty),
         "is-connected" => recognises(is_connected(before), left, |after| is_the_same_but_for_nodes(before, after)),

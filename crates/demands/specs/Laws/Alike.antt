@@ -1,5 +1,5 @@
 -- Hosts that have the same at each slot number, whatever the length of their tables: a free slot behind a table is as good as
--- none. They have the same matches, the same first match, the same values of a right side, and the same edges on free nodes.
+-- none. They have the same matches, the same first match and the same values of a right side.
 -- Rests on laws' FirstMatch.
 use Prim.Native.Nat.{ℕ, zero, suc, _≤_}
 use mathlib.Core.Path.{_≡_, refl, sym, _∙_, ap, fun-ext}
@@ -18,7 +18,7 @@ use Rattle.meaning.specs.Matching.{nodeIn, edgeIn, nodeAt, edgeAt, leftNodes, n
 use Rattle.meaning.specs.Assigned.{paired, valueFrom, assigned}
 use Rattle.meaning.specs.FirstMatch.{firstMatch}
 use Rattle.meaning.specs.Applying.{rightNode, rightNodes, rightSide}
-use Rattle.laws.specs.Edges.{edgeRuns-free, edgeLeaves-free, edgeArrives-free}
+use Rattle.meaning.specs.Laws.Tests.{both-no}
 use Rattle.laws.specs.FirstMatch.{First, first-one, first-match}
 use Rattle.meaning.specs.declared.Condition.{Condition}
 use Rattle.meaning.specs.declared.Condition.the-variants.{Edge as edgeBetween, InDegree, OutDegree, Equal, Less}
@@ -92,13 +92,13 @@ module _ (h h′ : Host) (a : Alike h h′) where
   condition-alike : (p : List ℕ) (α : Assignment) (c : Condition) → conditionHolds h p α c ≡ conditionHolds h′ p α c
   unfolding conditionHolds inDegree outDegree edgeRuns edgeLeaves edgeArrives
   condition-alike p α (edgeBetween i j) =
-      exists-alike (λ g. edgeRuns g (nodeSlot p i) (nodeSlot p j)) (λ x. rw (a .edges x)) (λ g. edgeRuns-free g _ _)
+      exists-alike (λ g. edgeRuns g (nodeSlot p i) (nodeSlot p j)) (λ x. rw (a .edges x)) (λ g x. both-no _ _)
   condition-alike p α (InDegree i n) =
       ap (λ (m : ℕ). eqb m n)
-      (count-alike (λ g. edgeArrives g (nodeSlot p i)) (λ x. rw (a .edges x)) (λ g. edgeArrives-free g _))
+      (count-alike (λ g. edgeArrives g (nodeSlot p i)) (λ x. rw (a .edges x)) (λ g x. both-no _ _))
   condition-alike p α (OutDegree i n) =
       ap (λ (m : ℕ). eqb m n)
-      (count-alike (λ g. edgeLeaves g (nodeSlot p i)) (λ x. rw (a .edges x)) (λ g. edgeLeaves-free g _))
+      (count-alike (λ g. edgeLeaves g (nodeSlot p i)) (λ x. rw (a .edges x)) (λ g x. both-no _ _))
   condition-alike p α (Equal i j) = refl
   condition-alike p α (Less i j) = refl
 

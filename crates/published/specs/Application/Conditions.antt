@@ -7,12 +7,12 @@ use mathlib.Core.Bool.{Bool, true, false, not}
 use mathlib.Core.List.{List, [], _∷_}
 use native.Mathlib.Omega.{arith}
 use native.Mathlib.Decide.{ℕ-discrete}
-use borrow.Author.Tests.{eq-eqb, eqb-true, eqb-false, ne-eqb, not-true}
+use borrow.Author.Tests.{eq-eqb, eqb-true}
 use lib.Dec.{eqb}
 use lib.ListN.{length, getD}
-use Rattle.meaning.specs.Basics.{choose, count, concat}
+use Rattle.meaning.specs.Basics.{choose, both, count, concat}
 use Rattle.meaning.specs.Numbers.{whole}
-use Rattle.meaning.specs.Layout.{Host}
+use Rattle.meaning.specs.Layout.{Host, liveAt}
 use Rattle.meaning.specs.References.{operandNames, conditionOperands, conditionNodes, isPlain}
 use Rattle.meaning.specs.Matching.{nodeSlot, Assignment, atomsOf, instance, atomOf, edgeRuns, edgeLeaves, edgeArrives, outDegree, inDegree, conditionHolds, testHolds}
 use Rattle.meaning.specs.Laws.Tests.{both-true, both-of, exists-of, exists-true}
@@ -28,9 +28,9 @@ use Rattle.meaning.specs.declared.Element.the-variants.{Constant, Variable, Sum
 use Rattle.meaning.specs.declared.Condition.{Condition}
 use Rattle.meaning.specs.declared.Condition.the-variants.{Edge as edgeBetween, InDegree, OutDegree, Equal, Less}
 use Rattle.meaning.specs.declared.Test.{Test}
-use Rattle.published.specs.Graphs.{graphOf}
+use Rattle.published.specs.Graphs.{Edge, graphOf}
 use Rattle.published.specs.Integers.{named, named-apart, less-named}
-use Rattle.published.specs.RuleApplication.{integer, Instance, Exactly, Leaves, Arrives, Holds, TestTrue}
+use Rattle.published.specs.RuleApplication.{integer, Instance, Exactly, Holds, TestTrue}
 
 -- an operand's integer is that of its atom
 pub integer-is : (α : Assignment) (o : Operand) → integer α o ≡ named (atomOf α o)
@@ -68,18 +68,18 @@ instance-plain α (Difference a b ∷ l) m p i = let f = p .0 in let z : _≡_ {
 -- Counting.
 
 -- the numbers below n that pass f
-passing : (ℕ → Bool) → ℕ → List ℕ
+pub passing : (ℕ → Bool) → ℕ → List ℕ
 passing f zero = []
 passing f (suc n) = choose (f n) (n ∷ passing f n) (passing f n)
 
-record Passing (f : ℕ → Bool) (n m : ℕ) (l : List ℕ) : Type 0 where
-  size : length l ≡ m
-  below : (i : ℕ) → i < m → getD l i 0 < n
-  passes : (i : ℕ) → i < m → f (getD l i 0) ≡ true
-  apart : (i j : ℕ) → i < m → j < m → getD l i 0 ≡ getD l j 0 → i ≡ j
-  all : (x : ℕ) → x < n → f x ≡ true → (i : ℕ) × (i < m) × (getD l i 0 ≡ x)
+pub record Passing (f : ℕ → Bool) (n m : ℕ) (l : List ℕ) : Type 0 where
+  pub size : length l ≡ m
+  pub below : (i : ℕ) → i < m → getD l i 0 < n
+  pub passes : (i : ℕ) → i < m → f (getD l i 0) ≡ true
+  pub apart : (i j : ℕ) → i < m → j < m → getD l i 0 ≡ getD l j 0 → i ≡ j
+  pub all : (x : ℕ) → x < n → f x ≡ true → (i : ℕ) × (i < m) × (getD l i 0 ≡ x)
 
-passing-all : (f : ℕ → Bool) (n : ℕ) → Passing f n (count f n) (passing f n)
+pub passing-all : (f : ℕ → Bool) (n : ℕ) → Passing f n (count f n) (passing f n)
 unfolding passing count choose
 passing-all f zero =
     record {
@@ -192,25 +192,14 @@ module _ (f : ℕ → Bool) (n : ℕ) (P : ℕ → Type 0) (t : Tested f n P) wh
 -- Tests.
 
 module _ (h : Host) where
-  leaves-tested : (s : ℕ) → Tested (edgeLeaves h s) (length (h .edges)) (Leaves (graphOf h) s)
-  unfolding edgeLeaves
-  leaves-tested s =
+  -- the edges with an end, the source or the target, in slot s
+  ends-tested : (end : ℕ → ℕ) (s : ℕ)
+      → Tested (λ x. both (liveAt (h .edges) x) (eqb (end x) s)) (length (h .edges)) (λ e. Edge (graphOf h) e × (end e ≡ s))
+  ends-tested end s =
       record {
         below = λ x p. liveAt-lt (h .edges) x (p .0);
         passes = λ x p. both-of _ _ (p .0) (eq-eqb _ _ (p .1));
         holds = λ x e. let t = both-true _ _ e in (t .0, eqb-true _ _ (t .1));
-      }
-
-  arrives-tested : (s : ℕ) → Tested (edgeArrives h s) (length (h .edges)) (Arrives (graphOf h) s)
-  unfolding edgeArrives
-  arrives-tested s =
-      record {
-        below = λ x p. liveAt-lt (h .edges) x (p .0);
-        passes = λ x p. both-of _ _ (p .0) (both-of _ _ (eq-eqb _ _ (p .1)) (ap not (ne-eqb _ _ (p .2))));
-        holds = λ x e.
-            let t = both-true _ _ e in
-            let u = both-true _ _ (t .1) in
-            (t .0, eqb-true _ _ (u .0), eqb-false _ _ (not-true _ (u .1)));
       }
 
   module _ (p : List ℕ) (node : ℕ → ℕ) (α : Assignment) where
@@ -218,7 +207,7 @@ module _ (h : Host) where
     pub condition-holds : (c : Condition) → Every (λ a. node a ≡ nodeSlot p a) (conditionNodes c)
         → Every (λ o. atomOf α o < whole) (conditionOperands c)
         → (conditionHolds h p α c ≡ true) ↔ Holds (graphOf h) node α c
-    unfolding conditionNodes conditionOperands conditionHolds edgeRuns outDegree inDegree
+    unfolding conditionNodes conditionOperands conditionHolds edgeRuns edgeLeaves edgeArrives outDegree inDegree
     condition-holds (edgeBetween a b) n o = (
       λ e.
           let t = exists-true _ _ e in
@@ -229,8 +218,8 @@ module _ (h : Host) where
           exists-of _ _ (t .0) (liveAt-lt (h .edges) (t .0) (t .1))
           (both-of _ _ (t .1) (both-of _ _ (eq-eqb _ _ (t .2 ∙ n .0)) (eq-eqb _ _ (t .3 ∙ n .1 .0)))),
     )
-    condition-holds (InDegree a m) n o = rw (n .0) (counted _ _ _ (arrives-tested (nodeSlot p a)) m)
-    condition-holds (OutDegree a m) n o = rw (n .0) (counted _ _ _ (leaves-tested (nodeSlot p a)) m)
+    condition-holds (InDegree a m) n o = rw (n .0) (counted _ _ _ (ends-tested (graphOf h .target) (nodeSlot p a)) m)
+    condition-holds (OutDegree a m) n o = rw (n .0) (counted _ _ _ (ends-tested (graphOf h .source) (nodeSlot p a)) m)
     condition-holds (Equal a b) n o =
         rw (integer-is α a, integer-is α b) (λ e. ap named (eqb-true _ _ e), λ e. eq-eqb _ _ (named-apart _ _ e))
     condition-holds (Less a b) n o =

@@ -1,5 +1,5 @@
--- Chains, for is-tree: at most one root, at most one edge out of each node, and at most one start, a grey node that no edge reaches
--- from another node; none where there is a root. A rule whose right side has no grey node makes no start.
+-- Chains, for is-tree: at most one root, at most one edge out of each node, and at most one start, a grey node that no edge
+-- reaches; none where there is a root. A rule whose right side has no grey node makes no start.
 -- Rests on OneRoot, OneOut and Whence.
 use mathlib.Core.Path.{_≡_, sym, _∙_, ap}
 use mathlib.Core.Logic.{_⊎_, inl, inr}
@@ -12,12 +12,12 @@ use Rattle.laws.specs.References.{ends}
 use Rattle.laws.specs.Values.{LegalRule}
 use Rattle.published.specs.Graphs.{NodeLabel, Graph, Node, HostGraph, Iso}
 use Rattle.published.specs.RuleApplication.{Arrives, StaysEdge, Applies}
-use Rattle.published.specs.OneResult.{value-of, source-stays}
+use Rattle.published.specs.OneResult.{value-of}
 use Rattle.published.specs.Families.OneRoot.{OneRoot, one-root-iso}
 use Rattle.published.specs.Families.OneOut.{OneOut, one-out-iso}
 use Rattle.published.specs.Families.Whence.{Matched, Untouched, marked-whence}
 
--- v is grey, and no edge reaches it from another node
+-- v is grey, and no edge reaches it
 pub record Start (G : Graph) (v : ℕ) : Type 0 where
   pub node : Node G v
   pub grey : G .nodeLabel v .mark ≡ 4
@@ -43,7 +43,6 @@ module _ (G H : Graph) (host : HostGraph G) (i : Iso G H) where
         first = λ e k. s .first (i .edge e) (
           i .edges e (k .0),
           i .targets e (k .0) ∙ ap (i .node) (k .1) ∙ i .nodeHere z (s .node),
-          λ q. k .2 (sym (i .nodeThere _ (host .sources e (k .0))) ∙ ap (i .nodeBack) (sym (i .sources e (k .0)) ∙ q)),
         );
       }
 
@@ -86,12 +85,7 @@ module _ (r : Rule) (legal : LegalRule r) (none : NoGrey r) (G H : Graph) (host 
           at (inr f) =
               let o : StaysEdge r G (a .match .g) e = record { edge = k .0; kept = f } in
               let target = a .constructed .keptTargets e o ∙ ap (a .constructed .keepNode) (k .1) ∙ u .1 .here in
-              let stays = source-stays r (legal .holds) G host (a .match) e o in
-              s .first (a .constructed .keepEdge e) (
-                a .constructed .edges .fromA e o,
-                target,
-                λ q. k .2 (a .constructed .nodes .apartA _ _ stays (u .1 .stays) (sym (a .constructed .keptSources e o) ∙ q ∙ sym (u .1 .here))),
-              )
+              s .first (a .constructed .keepEdge e) (a .constructed .edges .fromA e o, target)
 
   -- so the invariant is kept, if a start has been matched or there was a root
   pub chain-kept : OneRoot H → OneOut H → Chain G

@@ -282,7 +282,7 @@ edges = liveEdge 0 1
 the-start : (v : ℕ) → v < 2 → Start (held nodes edges) v → v ≡ 0
 unfolding computing
 the-start zero k s = refl
-the-start (suc zero) k s = absurd (s .first 0 (refl, refl, λ e. omega arith))
+the-start (suc zero) k s = absurd (s .first 0 (refl, refl))
 the-start (suc (suc v)) k s = absurd (omega arith)
 
 no-root : (w : ℕ) → w < 2 → held nodes edges .nodeLabel w .root ≡ 1 → ⊥

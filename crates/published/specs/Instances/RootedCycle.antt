@@ -19,7 +19,8 @@ use Rattle.laws.specs.LegalCommands.{LegalRules}
 use Rattle.laws.specs.LegalImage.{program-legal}
 use Rattle.meaning.specs.declared.Element.the-variants.{Variable}
 use Rattle.published.specs.Graphs.{Graph, HostGraph}
-use Rattle.published.specs.RuleApplication.{Matches, Applies}
+use Rattle.published.specs.RuleApplication.{Exactly, Leaves, Arrives, Matches, Applies}
+use Rattle.published.specs.Degrees.{deleted-in, deleted-out}
 use Rattle.published.specs.SameMatch.{Agree}
 use Rattle.published.specs.Alike.{Calls}
 use Rattle.published.specs.Semantics.{comSeq, inOrder, followed}
@@ -138,6 +139,15 @@ rooted-cycle-is = refl
 legal : LegalRules (tree .rules)
 unfolding computing
 legal = program-legal image tree (bytes-by image refl) rooted-cycle-is refl
+
+-- red1 matches a lone root with a loop: one edge arrives at it and one leaves, the loop both times
+
+pub red1-degrees : (G : Graph) (m : Matches red1 G) → Exactly 1 (Arrives G (m .g .node 0)) × Exactly 1 (Leaves G (m .g .node 0))
+unfolding computing
+red1-degrees G m = (
+  deleted-in red1 (legal .0 .holds) G m 0 (omega arith) (omega arith),
+  deleted-out red1 (legal .0 .holds) G m 0 (omega arith) (omega arith),
+)
 
 -- Each rule is determined: the root, its edges, which the rule deletes with it, and their other ends.
 
