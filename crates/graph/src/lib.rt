@@ -4,7 +4,7 @@ ghost use Prim.Native.Nat.{_<_, _≤_};
 ghost use lib.ListN.{length, getD, drop};
 ghost use Rattle.meaning.specs.Basics.{exists, count};
 ghost use Rattle.meaning.specs.Layout.{Sized, lengthPlace, mostAtoms, readAtoms, liveAt, readNodes, readEdges, hostOf};
-ghost use Rattle.meaning.specs.Matching.{nodeAt, edgeAt, edgeRuns, inDegree, outDegree, edgeTouches};
+ghost use Rattle.meaning.specs.Matching.{nodeAt, edgeAt, edgeRuns, edgeLeaves, edgeArrives, inDegree, outDegree, edgeTouches};
 ghost use Rattle.labels.specs.Labels.{Holds};
 ghost use Rattle.slots.specs.Slots.{labelEnd};
 ghost use Rattle.graph.specs.Graph.{Legal, counts};
@@ -182,6 +182,30 @@ pub fn edge_runs(l: Layout, nodes: &[u8], edges: &[u8], s: usize, t: usize, x: u
     false
 }
 
+// Whether edge x is live and leaves slot s.
+fn edge_leaves(l: Layout, nodes: &[u8], edges: &[u8], s: usize, x: usize) -> bool
+    requires { ⌜ Legal l (now nodes) (now edges) ⌝ }
+    requires { ⌜ x < length (hostOf l (now nodes) (now edges) .edges) ⌝ }
+    ensures { λ r. ⌜ r ≡ edgeLeaves (hostOf l (now (nodes .entry)) (now (edges .entry))) s x ⌝ }
+{
+    if edge_live(l, nodes, edges, x) {
+        return edge_source(l, nodes, edges, x) == s;
+    }
+    false
+}
+
+// Whether edge x is live and arrives at slot t.
+fn edge_arrives(l: Layout, nodes: &[u8], edges: &[u8], t: usize, x: usize) -> bool
+    requires { ⌜ Legal l (now nodes) (now edges) ⌝ }
+    requires { ⌜ x < length (hostOf l (now nodes) (now edges) .edges) ⌝ }
+    ensures { λ r. ⌜ r ≡ edgeArrives (hostOf l (now (nodes .entry)) (now (edges .entry))) t x ⌝ }
+{
+    if edge_live(l, nodes, edges, x) {
+        return edge_target(l, nodes, edges, x) == t;
+    }
+    false
+}
+
 // What the edges do.
 
 // Whether some edge runs from slot s to slot t.
@@ -206,16 +230,12 @@ fn edge_counts(l: Layout, nodes: &[u8], edges: &[u8], which: Incidence, c: usize
     requires { ⌜ x < length (hostOf l (now nodes) (now edges) .edges) ⌝ }
     ensures { λ r. ⌜ r ≡ counts which (hostOf l (now (nodes .entry)) (now (edges .entry))) c x ⌝ }
 {
-    if edge_live(l, nodes, edges, x) {
-        let leaves = edge_source(l, nodes, edges, x) == c;
-        let arrives = edge_target(l, nodes, edges, x) == c;
-        return match which {
-            Incidence::Leaving => leaves,
-            Incidence::Arriving => arrives,
-            Incidence::Touching => leaves | arrives,
-        };
+    let leaves = edge_leaves(l, nodes, edges, c, x);
+    match which {
+        Incidence::Leaving => leaves,
+        Incidence::Arriving => edge_arrives(l, nodes, edges, c, x),
+        Incidence::Touching => leaves || edge_arrives(l, nodes, edges, c, x),
     }
-    false
 }
 
 // How many edges count at slot c.

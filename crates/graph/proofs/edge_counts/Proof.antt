@@ -1,45 +1,25 @@
--- `edge_counts` meets its contract: of a live edge it tells whether it leaves the slot and whether it arrives there, and the
--- definition's case asks for the one, the other or either; any other edge counts nowhere.
-use mathlib.Core.Path.{_≡_, refl, sym, _∙_}
-use mathlib.Core.Bool.{Bool, true, false, _||_}
+-- `edge_counts` meets its contract: the question of the definition's case. An edge touches a slot that it leaves or arrives at.
+use mathlib.Core.Path.{_≡_, refl}
+use mathlib.Core.Bool.{Bool, true, false}
 use Prim.Native.Nat.{ℕ}
 use borrow.Author.Needs.{needs}
-use denote.Ref.{now}
 use Rattle.meaning.specs.Basics.{both, either}
-use Rattle.meaning.specs.Layout.{Host, liveAt, hostOf}
+use Rattle.meaning.specs.Layout.{Host, liveAt}
 use Rattle.meaning.specs.Matching.{edgeLeaves, edgeArrives, edgeTouches}
-use Rattle.meaning.specs.Laws.Tests.{both-no}
-use Rattle.graph.specs.Graph.{counts}
-use Rattle.graph.specs.declared.Incidence.{Incidence}
-use Rattle.graph.specs.declared.Incidence.the-variants.{Leaving, Arriving, Touching}
 use Rattle.graph.proofs.edge_counts.Statement.{statement}
 use Rattle.graph.proofs.edge_counts.Tie as tie
 
--- t tells whether an edge is live
-module _ (t live : Bool) (told : t ≡ live) (taken : t ≡ true) where
-  one-end : (a : Bool) → a ≡ both live a
-  unfolding both
-  one-end a = rw (← told, taken)
+both-either : (live a b : Bool) → both live (either a b) ≡ either (both live a) (both live b)
+unfolding both either
+both-either true a b = refl
+both-either false a b = refl
 
-  either-end : (a b : Bool) → (a || b) ≡ both live (either a b)
-  unfolding either
-  either-end true b = one-end true
-  either-end false b = one-end b
+touches : (h : Host) (c x : ℕ) → edgeTouches h c x ≡ either (edgeLeaves h c x) (edgeArrives h c x)
+unfolding edgeTouches edgeLeaves edgeArrives
+touches h c x = both-either (liveAt (h .edges) x) _ _
 
-counts-free : (which : Incidence) (h : Host) (c x : ℕ) (t : Bool) → t ≡ liveAt (h .edges) x → t ≡ false → false ≡ counts which h c x
-unfolding edgeLeaves edgeArrives edgeTouches
-counts-free Leaving h c x t told left = sym (both-no _ _ (sym told ∙ left))
-counts-free Arriving h c x t told left = sym (both-no _ _ (sym told ∙ left))
-counts-free Touching h c x t told left = sym (both-no _ _ (sym told ∙ left))
-
-edge-live-requires : tie.Need-edge-live-requires
-edge-live-requires c κs = search needs
-
-edge-source-requires : tie.Need-edge-source-requires
-edge-source-requires c κs = search needs
-
-edge-target-requires : tie.Need-edge-target-requires
-edge-target-requires c κs = search needs
+edge-leaves-requires : tie.Need-edge-leaves-requires
+edge-leaves-requires c κs = search needs
 
 enum-told : tie.Need-enum-told
 enum-told c = search needs
@@ -47,44 +27,39 @@ enum-told c = search needs
 enum-told-2 : tie.Need-enum-told-2
 enum-told-2 c = search needs
 
+edge-arrives-requires : tie.Need-edge-arrives-requires
+edge-arrives-requires c κs = search needs
+
 enum-told-3 : tie.Need-enum-told-3
 enum-told-3 c = search needs
 
+edge-arrives-requires-2 : tie.Need-edge-arrives-requires-2
+edge-arrives-requires-2 c κs = search needs
+
 returns : tie.Need-returns
-unfolding edgeLeaves
-returns c =
-    let b = c .before .before .before in
-    rw (c .enum-told .given .1, b .edge-source .ensures) (one-end _ _ (b .before .before .edge-live .ensures) (b .before .if1 .taken) _)
+returns c = rw (c .enum-told .given .1) (c .before .before .edge-leaves .ensures)
 
 returns-2 : tie.Need-returns-2
-unfolding edgeArrives
-returns-2 c =
-    let b = c .before .before in
-    rw (c .enum-told2 .given .1, b .edge-target .ensures)
-    (one-end _ _ (b .before .before .before .edge-live .ensures) (b .before .before .if1 .taken) _)
+returns-2 c = rw (c .before .enum-told2 .given .1) (c .edge-arrives .ensures)
 
 returns-3 : tie.Need-returns-3
-unfolding edgeTouches
-returns-3 c =
-    let b = c .before .before in
-    rw (c .enum-told3 .given .1, b .before .edge-source .ensures, b .edge-target .ensures)
-    (either-end _ _ (b .before .before .before .edge-live .ensures) (b .before .before .if1 .taken) _ _)
+unfolding either
+returns-3 c = rw (c .before .enum-told3 .given .1, touches, ← (c .before .before .before .edge-leaves .ensures), c .if1 .taken)
 
 returns-4 : tie.Need-returns-4
-returns-4 c =
-    let a = c .before .before .before .before .args in
-    counts-free (a .which) (hostOf (a .l) (now (a .nodes)) (now (a .edges))) (a .c) (a .x) _ (c .before .edge-live .ensures) (c .if1 .left)
+unfolding either
+returns-4 c = rw (c .before .before .enum-told3 .given .1, touches, ← (c .before .before .before .before .edge-leaves .ensures), c .before .if1 .left) (c .edge-arrives2 .ensures)
 
 pub edge-counts-spec : {M : Type 1} → statement M
 edge-counts-spec =
     tie.close
     (tie.spec
-    edge-live-requires
-    edge-source-requires
-    edge-target-requires
+    edge-leaves-requires
     enum-told
     enum-told-2
+    edge-arrives-requires
     enum-told-3
+    edge-arrives-requires-2
     returns
     returns-2
     returns-3
