@@ -101,6 +101,7 @@ module _ (h : Host) where
   unfoldable pub edgeArrives : ℕ → ℕ → Bool
   edgeArrives t x = both (liveAt (h .edges) x) (eqb (edgeAt h x .target) t)
 
+  -- how many edges leave node slot s, and how many arrive at t; a loop is one of each
   unfoldable pub outDegree : ℕ → ℕ
   outDegree s = count (edgeLeaves s) (length (h .edges))
 

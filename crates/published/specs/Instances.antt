@@ -1,5 +1,5 @@
--- Programs that can come to one thing only, from the bytes of their images, each on the graphs that have an invariant of its own; and why
--- an invariant is needed. Rests on OnlyOutcome.
+-- Programs that can come to one thing only, from the bytes of their images, each on the graphs that have an invariant of its own; why
+-- an invariant is needed; and a program whose rules match where those of another do. Rests on OnlyOutcome and Degrees.
 pub mod RedRoot
 pub mod TwoRoots
 pub mod Walk
@@ -7,6 +7,7 @@ pub mod IsDiscrete
 pub mod IsDiscreteLabelled
 pub mod CaseP
 pub mod RootedCycle
+pub mod CycleByDegrees
 pub mod Chains
 pub mod IsTree
 pub mod OneEdgeMore

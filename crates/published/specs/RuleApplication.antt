@@ -113,6 +113,7 @@ pub record Exactly (n : ℕ) (P : ℕ → Type 0) : Type 0 where
   pub each : (i : ℕ) → i < n → P (getD list i 0)
   pub all : (x : ℕ) → P x → (i : ℕ) × (i < n) × (getD list i 0 ≡ x)
 
+-- edge e leaves node v; it arrives there. A loop does both
 abbrev pub Leaves : Graph → ℕ → ℕ → Type 0
 Leaves G v e = Edge G e × (G .source e ≡ v)
 
