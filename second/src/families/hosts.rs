@@ -90,7 +90,9 @@ pub fn is_discrete() -> Runs {
 }
 
 pub fn is_cycle() -> Runs {
-    cycles_and_others("is-cycle")
+    let mut runs = cycles_and_others("is-cycle");
+    runs.add_too_large("cycle of 200", Graph::cycle(200));
+    runs
 }
 
 pub fn is_cycle_by_degrees() -> Runs {
@@ -105,7 +107,6 @@ fn cycles_and_others(program: &str) -> Runs {
     for seed in 0..3 {
         runs.add(format!("shuffled cycle {seed}"), Graph::cycle(20).shuffled(seed).labelled(seed));
     }
-    runs.add_too_large("cycle of 200", Graph::cycle(200));
     runs.add("empty", Graph::empty());
     runs.add("one node", Graph::discrete(1));
     runs.add("list of 8", Graph::list(8));
