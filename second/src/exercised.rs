@@ -21,7 +21,7 @@ pub struct Exercised {
     /// Tests that did not hold, negation included.
     pub tests_false: TestCounts,
     pub negated_tests: u64,
-    /// In-degree tests of nodes with loops that ask for the number of their place, and negated ones.
+    /// In-degree tests of nodes with loops, by the number from 0 that they ask for: plain ones, then negated ones.
     pub in_degree_at_loops: [u64; 3],
     pub not_in_degree_at_loops: [u64; 3],
     /// Elements of right labels that were evaluated.
@@ -104,8 +104,9 @@ impl Exercised {
             false => &mut self.in_degree_at_loops,
         };
         if let TestKind::InDegree(_, number) = test.kind {
-            let count = counts.get_mut(usize::from(number));
-            count.into_iter().for_each(|count| *count += 1);
+            if let Some(count) = counts.get_mut(usize::from(number)) {
+                *count += 1;
+            }
         }
     }
 
