@@ -5,7 +5,7 @@
 use mathlib.Core.Path.{_≡_, sym, _∙_, ap}
 use mathlib.Core.Logic.{_↔_, inl, inr}
 use mathlib.Core.Bool.{Bool, true, false}
-use mathlib.Core.List.{_∷_, map}
+use mathlib.Core.List.{List, _∷_, map}
 use Prim.Native.Nat.{ℕ, _<_, _≤_}
 use borrow.Author.Tests.{eq-eqb, eqb-true}
 use lib.Dec.{eqb}
@@ -16,8 +16,9 @@ use Rattle.meaning.specs.References.{ruleHolds}
 use Rattle.laws.specs.Pieces.{getD-map}
 use Rattle.laws.specs.References.{ends}
 use Rattle.meaning.specs.declared.Condition.the-variants.{InDegree, OutDegree}
+use Rattle.meaning.specs.declared.Test.{Test}
 use Rattle.published.specs.Graphs.{Graph, Edge}
-use Rattle.published.specs.RuleApplication.{edgeOf, Incident, Exactly, Leaves, Arrives, Matches}
+use Rattle.published.specs.RuleApplication.{edgeOf, Incident, Exactly, Leaves, Arrives, True, Matches}
 use Rattle.published.specs.Application.Conditions.{passing, Passing, passing-all}
 
 -- the edges of L that arrive at its node j, and those that leave it
@@ -66,38 +67,35 @@ module _ (r : Rule) (holds : ruleHolds r ≡ true) (G : Graph) (m : Matches r G)
     pub deleted-out : Exactly (leftOut r j) (Leaves G (m .g .node j))
     deleted-out = ends-exactly (G .source) _ (λ e. inl) (m .g .sources) (λ k h. ends r holds k h .0)
 
+-- r with other tests
+abbrev withTests : Rule → List Test → Rule
+withTests r t =
+    record { variables = r .variables; left = r .left; right = r .right; interface = r .interface; tests = t }
+
+-- a match of r, if these are true there
+retested : (r : Rule) (t : List Test) (G : Graph) (m : Matches r G) → True G (m .g .node) (m .α .of) t → Matches (withTests r t) G
+retested r t G m c =
+    record {
+      g = m .g;
+      injective = m .injective;
+      α = record { of = m .α .of; ints = m .α .ints };
+      compatible = m .compatible;
+      dangling = m .dangling;
+      condition = c;
+    }
+
 -- r with a condition more: node j has the degrees that it has in L
 abbrev pub asking : Rule → ℕ → Rule
 asking r j =
-    record {
-      variables = r .variables;
-      left = r .left;
-      right = r .right;
-      interface = r .interface;
-      tests =
-          record { negated = false; condition = InDegree j (leftIn r j) }
-          ∷ record { negated = false; condition = OutDegree j (leftOut r j) }
-          ∷ r .tests;
-    }
+    withTests r
+    (record { negated = false; condition = InDegree j (leftIn r j) }
+    ∷ record { negated = false; condition = OutDegree j (leftOut r j) }
+    ∷ r .tests)
 
 -- it has the matches of r, if r deletes node j
 pub asking-same : (r : Rule) → ruleHolds r ≡ true → (j : ℕ) → r .interface ≤ j → j < length (r .left .nodes) → (G : Graph)
     → Matches r G ↔ Matches (asking r j) G
 asking-same r holds j deleted there G = (
-  λ m. record {
-    g = m .g;
-    injective = m .injective;
-    α = record { of = m .α .of; ints = m .α .ints };
-    compatible = m .compatible;
-    dangling = m .dangling;
-    condition = (deleted-in r holds G m j deleted there, (deleted-out r holds G m j deleted there, m .condition));
-  },
-  λ m. record {
-    g = m .g;
-    injective = m .injective;
-    α = record { of = m .α .of; ints = m .α .ints };
-    compatible = m .compatible;
-    dangling = m .dangling;
-    condition = m .condition .1 .1;
-  },
+  λ m. retested r _ G m (deleted-in r holds G m j deleted there, (deleted-out r holds G m j deleted there, m .condition)),
+  λ m. retested (asking r j) (r .tests) G m (m .condition .1 .1),
 )
