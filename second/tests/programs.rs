@@ -141,7 +141,7 @@ fn every_program_has_hosts_for_either_answer() {
     }
 }
 
-/// The rule loop of is-tree never matches, as its text says.
+/// The rule loop of is-tree never matches on its input, as its text says.
 const NEEDED_BY_NONE: (&str, usize) = ("is-tree", 5);
 
 /// With any one rule of a program kept from matching, a run on one of its hosts goes another way.

@@ -44,11 +44,15 @@ returns-2 c = rw (c .before .enum-told2 .given .1) (c .edge-arrives .ensures)
 
 returns-3 : tie.Need-returns-3
 unfolding either
-returns-3 c = rw (c .before .enum-told3 .given .1, touches, ← (c .before .before .before .edge-leaves .ensures), c .if1 .taken)
+returns-3 c =
+    let b = c .before in
+    rw (b .enum-told3 .given .1, touches, ← (b .before .before .edge-leaves .ensures), c .if1 .taken)
 
 returns-4 : tie.Need-returns-4
 unfolding either
-returns-4 c = rw (c .before .before .enum-told3 .given .1, touches, ← (c .before .before .before .before .edge-leaves .ensures), c .before .if1 .left) (c .edge-arrives2 .ensures)
+returns-4 c =
+    let b = c .before .before in
+    rw (b .enum-told3 .given .1, touches, ← (b .before .before .edge-leaves .ensures), c .before .if1 .left) (c .edge-arrives2 .ensures)
 
 pub edge-counts-spec : {M : Type 1} → statement M
 edge-counts-spec =
