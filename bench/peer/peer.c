@@ -296,10 +296,18 @@ static int rule_fine(const struct rule *r)
     return used == known && known < 1u << 8;
 }
 
+/* The tag of a guarded command, which has a byte before its three commands: 1 where a successful guard's changes stay, or 0. */
+enum { GUARDED = 0x59 };
+
+static int is_command(int tag)
+{
+    return tag == 0x50 || tag == 0x51 || (tag >= 0x54 && tag <= 0x57) || tag == GUARDED;
+}
+
 /* Commands: form, rule numbers and breaks, in one walk. */
 static void read_command(int tag, struct reader p, const struct program *q, int depth, int in_loop, struct faults *f)
 {
-    if (depth > 16 || tag < 0x50 || tag > 0x57) {
+    if (depth > 16 || !is_command(tag)) {
         f->form = 1;
         return;
     }
@@ -310,16 +318,20 @@ static void read_command(int tag, struct reader p, const struct program *q, int 
             f->references |= *p.at >= q->rules;
         return;
     }
-    if (tag >= 0x55) {
+    if (tag >= 0x55 && tag <= 0x57) {
         f->form |= left(&p) > 0;
         f->placement |= tag == 0x57 && !in_loop;
+        return;
+    }
+    if (tag == GUARDED && (left(&p) == 0 || *p.at++ > 1)) {
+        f->form = 1;
         return;
     }
     unsigned n = 0;
     while (left(&p) > 0 && !f->form) {
         struct reader part;
         int inner = next(&p, &part);
-        int loop = tag == 0x54 ? 1 : tag != 0x51 && n == 0 ? 0 : in_loop;
+        int loop = tag == 0x54 ? 1 : tag == GUARDED && n == 0 ? 0 : in_loop;
         read_command(inner, part, q, depth + 1, loop, f);
         n++;
     }
@@ -839,7 +851,7 @@ static unsigned call(struct run *run, const uint8_t *rules, size_t n)
 static unsigned command(struct run *run, const uint8_t *p)
 {
     size_t n = number(p + 1, 2);
-    const uint8_t *body = p + 3, *end = body + n, *second, *third;
+    const uint8_t *body = p + 3, *end = body + n, *first, *second, *third;
     unsigned mark = run->host.records, e;
     if (run->fuel == 0)
         return 2;
@@ -853,14 +865,14 @@ static unsigned command(struct run *run, const uint8_t *p)
             if ((e = command(run, body)) != DONE)
                 return e;
         return DONE;
-    case 0x52:
-    case 0x53:
-        second = body + 3 + number(body + 1, 2);
+    case GUARDED:
+        first = body + 1;
+        second = first + 3 + number(first + 1, 2);
         third = second + 3 + number(second + 1, 2);
-        e = command(run, body);
+        e = command(run, first);
         if (e != DONE && e != FAILED)
             return e;
-        if (e == FAILED || p[0] == 0x52)
+        if (e == FAILED || body[0] == 0)
             undo_to(&run->host, mark);
         return command(run, e == DONE ? second : third);
     case 0x54:

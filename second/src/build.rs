@@ -55,10 +55,21 @@ pub fn looped(body: Command) -> Command {
     Command::Loop(Box::new(body))
 }
 
+/// A guarded command that undoes its guard's changes.
 pub fn if_command(guard: Command, then: Command, other: Command) -> Command {
-    Command::If(Box::new(guard), Box::new(then), Box::new(other))
+    guarded(false, guard, then, other)
 }
 
+/// A guarded command that keeps a successful guard's changes.
 pub fn try_command(guard: Command, then: Command, other: Command) -> Command {
-    Command::Try(Box::new(guard), Box::new(then), Box::new(other))
+    guarded(true, guard, then, other)
+}
+
+pub fn guarded(keep: bool, guard: Command, then: Command, other: Command) -> Command {
+    Command::Guarded {
+        keep,
+        guard: Box::new(guard),
+        then: Box::new(then),
+        other: Box::new(other),
+    }
 }

@@ -70,8 +70,12 @@ impl Run<'_> {
         match command {
             Command::RuleSet(numbers) => self.rule_set(numbers, state),
             Command::Sequence(parts) => self.sequence(parts, state),
-            Command::If(guard, then, other) => self.if_command(guard, then, other, state),
-            Command::Try(guard, then, other) => self.try_command(guard, then, other, state),
+            Command::Guarded {
+                keep,
+                guard,
+                then,
+                other,
+            } => self.guarded(*keep, [guard, then, other], state),
             Command::Loop(body) => self.loop_command(body, state),
             Command::Skip => Ending::Success(state),
             Command::Fail => Ending::Fail,
@@ -105,42 +109,20 @@ impl Run<'_> {
         Ending::Success(state)
     }
 
-    /// The guard's changes are undone, then the second command runs if it succeeded, else the third.
-    fn if_command(
-        &mut self,
-        guard: &Command,
-        then: &Command,
-        other: &Command,
-        state: State,
-    ) -> Ending {
-        let next = match self.attempt(guard, &state) {
-            Ending::Success(_) | Ending::Break(_) => then,
-            Ending::Fail => other,
+    /// The second command runs if the guard succeeded, else the third. A successful guard's changes stay where `keep`
+    /// says so; all others are undone first.
+    fn guarded(&mut self, keep: bool, parts: [&Command; 3], state: State) -> Ending {
+        let [guard, then, other] = parts;
+        let (next, kept) = match self.attempt(guard, &state) {
+            Ending::Success(after) | Ending::Break(after) => (then, keep.then_some(after)),
+            Ending::Fail => (other, None),
             Ending::Stop(answer) => return Ending::Stop(answer),
         };
-        self.observer.sees(Event::GuardUndone);
-        self.command(next, state)
-    }
-
-    /// The same, but a successful guard's changes stay.
-    fn try_command(
-        &mut self,
-        guard: &Command,
-        then: &Command,
-        other: &Command,
-        state: State,
-    ) -> Ending {
-        match self.attempt(guard, &state) {
-            Ending::Success(after) | Ending::Break(after) => {
-                self.observer.sees(Event::Kept);
-                self.command(then, after)
-            }
-            Ending::Fail => {
-                self.observer.sees(Event::GuardUndone);
-                self.command(other, state)
-            }
-            Ending::Stop(answer) => Ending::Stop(answer),
-        }
+        self.observer.sees(match kept {
+            Some(_) => Event::Kept,
+            None => Event::GuardUndone,
+        });
+        self.command(next, kept.unwrap_or(state))
     }
 
     /// A failing body is undone back to that iteration's start and the loop succeeds; a break keeps the

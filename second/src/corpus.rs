@@ -44,7 +44,7 @@ pub const IMAGE_TAG: u8 = 0x06;
 
 /// The seed of the stored corpus, and how many of its images come from there.
 pub const STORED_SEED: u64 = 1;
-pub const STORED_COUNT: u64 = 2302;
+pub const STORED_COUNT: u64 = 2338;
 
 /// One image among so many is a large one.
 const LARGE_EVERY: u64 = 200;

@@ -1,6 +1,7 @@
-//! Reading a program image into its tree: the *form* of document 01, with every limit. An image of any
-//! length is read; that it has at most 8,192 bytes is asked by the call.
+//! Reading a program image into its tree: the *form* of document 01, but with if and try as one guarded command, and with
+//! every limit. An image of any length is read; that it has at most 8,192 bytes is asked by the call.
 
+use crate::build;
 use crate::tree::*;
 
 /// Where an image leaves the form.
@@ -14,15 +15,33 @@ pub struct Damage {
     pub expected: String,
 }
 
-type Read<T> = Result<T, Damage>;
+pub type Read<T> = Result<T, Damage>;
 
-/// The tree of an image: 0 to 32 rules, one command, nothing behind it.
+/// What a form of images says of guarded commands, in which alone forms differ.
+pub struct Form {
+    /// The commands that there are, in words.
+    pub commands: &'static str,
+    /// Whether a guarded command that stands next keeps a successful guard's changes, and a reader of its three commands.
+    pub guarded: for<'a> fn(&mut Reader<'a>) -> Read<Option<(bool, Reader<'a>)>>,
+}
+
+const TODAY: Form = Form {
+    commands: "a command: tag 0x50, 0x51, 0x54 to 0x57, or 0x59",
+    guarded,
+};
+
+/// The tree of an image.
 pub fn program(image: &[u8]) -> Read<Program> {
+    program_of(image, &TODAY)
+}
+
+/// The tree of an image of this form: 0 to 32 rules, one command, nothing behind it.
+pub fn program_of(image: &[u8], form: &Form) -> Read<Program> {
     let mut reader = Reader::whole(image);
     let is_rule = |reader: &Reader| reader.tag() == Some(0x10);
     let most = "at most 32 rules, then a command";
     let rules = reader.items(is_rule, limit::RULES, most, rule)?;
-    let main = command(&mut reader, 1)?;
+    let main = command(&mut reader, 1, form)?;
     reader.ended("nothing behind the command")?;
     Ok(Program { rules, main })
 }
@@ -205,26 +224,21 @@ fn negation(reader: &mut Reader) -> Read<bool> {
     Ok(reader.byte_in(0..=1, "a negation: 0 or 1")? == 1)
 }
 
-fn command(reader: &mut Reader, depth: usize) -> Read<Command> {
+fn command(reader: &mut Reader, depth: usize, form: &Form) -> Read<Command> {
     if depth > limit::DEPTH {
         return Err(reader.damage("commands of depth 16 at most"));
     }
+    if let Some((keep, parts)) = (form.guarded)(reader)? {
+        return guarded_command(keep, parts, depth, form);
+    }
     match reader.tag() {
         Some(0x50) => rule_set(reader),
-        Some(0x51) => sequence(reader, depth),
-        Some(0x52) => {
-            let [guard, then, other] = three_commands(reader, depth, 0x52, "if")?;
-            Ok(Command::If(guard, then, other))
-        }
-        Some(0x53) => {
-            let [guard, then, other] = three_commands(reader, depth, 0x53, "try")?;
-            Ok(Command::Try(guard, then, other))
-        }
-        Some(0x54) => loop_command(reader, depth),
+        Some(0x51) => sequence(reader, depth, form),
+        Some(0x54) => loop_command(reader, depth, form),
         Some(0x55) => empty_command(reader, 0x55, "skip", Command::Skip),
         Some(0x56) => empty_command(reader, 0x56, "fail", Command::Fail),
         Some(0x57) => empty_command(reader, 0x57, "break", Command::Break),
-        _ => Err(reader.damage("a command: tag 0x50 to 0x57")),
+        _ => Err(reader.damage(form.commands)),
     }
 }
 
@@ -236,31 +250,36 @@ fn rule_set(reader: &mut Reader) -> Read<Command> {
     Ok(Command::RuleSet(set))
 }
 
-fn sequence(reader: &mut Reader, depth: usize) -> Read<Command> {
+fn sequence(reader: &mut Reader, depth: usize, form: &Form) -> Read<Command> {
     let mut parts = reader.field(0x51, "sequence")?;
-    let part = |parts: &mut Reader| command(parts, depth + 1);
+    let part = |parts: &mut Reader| command(parts, depth + 1, form);
     let mut commands = vec![part(&mut parts)?];
     commands.extend(parts.rest(limit::COMMANDS - 1, "at most 16 commands", part)?);
     Ok(Command::Sequence(commands))
 }
 
-fn three_commands(
-    reader: &mut Reader,
-    depth: usize,
-    tag: u8,
-    words: &'static str,
-) -> Read<[Box<Command>; 3]> {
-    let mut parts = reader.field(tag, words)?;
-    let guard = command(&mut parts, depth + 1)?;
-    let then = command(&mut parts, depth + 1)?;
-    let other = command(&mut parts, depth + 1)?;
-    parts.ended("three commands and nothing more")?;
-    Ok([Box::new(guard), Box::new(then), Box::new(other)])
+/// One byte, then the three commands.
+fn guarded<'a>(reader: &mut Reader<'a>) -> Read<Option<(bool, Reader<'a>)>> {
+    if reader.tag() != Some(0x59) {
+        return Ok(None);
+    }
+    let mut parts = reader.field(0x59, "guarded command")?;
+    let expected = "1 where a successful guard's changes stay, or 0";
+    let keep = parts.byte_in(0..=1, expected)? == 1;
+    Ok(Some((keep, parts)))
 }
 
-fn loop_command(reader: &mut Reader, depth: usize) -> Read<Command> {
+fn guarded_command(keep: bool, mut parts: Reader, depth: usize, form: &Form) -> Read<Command> {
+    let guard = command(&mut parts, depth + 1, form)?;
+    let then = command(&mut parts, depth + 1, form)?;
+    let other = command(&mut parts, depth + 1, form)?;
+    parts.ended("three commands and nothing more")?;
+    Ok(build::guarded(keep, guard, then, other))
+}
+
+fn loop_command(reader: &mut Reader, depth: usize, form: &Form) -> Read<Command> {
     let mut parts = reader.field(0x54, "loop")?;
-    let body = command(&mut parts, depth + 1)?;
+    let body = command(&mut parts, depth + 1, form)?;
     parts.ended("one command and nothing more")?;
     Ok(Command::Loop(Box::new(body)))
 }
@@ -277,7 +296,7 @@ fn empty_command(
 }
 
 /// A stretch of the image with a place in it, and the words for the field that it belongs to.
-struct Reader<'a> {
+pub struct Reader<'a> {
     image: &'a [u8],
     at: usize,
     end: usize,
@@ -307,7 +326,7 @@ impl<'a> Reader<'a> {
     }
 
     /// The tag that stands next, if any byte does.
-    fn tag(&self) -> Option<u8> {
+    pub fn tag(&self) -> Option<u8> {
         self.image[self.at..self.end].first().copied()
     }
 
@@ -375,7 +394,7 @@ impl<'a> Reader<'a> {
 
     /// A reader of the payload of the field with this tag, which must stand next and end inside this
     /// stretch.
-    fn field(&mut self, tag: u8, words: &'static str) -> Read<Reader<'a>> {
+    pub fn field(&mut self, tag: u8, words: &'static str) -> Read<Reader<'a>> {
         if self.tag() != Some(tag) {
             return Err(self.damage(&format!("a field with tag {tag:#04x}, {words}")));
         }

@@ -107,8 +107,10 @@ pub fn command(tree: &Command) -> Vec<u8> {
     match tree {
         Command::RuleSet(numbers) => field(0x50, numbers),
         Command::Sequence(parts) => field(0x51, &parts.iter().flat_map(command).collect::<Vec<u8>>()),
-        Command::If(a, b, c) => field(0x52, &[command(a), command(b), command(c)].concat()),
-        Command::Try(a, b, c) => field(0x53, &[command(a), command(b), command(c)].concat()),
+        Command::Guarded { keep, guard, then, other } => {
+            let keep = vec![u8::from(*keep)];
+            field(0x59, &[keep, command(guard), command(then), command(other)].concat())
+        }
         Command::Loop(body) => field(0x54, &command(body)),
         Command::Skip => field(0x55, &[]),
         Command::Fail => field(0x56, &[]),

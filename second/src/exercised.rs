@@ -7,6 +7,9 @@ use crate::tree::{mark, Command, Element, Relation, Rule, Test, TestKind, Variab
 pub struct Exercised {
     pub steps: u64,
     pub applications: u64,
+    /// Guarded commands entered: those that undo their guard's changes, and those that keep a successful guard's.
+    pub ifs: u64,
+    pub tries: u64,
     /// Guards given back after a rule was applied in them.
     pub guards_undone: u64,
     /// Failing loop bodies given back after a rule was applied in them.
@@ -75,7 +78,12 @@ impl Observer for Exercised {
 impl Exercised {
     fn entered(&mut self, command: &Command) {
         self.steps += 1;
-        self.breaks += u64::from(*command == Command::Break);
+        match command {
+            Command::Guarded { keep: false, .. } => self.ifs += 1,
+            Command::Guarded { keep: true, .. } => self.tries += 1,
+            Command::Break => self.breaks += 1,
+            _ => {}
+        }
     }
 
     /// Whether a rule was applied in the guard or body that began last, which has ended.
@@ -175,6 +183,17 @@ mod tests {
             GuardUndone,
         ]);
         assert_eq!((outer.guards_undone, outer.bodies_undone), (1, 0));
+    }
+
+    #[test]
+    fn guarded_commands_count_by_whether_they_keep() {
+        use crate::build::{if_command, try_command};
+        use Command::Skip;
+        let (undoing, keeping) = (if_command(Skip, Skip, Skip), try_command(Skip, Skip, Skip));
+        let entered = [&undoing, &keeping, &keeping, &Skip].map(Event::Entered);
+        let exercised = seen(&entered);
+        assert_eq!((exercised.ifs, exercised.tries), (1, 2));
+        assert_eq!((exercised.steps, exercised.breaks), (4, 0));
     }
 
     #[test]

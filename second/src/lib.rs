@@ -28,6 +28,7 @@ pub mod placement;
 pub mod references;
 
 // The text tools.
+pub mod old_form;
 pub mod text;
 
 // Inputs made by a seeded generator.

@@ -1,4 +1,4 @@
-//! The *placement* of break: each break lies in a loop body with no if or try guard between them.
+//! The *placement* of break: each break lies in a loop body with no guard between them.
 
 use crate::tree::{Command, Program};
 
@@ -12,7 +12,9 @@ fn breaks_are_placed(command: &Command, in_body: bool) -> bool {
     match command {
         Command::Break => in_body,
         Command::Loop(body) => breaks_are_placed(body, true),
-        Command::If(guard, then, other) | Command::Try(guard, then, other) => {
+        Command::Guarded {
+            guard, then, other, ..
+        } => {
             breaks_are_placed(guard, false)
                 && breaks_are_placed(then, in_body)
                 && breaks_are_placed(other, in_body)

@@ -37,7 +37,9 @@ pub fn named_rules_exist(command: &Command, rules: usize) -> Result<(), String> 
         Command::Sequence(parts) => parts
             .iter()
             .try_for_each(|part| named_rules_exist(part, rules)),
-        Command::If(a, b, c) | Command::Try(a, b, c) => [a, b, c]
+        Command::Guarded {
+            guard, then, other, ..
+        } => [guard, then, other]
             .into_iter()
             .try_for_each(|part| named_rules_exist(part, rules)),
         Command::Loop(body) => named_rules_exist(body, rules),

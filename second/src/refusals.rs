@@ -5,6 +5,7 @@ mod form;
 mod form_of_commands;
 mod form_of_graphs;
 mod form_of_tests;
+mod full_images;
 mod placement;
 mod programs;
 mod references;
@@ -63,8 +64,10 @@ pub fn of_run() -> Vec<Refusal<RunCall>> {
     let mut refusals = tables::lengths();
     refusals.extend(tables::fuel());
     refusals.extend(programs::image_length());
+    refusals.push(full_images::image_length());
     refusals.extend(tables::layout());
     refusals.extend(programs::refusals(16, form::images_of_form()));
+    refusals.push(full_images::old_form());
     refusals.extend(programs::refusals(17, references::images_of_references()));
     refusals.extend(programs::refusals(18, placement::images_of_placement()));
     refusals

@@ -117,8 +117,8 @@ fn hexadecimal(bytes: &[u8]) -> String {
     })
 }
 
-/// Calls of run: refused ones, then their accepted twins and drawn ones, the shortest first, as many as are read. The line of a case is the number that refuses it, 0
-/// where the run starts.
+/// Calls of run: refused ones, then their accepted twins and drawn ones, the shortest first, each once and as many as are read. The
+/// line of a case is the number that refuses it, 0 where the run starts.
 pub fn refusal_cases() -> Stored {
     let mut calls: Vec<RunCall> = Vec::new();
     for refusal in refusals::of_run() {
@@ -126,7 +126,11 @@ pub fn refusal_cases() -> Stored {
         calls.push(refusal.refused);
     }
     calls.extend(drawn_calls());
-    calls.sort_by_key(|call| (run_case(call).len() > 9_000, refused_by(call) == 0, run_case(call).len()));
+    calls.sort_by_cached_key(|call| {
+        let case = run_case(call);
+        (case.len() > 9_000, refused_by(call) == 0, case.len(), case)
+    });
+    calls.dedup();
     let mut stdin = Vec::new();
     let mut stdout = String::new();
     for call in &calls {

@@ -116,8 +116,14 @@ pub enum Relation {
 pub enum Command {
     RuleSet(Vec<u8>),
     Sequence(Vec<Command>),
-    If(Box<Command>, Box<Command>, Box<Command>),
-    Try(Box<Command>, Box<Command>, Box<Command>),
+    /// An if or a try.
+    Guarded {
+        /// Whether a successful guard's changes stay: they do in a try, in an if they are undone.
+        keep: bool,
+        guard: Box<Command>,
+        then: Box<Command>,
+        other: Box<Command>,
+    },
     Loop(Box<Command>),
     Skip,
     Fail,

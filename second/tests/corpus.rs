@@ -164,6 +164,28 @@ fn a_corpus_begins_with_the_cases() {
     assert!(last.ends_with(graph), "case P gives\n{last}");
 }
 
+/// Guarded commands as the drawn images have them: with a byte other than 0 and 1, and with a tag that no command has.
+#[test]
+fn drawn_images_have_damaged_guarded_commands() {
+    let drawn = images(SEED, fixed_count() + 3000).split_off(fixed_count() as usize);
+    let inputs = drawn.iter().filter_map(|image| read_input(image));
+    let programs: Vec<Vec<u8>> = inputs.map(|input| input.program).collect();
+    let damages = |found: &dyn Fn(&decode::Damage, &[u8]) -> bool| {
+        let damaged = |program: &&Vec<u8>| {
+            decode::program(program).is_err_and(|damage| found(&damage, program))
+        };
+        programs.iter().filter(damaged).count()
+    };
+    let bad_byte =
+        damages(&|damage, _| damage.expected.starts_with("1 where a successful guard's"));
+    let bad_tag = damages(&|damage, program| {
+        let tag = program.get(damage.at);
+        damage.expected.starts_with("a command: ")
+            && tag.is_some_and(|tag| [0x52, 0x53, 0x58, 0x5A].contains(tag))
+    });
+    assert!(bad_byte >= 2 && bad_tag >= 2, "{bad_byte} {bad_tag}");
+}
+
 #[test]
 fn an_image_depends_on_its_seed_and_index_alone() {
     let index = fixed_count() + 5;

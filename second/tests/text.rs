@@ -20,6 +20,8 @@ mod refused_conditions;
 mod refused_programs;
 #[path = "text/refused_rules.rs"]
 mod refused_rules;
+#[path = "text/renewing.rs"]
+mod renewing;
 #[path = "text/round_trips.rs"]
 mod round_trips;
 #[path = "text/rules.rs"]

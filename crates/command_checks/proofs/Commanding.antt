@@ -6,22 +6,22 @@ use mathlib.Core.Option.{some, none}
 use mathlib.Core.List.{List, [], _∷_}
 use Prim.Native.Nat.{ℕ, suc, _+_, _-_, _<_, _≤_}
 use native.Mathlib.Omega.{arith}
-use native.Mathlib.Decide.{ℕ-discrete}
 use native.Mathlib.Numerals.{add-one}
 use lib.ListN.{length, getD, take, drop, drop-of-length-le}
 use lib.Seq.{drop-cons}
 use lib.Dec.{ltb}
 use Rattle.meaning.specs.Basics.{both, every, isEmpty, ensure, _>>_, _>>=_}
+use Rattle.meaning.specs.Tags.{ruleSetTag, sequenceTag, loopTag, breakTag, guardedTag}
 use Rattle.meaning.specs.Image.{Command, ruleSet, sequence, guarded, loop, skip, fail, break, Commands, noMore, then, field, leading, only, passesAll, inOrder, command, Program}
 use Rattle.meaning.specs.References.{rulesExist, allRulesExist}
 use Rattle.meaning.specs.Placement.{breaksLie, allBreaksLie, placement}
 use Rattle.meaning.specs.Laws.Tests.{both-yes, both-no, both-last, choose-eq, choose-ne}
-use Rattle.fields.specs.Parsed.{command-tag, rule-set-read, sequence-read, if-read, try-read, loop-read, skip-read, fail-read, break-read}
-use Rattle.fields.specs.Laws.{Lies, past}
+use Rattle.fields.specs.Parsed.{tagOf, command-tag, rule-set-read, sequence-read, guarded-read, loop-read, skip-read, fail-read, break-read}
+use Rattle.fields.specs.Laws.{Lies}
 use Rattle.command_checks.specs.declared.Demand.{Demand}
 use Rattle.command_checks.specs.declared.Demand.the-variants.{Rules, Breaks}
 use Rattle.parts.specs.Series.{For, Series, only-series, series-none, series-some, series-there}
-use Rattle.command_checks.specs.Asked.{numbersAsked, breakAsked, inBody, inGuard, commandAsked, commandsAsked, partsAsked, ofFirst}
+use Rattle.command_checks.specs.Asked.{numbersAsked, breakAsked, inBody, inGuard, commandAsked, commandsAsked, partsAsked, ofFirst, innerOf}
 
 -- The two demands.
 
@@ -68,64 +68,64 @@ empty-parts : (n : ℕ) → only passesAll (command n) 16 [] ≡ some []
 unfolding only leading _>>=_ ensure _>>_ isEmpty
 empty-parts n = refl
 
-behind-all : {t : ℕ} → t ≤ 0x57 → 0x58 ≤ t → ⊥
-behind-all h k = omega arith
-
 module _ (d : Demand) (n tag : ℕ) (bs : List ℕ) where
   pub no-depth : (r : Bool) → n ≡ 0 → For (command n tag bs) (λ c. r ≡ commandAsked d c)
   no-depth r h c e = absurd (omega (arith, command-tag n tag bs c e .0))
 
-  rule-set-is : (r : Bool) → r ≡ numbersAsked d bs → tag ≡ 0x50 → For (command (suc n) tag bs) (λ c. r ≡ commandAsked d c)
+  rule-set-is : (r : Bool) → r ≡ numbersAsked d bs → tag ≡ ruleSetTag → For (command (suc n) tag bs) (λ c. r ≡ commandAsked d c)
   unfolding commandAsked
   rule-set-is r q h c e = rw (rule-set-read n tag bs c e h .0) q
 
-  break-is : (r : Bool) → r ≡ breakAsked d → tag ≡ 0x57 → For (command (suc n) tag bs) (λ c. r ≡ commandAsked d c)
+  break-is : (r : Bool) → r ≡ breakAsked d → tag ≡ breakTag → For (command (suc n) tag bs) (λ c. r ≡ commandAsked d c)
   unfolding commandAsked
   break-is r q h c e = rw (break-read n tag bs c e h .1) q
 
-  module _ (r : Bool) (q : For (only passesAll (command n) 16 bs) (λ l. r ≡ partsAsked (ofFirst d tag) d l)) where
-    -- what is asked of the parts, where it is known what is asked of the first
-    of-parts : (f : Demand) → ofFirst d tag ≡ f → (l : List Command) → only passesAll (command n) 16 bs ≡ some l → r ≡ partsAsked f d l
-    of-parts f h l e = q l e ∙ ap (λ (x : Demand). partsAsked x d l) h
+  module _ (r : Bool) (q : For (only passesAll (command n) 16 (innerOf tag bs)) (λ l. r ≡ partsAsked (ofFirst d tag) d l)) where
+    -- what is asked of the parts, where it is known what is asked of the first, and where they lie
+    of-parts : (f : Demand) → ofFirst d tag ≡ f → (inside : List ℕ) → innerOf tag bs ≡ inside → (l : List Command) → only passesAll (command n) 16 inside ≡ some l → r ≡ partsAsked f d l
+    of-parts f h inside i l e = q l (ap (only passesAll (command n) 16) i ∙ e) ∙ ap (λ (x : Demand). partsAsked x d l) h
 
-    bare : bs ≡ [] → r ≡ true
+    whole : (tag ≡ guardedTag → ⊥) → innerOf tag bs ≡ bs
+    unfolding innerOf
+    whole h = choose-ne tag guardedTag _ _ h
+
+    bare : (tag ≡ guardedTag → ⊥) → bs ≡ [] → r ≡ true
     unfolding partsAsked
-    bare h = q [] (ap (only passesAll (command n) 16) h ∙ empty-parts n)
+    bare k h = of-parts (ofFirst d tag) refl [] (whole k ∙ h) [] (empty-parts n)
 
     module _ (c : Command) (e : command (suc n) tag bs ≡ some c) where
-      of-sequence : tag ≡ 0x51 → r ≡ commandAsked d c
+      of-sequence : tag ≡ sequenceTag → r ≡ commandAsked d c
       unfolding commandAsked ofFirst
       of-sequence h =
           let s = sequence-read n tag bs c e h in
-          let f = choose-ne tag 0x54 _ _ (λ x. omega arith) ∙ choose-eq tag 0x51 _ _ h in
-          of-parts d f (s .0) (s .1) ∙ sequence-parts d (s .0) ∙ ap (commandAsked d) (sym (s .4))
+          let f = choose-ne tag loopTag _ _ (λ x. omega arith) ∙ choose-eq tag sequenceTag _ _ h in
+          of-parts d f bs (whole (λ x. omega arith)) (s .0) (s .1) ∙ sequence-parts d (s .0) ∙ ap (commandAsked d) (sym (s .4))
 
-      of-guarded : (keep : Bool) → (tag ≡ 0x51 → ⊥) → (tag ≡ 0x54 → ⊥) → (x y z : Command) × (only passesAll (command n) 16 bs ≡ some (x ∷ y ∷ z ∷ [])) × (c ≡ guarded keep x y z) → r ≡ commandAsked d c
-      unfolding commandAsked partsAsked ofFirst
-      of-guarded keep h k s =
-          let f = choose-ne tag 0x54 _ _ k ∙ choose-ne tag 0x51 _ _ h in
-          rw (s .4) (of-parts (inGuard d) f _ (s .3) ∙ rw (← (both-last (commandAsked d (s .2)))))
+      of-guarded : tag ≡ guardedTag → r ≡ commandAsked d c
+      unfolding commandAsked partsAsked ofFirst innerOf
+      of-guarded h =
+          let s = guarded-read n tag bs c e h in
+          let f = choose-ne tag loopTag _ _ (λ x. omega arith) ∙ choose-ne tag sequenceTag _ _ (λ x. omega arith) in
+          rw (s .4) (of-parts (inGuard d) f (drop 1 bs) (choose-eq tag guardedTag _ _ h) _ (s .3) ∙ rw (← (both-last (commandAsked d (s .2)))))
 
-      of-loop : tag ≡ 0x54 → r ≡ commandAsked d c
+      of-loop : tag ≡ loopTag → r ≡ commandAsked d c
       unfolding commandAsked partsAsked ofFirst
       of-loop h =
           let s = loop-read n tag bs c e h in
-          rw (s .2) (of-parts (inBody d) (choose-eq tag 0x54 _ _ h) _ (s .1) ∙ sym (both-last _))
+          rw (s .2) (of-parts (inBody d) (choose-eq tag loopTag _ _ h) bs (whole (λ x. omega arith)) _ (s .1) ∙ sym (both-last _))
 
-    parts-is : (tag ≡ 0x50 → ⊥) → (tag ≡ 0x57 → ⊥) → For (command (suc n) tag bs) (λ c. r ≡ commandAsked d c)
+    parts-is : (tag ≡ ruleSetTag → ⊥) → (tag ≡ breakTag → ⊥) → For (command (suc n) tag bs) (λ c. r ≡ commandAsked d c)
     unfolding commandAsked
-    parts-is h0 h7 c e = at (ℕ-discrete tag 0x51) (ℕ-discrete tag 0x52) (ℕ-discrete tag 0x53) (ℕ-discrete tag 0x54) (ℕ-discrete tag 0x55) (ℕ-discrete tag 0x56)
+    parts-is h0 h7 c e = at c e (command-tag (suc n) tag bs c e .1)
       where
-        at : Dec (tag ≡ 0x51) → Dec (tag ≡ 0x52) → Dec (tag ≡ 0x53) → Dec (tag ≡ 0x54) → Dec (tag ≡ 0x55) → Dec (tag ≡ 0x56) → r ≡ commandAsked d c
-        at (yes h1) k2 k3 k4 k5 k6 = of-sequence c e h1
-        at (no h1) (yes h2) k3 k4 k5 k6 = of-guarded c e false h1 (λ x. omega arith) (if-read n tag bs c e h2)
-        at (no h1) (no h2) (yes h3) k4 k5 k6 = of-guarded c e true h1 (λ x. omega arith) (try-read n tag bs c e h3)
-        at (no h1) (no h2) (no h3) (yes h4) k5 k6 = of-loop c e h4
-        at (no h1) (no h2) (no h3) (no h4) (yes h5) k6 = let t = skip-read n tag bs c e h5 in bare (t .0) ∙ ap (commandAsked d) (sym (t .1))
-        at (no h1) (no h2) (no h3) (no h4) (no h5) (yes h6) = let t = fail-read n tag bs c e h6 in bare (t .0) ∙ ap (commandAsked d) (sym (t .1))
-        at (no h1) (no h2) (no h3) (no h4) (no h5) (no h6) =
-            let t = command-tag (suc n) tag bs c e in
-            absurd (behind-all (t .2) (past 0x54 tag h4 h5 h6 h7 (past 0x50 tag h0 h1 h2 h3 (t .1))))
+        at : (c : Command) → command (suc n) tag bs ≡ some c → tag ≡ tagOf c → r ≡ commandAsked d c
+        at (ruleSet l) e t = absurd (h0 t)
+        at (sequence cs) e t = of-sequence _ e t
+        at (guarded keep x y z) e t = of-guarded _ e t
+        at (loop c) e t = of-loop _ e t
+        at skip e t = bare (λ x. omega arith) (skip-read n tag bs _ e t .0)
+        at fail e t = bare (λ x. omega arith) (fail-read n tag bs _ e t .0)
+        at break e t = absurd (h7 t)
 
 -- the same at a depth that is not 0
 module _ (d : Demand) (depth tag : ℕ) (bs : List ℕ) (r : Bool) (h : depth ≡ 0 → ⊥) where
@@ -134,15 +134,15 @@ module _ (d : Demand) (depth tag : ℕ) (bs : List ℕ) (r : Bool) (h : depth �
       let z : suc (depth - 1) ≡ depth = omega arith in
       ap (λ (m : ℕ). command m tag bs) z ∙ e
 
-  pub rule-set-at : r ≡ numbersAsked d bs → tag ≡ 0x50 → For (command depth tag bs) (λ c. r ≡ commandAsked d c)
+  pub rule-set-at : r ≡ numbersAsked d bs → tag ≡ ruleSetTag → For (command depth tag bs) (λ c. r ≡ commandAsked d c)
   rule-set-at q k c e = rule-set-is d (depth - 1) tag bs r q k c (deeper c e)
 
-  pub break-at : r ≡ breakAsked d → tag ≡ 0x57 → For (command depth tag bs) (λ c. r ≡ commandAsked d c)
+  pub break-at : r ≡ breakAsked d → tag ≡ breakTag → For (command depth tag bs) (λ c. r ≡ commandAsked d c)
   break-at q k c e = break-is d (depth - 1) tag bs r q k c (deeper c e)
 
-  pub parts-at : (first : Demand) → first ≡ ofFirst d tag → For (only passesAll (command (depth - 1)) 16 bs) (λ l. r ≡ partsAsked first d l) → (tag ≡ 0x50 → ⊥) → (tag ≡ 0x57 → ⊥) → For (command depth tag bs) (λ c. r ≡ commandAsked d c)
-  parts-at first f q h0 h7 c e =
-      parts-is d (depth - 1) tag bs r (λ l x. q l x ∙ ap (λ (g : Demand). partsAsked g d l) f) h0 h7 c (deeper c e)
+  pub parts-at : (first : Demand) → first ≡ ofFirst d tag → (inside : List ℕ) → inside ≡ innerOf tag bs → For (only passesAll (command (depth - 1)) 16 inside) (λ l. r ≡ partsAsked first d l) → (tag ≡ ruleSetTag → ⊥) → (tag ≡ breakTag → ⊥) → For (command depth tag bs) (λ c. r ≡ commandAsked d c)
+  parts-at first f inside i q h0 h7 c e =
+      parts-is d (depth - 1) tag bs r (λ l x. q l (ap (only passesAll (command (depth - 1)) 16) i ∙ x) ∙ ap (λ (g : Demand). partsAsked g d l) f) h0 h7 c (deeper c e)
 
 -- Commands one after the other: what is asked from the place on is what is asked of all.
 

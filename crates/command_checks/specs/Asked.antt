@@ -3,9 +3,10 @@ use mathlib.Core.Bool.{Bool, true, false}
 use mathlib.Core.List.{List, [], _∷_}
 use Prim.Native.Nat.{ℕ}
 use lib.Dec.{eqb, ltb}
+use lib.ListN.{drop}
 use Rattle.meaning.specs.Basics.{choose, both, every}
 use Rattle.meaning.specs.Image.{Command, ruleSet, sequence, guarded, loop, skip, fail, break, Commands, noMore, then}
-use Rattle.meaning.specs.Tags.{loopTag, sequenceTag}
+use Rattle.meaning.specs.Tags.{loopTag, sequenceTag, guardedTag}
 use Rattle.command_checks.specs.declared.Demand.{Demand}
 use Rattle.command_checks.specs.declared.Demand.the-variants.{Rules, Breaks}
 
@@ -47,3 +48,7 @@ partsAsked first others (c ∷ l) = both (commandAsked first c) (partsAsked othe
 -- what is asked of the first part of a command of a tag: a loop's body, a sequence's first command, or a guard
 unfoldable pub ofFirst : Demand → ℕ → Demand
 ofFirst d tag = choose (eqb tag loopTag) (inBody d) (choose (eqb tag sequenceTag) d (inGuard d))
+
+-- the commands in a command of a tag: those in a guarded one are behind its flag
+unfoldable pub innerOf : ℕ → List ℕ → List ℕ
+innerOf tag bs = choose (eqb tag guardedTag) (drop 1 bs) bs

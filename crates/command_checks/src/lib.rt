@@ -8,7 +8,7 @@ ghost use Rattle.meaning.specs.Image.{limits, only, passesAll, command, program
 ghost use Rattle.meaning.specs.References.{rulesExist};
 ghost use Rattle.meaning.specs.Placement.{placement};
 ghost use Rattle.parts.specs.Series.{For};
-ghost use Rattle.command_checks.specs.Asked.{numbersAsked, breakAsked, inBody, inGuard, ofFirst, commandAsked, partsAsked};
+ghost use Rattle.command_checks.specs.Asked.{numbersAsked, breakAsked, inBody, inGuard, ofFirst, innerOf, commandAsked, partsAsked};
 use fields::Found;
 use meaning::tags::Limit;
 use meaning::tags::Tag;
@@ -63,7 +63,7 @@ fn in_body(demand: Demand) -> Demand
     }
 }
 
-// What is asked in the guard of an if or a try.
+// What is asked in a guard.
 fn in_guard(demand: Demand) -> Demand
     ensures { λ r. ⌜ r ≡ inGuard demand ⌝ }
 {
@@ -86,6 +86,16 @@ fn of_first(demand: Demand, tag: u8) -> Demand
     in_guard(demand)
 }
 
+// The commands in a command, from its tag and payload; those in a guarded one are behind its flag.
+fn inner(tag: u8, p: &[u8]) -> &[u8]
+    ensures { λ r. ⌜ now r ≡ innerOf tag (now (p .entry)) ⌝ }
+{
+    if tag == Tag::GUARDED {
+        return parts::behind(p, 1);
+    }
+    p
+}
+
 // A command, nested at most `depth` deep, from its tag and payload.
 fn command_holds(demand: Demand, tag: u8, p: &[u8], depth: usize) -> bool
     ensures { λ r. ⌜ For (command depth tag (now (p .entry))) (λ c. r ≡ commandAsked demand c) ⌝ }
@@ -99,7 +109,7 @@ fn command_holds(demand: Demand, tag: u8, p: &[u8], depth: usize) -> bool
     if tag == Tag::BREAK {
         return break_holds(demand);
     }
-    commands_hold(of_first(demand, tag), demand, p, depth - 1)
+    commands_hold(of_first(demand, tag), demand, inner(tag, p), depth - 1)
 }
 
 // Commands one after the other: what is asked of the first, and of the others.

@@ -1,4 +1,4 @@
--- What is known of the parts of a command that is known: its row of commands by its tag, a command of a row by its number,
+-- What is known of the parts of a command that is known: its row of commands by its tag and payload, a command of a row by its number,
 -- and the commands of a row from a place on. Rests on Cycle, on parts' Series and on fields' Parsed.
 use mathlib.Core.Path.{_≡_, refl, sym, _∙_, ap}
 use mathlib.Core.Bool.{Bool, true, false}
@@ -6,14 +6,15 @@ use mathlib.Core.Option.{Option, some}
 use mathlib.Core.List.{List, [], _∷_}
 use Prim.Native.Nat.{ℕ, zero, suc, _+_, _-_, _<_, _≤_}
 use native.Mathlib.Omega.{arith}
-use lib.ListN.{length, length-take}
-use Rattle.meaning.specs.Tags.{breakTag, ifTag, loopTag, ruleSetTag, sequenceTag, tryTag}
-use Rattle.meaning.specs.Basics.{choose, both, every}
+use lib.Dec.{eqb}
+use lib.ListN.{length, getD, drop, length-take, length-drop}
+use Rattle.meaning.specs.Tags.{guardedTag, loopTag, ruleSetTag, sequenceTag}
+use Rattle.meaning.specs.Basics.{both, every}
 use Rattle.meaning.specs.Image.{limits, Command, ruleSet, sequence, guarded, loop, skip, fail, break, only, passesAll, inOrder, command}
 use Rattle.meaning.specs.References.{rulesExist, allRulesExist, references}
 use Rattle.meaning.specs.Laws.Tests.{both-true, every-true}
 use Rattle.fields.specs.Image.{field-is}
-use Rattle.fields.specs.Parsed.{command-tag, rule-set-read, sequence-read, if-read, try-read, loop-read, skip-read, fail-read, break-read}
+use Rattle.fields.specs.Parsed.{tagOf, command-tag, rule-set-read, sequence-read, guarded-read, loop-read, skip-read, fail-read, break-read}
 use Rattle.meaning.specs.declared.End.{End}
 use Rattle.meaning.specs.declared.End.the-variants.{Done, Failed, Broke, Stopped}
 use Rattle.fields.specs.Fields.{fieldAt, onward, nthField}
@@ -44,8 +45,8 @@ leafOf Broke = break
 leafOf (Stopped w) = skip
 
 module _ {image : List ℕ} {tag : ℕ} {bs : List ℕ} (w : Known image tag bs) where
-  pub in-range : (ruleSetTag ≤ tag) × (tag ≤ breakTag)
-  in-range = let t = command-tag (w .deep) tag bs (w .cmd) (w .is) in (t .1, t .2)
+  pub tagged : tag ≡ tagOf (w .cmd)
+  tagged = command-tag (w .deep) tag bs (w .cmd) (w .is) .1
 
   pub deeper : command (suc (w .deep - 1)) tag bs ≡ some (w .cmd)
   deeper =
@@ -85,32 +86,31 @@ module _ {image : List ℕ} {tag : ℕ} {bs : List ℕ} (w : Known image tag bs)
   unfolding row-of
   row-is h = sequence-read (w .deep - 1) tag bs (w .cmd) deeper h .4
 
-  -- If and try.
+  -- Guarded commands: their commands are behind their flag.
 
-  pub three : (keep : Bool) → tag ≡ choose keep tryTag ifTag → (a b c : Command) × (only passesAll (command (w .deep - 1)) (limits .commands) bs ≡ some (a ∷ b ∷ c ∷ [])) × (w .cmd ≡ guarded keep a b c)
-  unfolding choose
-  three true h = try-read (w .deep - 1) tag bs (w .cmd) deeper h
-  three false h = if-read (w .deep - 1) tag bs (w .cmd) deeper h
+  module _ (h : tag ≡ guardedTag) {keep : Bool} (k : keep ≡ eqb (getD bs 0 0) 1) {rest : List ℕ} (d : rest ≡ drop 1 bs) where
+    pub three : (x y z : Command) × (only passesAll (command (w .deep - 1)) (limits .commands) rest ≡ some (x ∷ y ∷ z ∷ [])) × (w .cmd ≡ guarded keep x y z)
+    three = rw (k, d) (guarded-read (w .deep - 1) tag bs (w .cmd) deeper h)
 
-  unfoldable pub guarded-of : (keep : Bool) → tag ≡ choose keep tryTag ifTag → Row 3 image bs
-  unfolding rulesExist every both
-  guarded-of keep h =
-      let s = three keep h in
-      let n = length (w .programmed .tree .rules) in
-      let e = both-true (rulesExist (s .0) n) _ (exist-as (guarded keep (s .0) (s .1) (s .2)) (s .4)) in
-      let f = both-true (rulesExist (s .1) n) _ (e .1) in
-      record {
-        programmed = w .programmed;
-        deep = w .deep - 1;
-        cmds = s .0 ∷ s .1 ∷ s .2 ∷ [];
-        series = row-series (w .deep - 1) bs _ (s .3);
-        exist = rw (e .0, f .0, f .1);
-        enough = omega arith;
-      }
+    unfoldable pub guarded-of : Row 3 image rest
+    unfolding rulesExist every both
+    guarded-of =
+        let s = three in
+        let n = length (w .programmed .tree .rules) in
+        let e = both-true (rulesExist (s .0) n) _ (exist-as (guarded keep (s .0) (s .1) (s .2)) (s .4)) in
+        let f = both-true (rulesExist (s .1) n) _ (e .1) in
+        record {
+          programmed = w .programmed;
+          deep = w .deep - 1;
+          cmds = s .0 ∷ s .1 ∷ s .2 ∷ [];
+          series = row-series (w .deep - 1) rest _ (s .3);
+          exist = rw (e .0, f .0, f .1);
+          enough = omega arith;
+        }
 
-  pub guarded-is : (keep : Bool) (h : tag ≡ choose keep tryTag ifTag) → w .cmd ≡ guarded keep (at (guarded-of keep h) 0) (at (guarded-of keep h) 1) (at (guarded-of keep h) 2)
-  unfolding guarded-of
-  guarded-is keep h = three keep h .4
+    pub guarded-is : w .cmd ≡ guarded keep (at guarded-of 0) (at guarded-of 1) (at guarded-of 2)
+    unfolding guarded-of
+    guarded-is = three .4
 
   -- Loops.
 
@@ -140,6 +140,9 @@ module _ {image : List ℕ} {tag : ℕ} {bs : List ℕ} (w : Known image tag bs)
   leaf-is (Stopped r) h = absurd h
 
 -- Shorter parts.
+
+pub no-longer : (bs : List ℕ) {rest : List ℕ} → rest ≡ drop 1 bs → length rest ≤ length bs
+no-longer bs e = let l = ap length e ∙ length-drop 1 bs in omega arith
 
 module _ (bs : List ℕ) where
   behind : (n at tag start end : ℕ) → Field tag start end ≡ nthField n bs at → at + 3 ≤ start

@@ -6,9 +6,10 @@ use mathlib.Core.Option.{none}
 use mathlib.Core.List.{List, [], _∷_}
 use Prim.Native.Nat.{ℕ, _+_, _-_, _/_, _<_, _≤_}
 use native.Mathlib.Omega.{arith}
-use lib.ListN.{length, take, drop, length-take}
-use Rattle.meaning.specs.Tags.{ifTag, loopTag, ruleSetTag, sequenceTag, tryTag}
-use Rattle.meaning.specs.Basics.{choose, every}
+use lib.Dec.{eqb}
+use lib.ListN.{length, getD, take, drop, length-take}
+use Rattle.meaning.specs.Tags.{guardedTag, loopTag, ruleSetTag, sequenceTag}
+use Rattle.meaning.specs.Basics.{every}
 use Rattle.meaning.specs.Layout.{recordLength}
 use Rattle.meaning.specs.Image.{Program, Command, ruleSet, sequence, guarded, loop, field, inOrder, command}
 use Rattle.meaning.specs.References.{rulesExist}
@@ -33,12 +34,14 @@ use Rattle.ends.specs.declared.Kind.{Kind}
 use Rattle.commands.specs.Program.{Runnable, RunsProgram}
 use Rattle.ends.specs.Ends.{LeafTag, Tagged, kindOf, kind-tagged, isDone, partAfter, settled, Earlier, Settled, Closed}
 use Rattle.commands.specs.Cycle.{Known, Row, at, runsCommand, runsRow, runsGuarded, runsLoop, Begun, Comes}
-use Rattle.commands.proofs.Parts.{in-range, rule-set-is, row-of, row-is, guarded-of, guarded-is, loop-of, loop-is, leafOf, leaf-is, nth-known, main-known}
+use Rattle.commands.proofs.Parts.{tagged, rule-set-is, row-of, row-is, guarded-of, guarded-is, loop-of, loop-is, leafOf, leaf-is, nth-known, main-known}
 use Rattle.commands.proofs.States.{done-is, settled-fuel, settled-steps, enter-none, enter-paid, leaf-work, row-more, row-ends, row-done, guarded-runs, guarded-stops, loop-out, loop-more, loop-closes}
 
 -- the kind of a command that is known
-pub is-kind : {image : List ℕ} {tag : ℕ} {bs : List ℕ} {kind : Kind} → Known image tag bs → (tag ≡ ruleSetTag → ⊥) → kind ≡ kindOf tag → (k : Kind) → kind ≡ k → Tagged tag k
-is-kind {tag = tag} w other h k e = let r = in-range w in subst (λ (x : Kind). Tagged tag x) (sym h ∙ e) (kind-tagged tag (omega (arith, r .0)) (r .1))
+pub is-kind : {image : List ℕ} {tag : ℕ} {bs : List ℕ} {kind : Kind} → Known image tag bs → (tag ≡ ruleSetTag → ⊥) → kind ≡ kindOf tag bs → (k : Kind) → kind ≡ k → Tagged tag bs k
+is-kind {tag = tag} {bs} w other h k e =
+    let t : Tagged tag bs (kindOf tag bs) = rw (tagged w) (kind-tagged (w .cmd) bs (λ x. other (tagged w ∙ x))) in
+    subst (λ (x : Kind). Tagged tag bs x) (sym h ∙ e) t
 
 pub part-less : (e : End) → partAfter e < 3
 unfolding partAfter
@@ -131,10 +134,12 @@ module _ (L : Layout) where
       unfolding work row-of
       paid-row q m = paid (λ w. sequence (inOrder (row-of w q .cmds))) (λ w. row-is w q) (λ w. m .right (row-of w q)) (m .running)
 
-      pub paid-guarded : (keep : Bool) → tag ≡ choose keep tryTag ifTag → Comes L (Row 3 image bs) (runsGuarded L keep) nodes edges journal s r nodes′ edges′ journal′
+      pub paid-guarded : {keep : Bool} {rest : List ℕ} → (tag ≡ guardedTag) × (keep ≡ eqb (getD bs 0 0) 1) → rest ≡ drop 1 bs
+          → Comes L (Row 3 image rest) (runsGuarded L keep) nodes edges journal s r nodes′ edges′ journal′
           → Comes L (Known image tag bs) (runsCommand L) nodes edges journal t r nodes′ edges′ journal′
       unfolding guarded-of
-      paid-guarded keep q m = paid (λ w. guarded keep (at (guarded-of w keep q) 0) (at (guarded-of w keep q) 1) (at (guarded-of w keep q) 2)) (λ w. guarded-is w keep q) (λ w. m .right (guarded-of w keep q)) (m .running)
+      paid-guarded {keep} q d m =
+          paid (λ w. let g = guarded-of w (q .0) (q .1) d in guarded keep (at g 0) (at g 1) (at g 2)) (λ w. guarded-is w (q .0) (q .1) d) (λ w. m .right (guarded-of w (q .0) (q .1) d)) (m .running)
 
       pub paid-loop : tag ≡ loopTag → Comes L (Row 1 image bs) (runsLoop L) nodes edges journal s r nodes′ edges′ journal′
           → Comes L (Known image tag bs) (runsCommand L) nodes edges journal t r nodes′ edges′ journal′

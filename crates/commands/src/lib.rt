@@ -66,10 +66,19 @@ fn run_command(
         };
     }
     let spent = tally::entered(t);
-    let kind = ends::kind_of(tag);
+    let kind = ends::kind_of(tag, p);
     match kind {
         Kind::Sequence => run_row(l, image, p, nodes, edges, journal, spent),
-        Kind::Guarded(keep) => run_guarded(l, image, keep, p, nodes, edges, journal, spent),
+        Kind::Guarded(keep) => run_guarded(
+            l,
+            image,
+            keep,
+            parts::behind(p, 1),
+            nodes,
+            edges,
+            journal,
+            spent,
+        ),
         Kind::Loop => run_loop(l, image, p, nodes, edges, journal, spent),
         Kind::Leaf(end) => Ran {
             end: end,
@@ -118,7 +127,7 @@ fn run_row(
     }
 }
 
-// An if or a try: the guard, and then the second or the third part.
+// A guarded command, from its commands: the guard, and then the second or the third.
 fn run_guarded(
     l: Layout,
     image: &[u8],

@@ -8,7 +8,7 @@ use native.Mathlib.Omega.{arith}
 use Rattle.meaning.specs.Basics.{choose, firstFailing}
 use Rattle.meaning.specs.Image.{Program, program}
 use Rattle.meaning.specs.Commands.{Out}
-use Rattle.meaning.specs.Calls.{Returned, stopNumber, answerNumber, refusalNumber, refused, runRefusal, finished, run, undoRefusal as undoRefused, undoOn, undo, Lent, LentUndo}
+use Rattle.meaning.specs.Calls.{Returned, stopNumber, answerNumber, refusalNumber, refused, refusalAs, runRefusal, finished, run, undoRefusal as undoRefused, undoOn, undo, Lent, LentUndo}
 use Rattle.demands.specs.Demands.{Outcome, Interpreter, stopAnswer, runRefusedWith, undoRefusedWith, asItCame, outcomeAt}
 use Rattle.laws.specs.Calls.{Accepted, accepted, accepts, run-refused, ending, run-started, undo-refused}
 use Rattle.meaning.specs.declared.Layout.{Layout}
@@ -61,7 +61,7 @@ module _ (L : Layout) (x : Lent) where
   refusing = runRefusal L x
 
   refusal-number : runRefusedWith L x ≡ numbered refusing
-  unfolding runRefusal refusalNumber
+  unfolding refusalAs refusalNumber
   refusal-number = failing-number _
 
   pub refusing-none : runRefusedWith L x ≡ none → refusing ≡ none

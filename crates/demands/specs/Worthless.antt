@@ -159,7 +159,7 @@ keepsMarks = by (λ most room rules c s. enter (λ t. carelessly most room rules
 -- on one plain node; ours leaves it unmarked
 abbrev failedTry : Case
 failedTry =
-    onPlainNode 100 (marksRed ++ fieldBytes 0x53 (fieldBytes 0x51 (ruleSetField 0 ++ failField) ++ skipField ++ skipField)) (results 5 0 plainNode [] [])
+    onPlainNode 100 (marksRed ++ fieldBytes 0x59 (1 ∷ fieldBytes 0x51 (ruleSetField 0 ++ failField) ++ skipField ++ skipField)) (results 5 0 plainNode [] [])
 
 pub keeping-marks : Demand2 base keepsMarks → ⊥
 unfolding computing runsOn carelessly allCarelessly afterGuard withMark withMarks

@@ -1,17 +1,16 @@
--- What follows a command: its kind by its tag, whether a row goes on, the part after a guard, and what undoing after a guard or
--- after a loop's last round leaves. Rests on ledger's Running and on the meaning's Commands and Laws.Tests.
-use mathlib.Core.Path.{_≡_}
+-- What follows a command: its kind by its tag and payload, whether a row goes on, the part after a guard, and what undoing after
+-- a guard or after a loop's last round leaves. Rests on ledger's Running, on fields' Parsed and on the meaning's Commands.
+use mathlib.Core.Path.{_≡_, refl}
 use mathlib.Core.Bool.{Bool, true, false}
 use mathlib.Core.List.{List}
-use Prim.Native.Nat.{ℕ, _≤_}
-use native.Mathlib.Omega.{arith}
-use native.Mathlib.Decide.{ℕ-discrete}
+use Prim.Native.Nat.{ℕ}
 use lib.Dec.{eqb}
-use lib.ListN.{length}
+use lib.ListN.{length, getD}
 use Rattle.meaning.specs.Basics.{choose}
-use Rattle.meaning.specs.Tags.{sequenceTag, ifTag, tryTag, loopTag, skipTag, failTag, breakTag}
+use Rattle.meaning.specs.Tags.{ruleSetTag, sequenceTag, loopTag, skipTag, failTag, breakTag, guardedTag}
+use Rattle.meaning.specs.Image.{Command, ruleSet, sequence, guarded, loop, skip, fail, break}
 use Rattle.meaning.specs.Commands.{State, Out, ends, back}
-use Rattle.meaning.specs.Laws.Tests.{choose-eq, choose-ne}
+use Rattle.fields.specs.Parsed.{tagOf}
 use Rattle.laws.specs.Hosts.{LegalHost}
 use Rattle.laws.specs.Restoring.{From}
 use Rattle.meaning.specs.declared.Layout.{Layout}
@@ -30,42 +29,32 @@ LeafTag tag Failed = tag ≡ failTag
 LeafTag tag Broke = tag ≡ breakTag
 LeafTag tag (Stopped w) = ⊥
 
--- the tag of each kind
-abbrev pub Tagged : ℕ → Kind → Type 0
-Tagged tag Sequence = tag ≡ sequenceTag
-Tagged tag (Guarded keep) = tag ≡ choose keep tryTag ifTag
-Tagged tag Loop = tag ≡ loopTag
-Tagged tag (Leaf e) = LeafTag tag e
+-- the tag and the payload of each kind
+abbrev pub Tagged : ℕ → List ℕ → Kind → Type 0
+Tagged tag bs Sequence = tag ≡ sequenceTag
+Tagged tag bs (Guarded keep) = (tag ≡ guardedTag) × (keep ≡ eqb (getD bs 0 0) 1)
+Tagged tag bs Loop = tag ≡ loopTag
+Tagged tag bs (Leaf e) = LeafTag tag e
 
--- the kind that a tag says; a tag that is none of these counts as a break's
-unfoldable pub kindOf : ℕ → Kind
-kindOf tag =
+-- the kind that a tag and a payload say; a tag that is none of these counts as a break's
+unfoldable pub kindOf : ℕ → List ℕ → Kind
+kindOf tag bs =
     choose (eqb tag sequenceTag) Sequence
-    (choose (eqb tag ifTag) (Guarded false)
-    (choose (eqb tag tryTag) (Guarded true)
+    (choose (eqb tag guardedTag) (Guarded (eqb (getD bs 0 0) 1))
     (choose (eqb tag loopTag) Loop
     (choose (eqb tag skipTag) (Leaf Done)
-    (choose (eqb tag failTag) (Leaf Failed) (Leaf Broke))))))
-
--- a choice by a tag has what each of the two has where it is chosen
-chosen : (P : Kind → Type 0) (tag k : ℕ) (x y : Kind) → (tag ≡ k → P x) → ((tag ≡ k → ⊥) → P y) → P (choose (eqb tag k) x y)
-chosen P tag k x y p q = at (ℕ-discrete tag k)
-  where
-    at : Dec (tag ≡ k) → P (choose (eqb tag k) x y)
-    at (yes e) = rw (choose-eq tag k x y e) (p e)
-    at (no n) = rw (choose-ne tag k x y n) (q n)
+    (choose (eqb tag failTag) (Leaf Failed) (Leaf Broke)))))
 
 -- the tag of a command other than a rule set is its kind's
-pub kind-tagged : (tag : ℕ) → sequenceTag ≤ tag → tag ≤ breakTag → Tagged tag (kindOf tag)
+pub kind-tagged : (c : Command) (bs : List ℕ) → (tagOf c ≡ ruleSetTag → ⊥) → Tagged (tagOf c) bs (kindOf (tagOf c) bs)
 unfolding kindOf choose
-kind-tagged tag low high =
-    let P : Kind → Type 0 = λ k. Tagged tag k in
-    chosen P tag sequenceTag _ _ (λ e. e) (λ n1.
-    chosen P tag ifTag _ _ (λ e. e) (λ n2.
-    chosen P tag tryTag _ _ (λ e. e) (λ n3.
-    chosen P tag loopTag _ _ (λ e. e) (λ n4.
-    chosen P tag skipTag _ _ (λ e. e) (λ n5.
-    chosen P tag failTag _ _ (λ e. e) (λ n6. omega arith))))))
+kind-tagged (ruleSet l) bs h = absurd (h refl)
+kind-tagged (sequence cs) bs h = refl
+kind-tagged (guarded keep a b c) bs h = (refl, refl)
+kind-tagged (loop c) bs h = refl
+kind-tagged skip bs h = refl
+kind-tagged fail bs h = refl
+kind-tagged break bs h = refl
 
 unfoldable pub isDone : End → Bool
 isDone Done = true

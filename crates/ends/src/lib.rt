@@ -1,4 +1,4 @@
-// What follows a command, by its tag and by how it ended: its kind, whether a row goes on, the part after a guard, and undoing
+// What follows a command, by what it is and by how it ended: its kind, whether a row goes on, the part after a guard, and undoing
 // after a guard and after the last round of a loop.
 ghost use mathlib.Core.Path.{_≡_};
 ghost use Prim.Native.Nat.{_≤_};
@@ -13,21 +13,20 @@ use meaning::tags::Tag;
 // How a command other than a rule set is run.
 pub enum Kind {
     Sequence,
-    // A try where the flag is set, which keeps the changes of a guard that succeeds, and else an if.
+    // The flag says whether the changes of a guard that succeeds are kept.
     Guarded(bool),
     Loop,
     // Skip, fail and break: how they end.
     Leaf(End),
 }
 
-// The kind that such a command's tag says; a tag that is no command's, or a rule set's, counts as a break's.
-pub fn kind_of(tag: u8) -> Kind
-    ensures { λ r. ⌜ r ≡ kindOf tag ⌝ }
+// The kind of such a command, from its tag and payload; a tag that is no command's, or a rule set's, counts as a break's.
+pub fn kind_of(tag: u8, p: &[u8]) -> Kind
+    ensures { λ r. ⌜ r ≡ kindOf tag (now (p .entry)) ⌝ }
 {
     match tag {
         Tag::SEQUENCE => Kind::Sequence,
-        Tag::IF => Kind::Guarded(false),
-        Tag::TRY => Kind::Guarded(true),
+        Tag::GUARDED => Kind::Guarded(parts::flag(p)),
         Tag::LOOP => Kind::Loop,
         Tag::SKIP => Kind::Leaf(End::Done),
         Tag::FAIL => Kind::Leaf(End::Failed),
@@ -47,7 +46,7 @@ pub fn goes_on(end: End) -> bool
     }
 }
 
-// The part of an if or a try that follows its guard, by the guard's end: the second, the third, or 0 if none does.
+// The part of a guarded command that follows its guard, by the guard's end: the second, the third, or 0 if none does.
 pub fn part_after(end: End) -> usize
     ensures { λ r. ⌜ r ≡ partAfter end ⌝ }
 {

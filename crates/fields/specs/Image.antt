@@ -12,8 +12,8 @@ use lib.ListN.{length, getD, take, drop, length-drop, length-append, drop-of-len
 use lib.Seq.{length-take-le, getD-drop, drop-drop}
 use Rattle.meaning.specs.Basics.{choose, both, either, every, isEmpty, isSome, ensure, _>>_, _>>=_}
 use Rattle.meaning.specs.Layout.{isNodeMark, isEdgeMark}
-use Rattle.meaning.specs.Image.{RuleNode, Rule, Command, Field, Read, Pair, stated, field, expect, leading, only, passesAll, constant, oneByte, operand, asPair, twoOperands, element, label, ruleNode, ruleEdge, ruleGraph, relation, condition, test, isType, types, rule, leaf, asRuleSet, asSequence, asGuarded, asLoop, command, program}
-use Rattle.meaning.specs.Tags.{anyMark, breakTag, constantTag, differenceTag, edgeTag, edgeTestTag, failTag, ifTag, inDegreeTag, loopTag, nodeTag, outDegreeTag, relationTag, ruleSetTag, ruleTag, sequenceTag, skipTag, sumTag, tryTag, variableTag}
+use Rattle.meaning.specs.Image.{RuleNode, Rule, Command, Field, Read, Pair, stated, field, expect, leading, only, passesAll, constant, oneByte, flag, operand, asPair, twoOperands, element, label, ruleNode, ruleEdge, ruleGraph, relation, condition, test, isType, types, rule, leaf, asRuleSet, asSequence, asGuarded, asLoop, unguarded, command, programBy, program}
+use Rattle.meaning.specs.Tags.{anyMark, breakTag, constantTag, differenceTag, edgeTag, edgeTestTag, failTag, guardedTag, inDegreeTag, loopTag, nodeTag, outDegreeTag, relationTag, ruleSetTag, ruleTag, sequenceTag, skipTag, sumTag, variableTag}
 use Rattle.meaning.specs.Image.Command.{skip, fail, break}
 use Rattle.meaning.specs.declared.Operand.{Operand}
 use Rattle.meaning.specs.declared.Condition.the-variants.{Equal, Less}
@@ -354,9 +354,9 @@ module _ (tag : ℕ) (bs : List ℕ) where
   unfolding condition
   condition-other h0 h1 h2 h3 = choose-ne tag edgeTestTag _ _ h0 ∙ choose-ne tag inDegreeTag _ _ h1 ∙ choose-ne tag outDegreeTag _ _ h2 ∙ choose-ne tag relationTag _ _ h3
 
-  pub test-ok : isSome (test tag bs) ≡ both (leb 1 (length bs)) (both (leb (getD bs 0 0) 1) (isSome (condition tag (drop 1 bs))))
+  pub test-ok : isSome (test tag bs) ≡ both (isSome (flag bs)) (isSome (condition tag (drop 1 bs)))
   unfolding test
-  test-ok = isSome-after _ _ _ (isSome-after _ _ _ (isSome-map _ _))
+  test-ok = isSome-then (flag bs) _ _ (λ negated. isSome-map _ _)
 
 -- Rules.
 
@@ -367,6 +367,10 @@ types-ok bs = isSome-after _ _ _ (isSome-ensure _ _)
 pub oneByte-ok : (bs : List ℕ) → isSome (oneByte bs) ≡ eqb (length bs) 1
 unfolding oneByte
 oneByte-ok bs = isSome-ensure _ _
+
+pub flag-ok : (bs : List ℕ) → isSome (flag bs) ≡ both (leb 1 (length bs)) (leb (getD bs 0 0) 1)
+unfolding flag
+flag-ok bs = isSome-ensure _ _
 
 -- Commands.
 
@@ -404,61 +408,56 @@ command-no-depth tag bs = refl
 -- a command by its tag
 module _ (n tag : ℕ) (bs : List ℕ) where
   pub command-ruleSet : tag ≡ ruleSetTag → command (suc n) tag bs ≡ asRuleSet bs
-  unfolding command choose
+  unfolding command unguarded choose
   command-ruleSet h = rw h
 
   pub command-sequence : tag ≡ sequenceTag → command (suc n) tag bs ≡ (only passesAll (command n) 16 bs >>= asSequence)
-  unfolding command choose
+  unfolding command unguarded choose
   command-sequence h = rw h
 
-  pub command-if : tag ≡ ifTag → command (suc n) tag bs ≡ (only passesAll (command n) 16 bs >>= asGuarded false)
+  pub command-guarded : tag ≡ guardedTag → command (suc n) tag bs ≡ (flag bs >>= λ keep. only passesAll (command n) 16 (drop 1 bs) >>= asGuarded keep)
   unfolding command choose
-  command-if h = rw h
-
-  pub command-try : tag ≡ tryTag → command (suc n) tag bs ≡ (only passesAll (command n) 16 bs >>= asGuarded true)
-  unfolding command choose
-  command-try h = rw h
+  command-guarded h = rw h
 
   pub command-loop : tag ≡ loopTag → command (suc n) tag bs ≡ (only passesAll (command n) 16 bs >>= asLoop)
-  unfolding command choose
+  unfolding command unguarded choose
   command-loop h = rw h
 
   pub command-skip : tag ≡ skipTag → command (suc n) tag bs ≡ leaf skip bs
-  unfolding command choose
+  unfolding command unguarded choose
   command-skip h = rw h
 
   pub command-fail : tag ≡ failTag → command (suc n) tag bs ≡ leaf fail bs
-  unfolding command choose
+  unfolding command unguarded choose
   command-fail h = rw h
 
   pub command-break : tag ≡ breakTag → command (suc n) tag bs ≡ leaf break bs
-  unfolding command choose
+  unfolding command unguarded choose
   command-break h = rw h
 
-  pub command-other : (ruleSetTag ≤ tag → tag ≤ breakTag → ⊥) → command (suc n) tag bs ≡ none
-  unfolding command
-  command-other h =
-      choose-ne tag ruleSetTag _ _ (λ e. h (omega arith) (omega arith))
-      ∙ choose-ne tag sequenceTag _ _ (λ e. h (omega arith) (omega arith))
-      ∙ choose-ne tag ifTag _ _ (λ e. h (omega arith) (omega arith))
-      ∙ choose-ne tag tryTag _ _ (λ e. h (omega arith) (omega arith))
-      ∙ choose-ne tag loopTag _ _ (λ e. h (omega arith) (omega arith))
-      ∙ choose-ne tag skipTag _ _ (λ e. h (omega arith) (omega arith))
-      ∙ choose-ne tag failTag _ _ (λ e. h (omega arith) (omega arith))
-      ∙ choose-ne tag breakTag _ _ (λ e. h (omega arith) (omega arith))
+  pub command-other : (tag ≡ ruleSetTag → ⊥) → (tag ≡ sequenceTag → ⊥) → (tag ≡ guardedTag → ⊥) → (tag ≡ loopTag → ⊥) → (tag ≡ skipTag → ⊥) → (tag ≡ failTag → ⊥) → (tag ≡ breakTag → ⊥) → command (suc n) tag bs ≡ none
+  unfolding command unguarded
+  command-other h0 h1 h2 h3 h4 h5 h6 =
+      choose-ne tag guardedTag _ _ h2
+      ∙ choose-ne tag ruleSetTag _ _ h0
+      ∙ choose-ne tag sequenceTag _ _ h1
+      ∙ choose-ne tag loopTag _ _ h3
+      ∙ choose-ne tag skipTag _ _ h4
+      ∙ choose-ne tag failTag _ _ h5
+      ∙ choose-ne tag breakTag _ _ h6
 
 -- The whole.
 
 module _ (bs : List ℕ) where
   pub program-no-rules : leading (eqb ruleTag) (λ tag. rule) 32 bs ≡ none → program bs ≡ none
-  unfolding program
+  unfolding program programBy
   program-no-rules e = bind-none _ _ e
 
   module _ (r : Read Rule) (e : leading (eqb ruleTag) (λ tag. rule) 32 bs ≡ some r) where
     pub program-no-field : field (r .rest) ≡ none → program bs ≡ none
-    unfolding program
+    unfolding program programBy
     program-no-field q = bind-yes _ _ r e ∙ bind-none _ _ q
 
     pub program-ok : (d : Field) → field (r .rest) ≡ some d → isSome (program bs) ≡ both (isEmpty (d .rest)) (isSome (command 16 (d .tag) (d .payload)))
-    unfolding program
+    unfolding program programBy
     program-ok d q = ap isSome (bind-yes _ _ r e ∙ bind-yes _ _ d q) ∙ isSome-after _ _ _ (isSome-map _ _)

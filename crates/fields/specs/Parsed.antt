@@ -6,15 +6,15 @@ use mathlib.Core.Bool.{Bool, true, false}
 use mathlib.Core.Option.{Option, some, none}
 use Prim.Native.Nat.{ℕ, zero, suc, _-_, _<_, _≤_, max}
 use native.Mathlib.Omega.{arith}
-use native.Mathlib.Decide.{decLt, ℕ-discrete}
+use native.Mathlib.Decide.{ℕ-discrete}
 use borrow.Author.Tests.{eqb-true, leb-true}
 use lib.Dec.{eqb, leb}
 use lib.ListN.{length, getD, drop}
 use Rattle.meaning.specs.Basics.{either, every, isEmpty, _>>=_}
 use Rattle.meaning.specs.Numbers.{number}
 use Rattle.meaning.specs.Layout.{isNodeMark, isEdgeMark}
-use Rattle.meaning.specs.Image.{limits, RuleEdge, RuleGraph, Program, Commands, noMore, then, inOrder, RuleNode, Rule, Command, Field, Read, Pair, field, expect, leading, only, passesAll, constant, oneByte, operand, asPair, twoOperands, element, label, ruleNode, ruleEdge, ruleGraph, relation, condition, test, isType, types, rule, leaf, asRuleSet, asSequence, asGuarded, asLoop, command}
-use Rattle.meaning.specs.Tags.{anyMark, breakTag, constantTag, differenceTag, edgeTag, edgeTestTag, failTag, ifTag, inDegreeTag, interfaceTag, leftTag, loopTag, nodeTag, outDegreeTag, rightTag, ruleSetTag, ruleTag, sequenceTag, skipTag, sumTag, testsTag, tryTag, variableTag, variablesTag}
+use Rattle.meaning.specs.Image.{limits, RuleEdge, RuleGraph, Program, Commands, noMore, then, inOrder, RuleNode, Rule, Command, Field, Read, Pair, field, expect, leading, only, passesAll, constant, oneByte, flag, operand, asPair, twoOperands, element, label, ruleNode, ruleEdge, ruleGraph, relation, condition, test, isType, types, rule, leaf, asRuleSet, asSequence, asGuarded, asLoop, command}
+use Rattle.meaning.specs.Tags.{anyMark, breakTag, constantTag, differenceTag, edgeTag, edgeTestTag, failTag, guardedTag, inDegreeTag, interfaceTag, leftTag, loopTag, nodeTag, outDegreeTag, rightTag, ruleSetTag, ruleTag, sequenceTag, skipTag, sumTag, testsTag, variableTag, variablesTag}
 use Rattle.meaning.specs.Image.Command.{ruleSet, sequence, guarded, loop, skip, fail, break}
 use Rattle.meaning.specs.declared.Operand.{Operand}
 use Rattle.meaning.specs.declared.Operand.the-variants.{Constant as constantOperand, Variable as variableOperand}
@@ -25,7 +25,7 @@ use Rattle.meaning.specs.declared.Condition.{Condition}
 use Rattle.meaning.specs.declared.Condition.the-variants.{Edge, InDegree, OutDegree, Equal, Less}
 use Rattle.meaning.specs.Laws.Every.{Every}
 use Rattle.meaning.specs.Laws.Tests.{both-true, empty-true, choose-eq, choose-true, choose-false, choose-ne, some-inj, bind-some, ensure-some}
-use Rattle.fields.specs.Image.{leading-led, command-no-depth, command-ruleSet, command-sequence, command-if, command-try, command-loop, command-skip, command-fail, command-break, command-other}
+use Rattle.fields.specs.Image.{leading-led, command-no-depth, command-ruleSet, command-sequence, command-guarded, command-loop, command-skip, command-fail, command-break, command-other}
 
 -- Series of fields.
 
@@ -109,6 +109,12 @@ module _ (bs : List ℕ) where
   pub oneByte-is : (v : ℕ) → oneByte bs ≡ some v → (length bs ≡ 1) × (v ≡ getD bs 0 0)
   unfolding oneByte
   oneByte-is v e = let t = ensure-some _ _ v e in (eqb-true _ _ (t .0), sym (some-inj _ v (t .1)))
+
+  pub flag-is : (b : Bool) → flag bs ≡ some b → (1 ≤ length bs) × (b ≡ eqb (getD bs 0 0) 1)
+  unfolding flag
+  flag-is b e =
+      let t = ensure-some _ _ b e in
+      (leb-true _ _ (both-true (leb 1 (length bs)) _ (t .0) .0), sym (some-inj _ b (t .1)))
 
   pub label-few : (l : List Element) → label bs ≡ some l → length l ≤ limits .elements
   unfolding label
@@ -214,17 +220,16 @@ ruleGraph-is bs x e =
 
 pub record IsTest (tag : ℕ) (bs : List ℕ) (x : Test) : Type 0 where
   pub long : 1 ≤ length bs
-  pub flag : getD bs 0 0 ≤ 1
   pub negated : x .negated ≡ eqb (getD bs 0 0) 1
   pub condition : condition tag (drop 1 bs) ≡ some (x .condition)
 
 pub test-is : (tag : ℕ) (bs : List ℕ) (x : Test) → test tag bs ≡ some x → IsTest tag bs x
 unfolding test
 test-is tag bs x e =
-    let t = ensure-some _ _ x e in
-    let u = ensure-some _ _ x (t .1) in
-    let w = bind-some (condition tag (drop 1 bs)) _ x (u .1) in
-    rw (← (some-inj _ x (w .2))) (record { long = leb-true _ _ (t .0); flag = leb-true _ _ (u .0); negated = refl; condition = w .1 })
+    let t = bind-some (flag bs) _ x e in
+    let f = flag-is bs (t .0) (t .1) in
+    let w = bind-some (condition tag (drop 1 bs)) _ x (t .2) in
+    rw (← (some-inj _ x (w .2))) (record { long = f .0; negated = f .1; condition = w .1 })
 
 module _ (tag : ℕ) (bs : List ℕ) (x : Condition) (e : condition tag bs ≡ some x) where
   pub edge-test-read : tag ≡ edgeTestTag → (length bs ≡ 2) × (x ≡ Edge (getD bs 0 0) (getD bs 1 0))
@@ -326,12 +331,12 @@ rule-few bs x e =
 
 -- Commands, by tag.
 
-asSequence-is : (l : List Command) (x : Command) → asSequence l ≡ some x → (1 ≤ length l) × (x ≡ sequence (inOrder l))
+pub asSequence-is : (l : List Command) (x : Command) → asSequence l ≡ some x → (1 ≤ length l) × (x ≡ sequence (inOrder l))
 unfolding asSequence inOrder
 asSequence-is [] x e = let z : _≡_ {A = ℕ} 0 1 = cc in absurd (omega arith)
 asSequence-is (c ∷ l) x e = (omega arith, sym (some-inj _ x e))
 
-asGuarded-is : (keep : Bool) (l : List Command) (x : Command) → asGuarded keep l ≡ some x → (a b c : Command) × (l ≡ a ∷ b ∷ c ∷ []) × (x ≡ guarded keep a b c)
+pub asGuarded-is : (keep : Bool) (l : List Command) (x : Command) → asGuarded keep l ≡ some x → (a b c : Command) × (l ≡ a ∷ b ∷ c ∷ []) × (x ≡ guarded keep a b c)
 unfolding asGuarded
 asGuarded-is keep [] x e = let z : _≡_ {A = ℕ} 0 1 = cc in absurd (omega arith)
 asGuarded-is keep (a ∷ []) x e = let z : _≡_ {A = ℕ} 0 1 = cc in absurd (omega arith)
@@ -339,7 +344,7 @@ asGuarded-is keep (a ∷ b ∷ []) x e = let z : _≡_ {A = ℕ} 0 1 = cc in abs
 asGuarded-is keep (a ∷ b ∷ c ∷ []) x e = (a, b, c, refl, sym (some-inj _ x e))
 asGuarded-is keep (a ∷ b ∷ c ∷ d ∷ l) x e = let z : _≡_ {A = ℕ} 0 1 = cc in absurd (omega arith)
 
-asLoop-is : (l : List Command) (x : Command) → asLoop l ≡ some x → (c : Command) × (l ≡ c ∷ []) × (x ≡ loop c)
+pub asLoop-is : (l : List Command) (x : Command) → asLoop l ≡ some x → (c : Command) × (l ≡ c ∷ []) × (x ≡ loop c)
 unfolding asLoop
 asLoop-is [] x e = let z : _≡_ {A = ℕ} 0 1 = cc in absurd (omega arith)
 asLoop-is (c ∷ []) x e = (c, refl, sym (some-inj _ x e))
@@ -363,17 +368,12 @@ module _ (n tag : ℕ) (bs : List ℕ) (x : Command) (e : command (suc n) tag bs
       let s = asSequence-is (t .0) x (t .2) in
       (t .0, t .1, s .0, only-few passesAll (command n) (limits .commands) bs (t .0) (t .1), s .1)
 
-  three : (keep : Bool) → command (suc n) tag bs ≡ (only passesAll (command n) (limits .commands) bs >>= asGuarded keep) → (a b c : Command) × (only passesAll (command n) (limits .commands) bs ≡ some (a ∷ b ∷ c ∷ [])) × (x ≡ guarded keep a b c)
-  three keep h =
-      let t = bind-some (only passesAll (command n) (limits .commands) bs) _ x (sym h ∙ e) in
-      let s = asGuarded-is keep (t .0) x (t .2) in
-      (s .0, s .1, s .2, t .1 ∙ ap some (s .3), s .4)
-
-  pub if-read : tag ≡ ifTag → (a b c : Command) × (only passesAll (command n) (limits .commands) bs ≡ some (a ∷ b ∷ c ∷ [])) × (x ≡ guarded false a b c)
-  if-read h = three false (command-if n tag bs h)
-
-  pub try-read : tag ≡ tryTag → (a b c : Command) × (only passesAll (command n) (limits .commands) bs ≡ some (a ∷ b ∷ c ∷ [])) × (x ≡ guarded true a b c)
-  try-read h = three true (command-try n tag bs h)
+  pub guarded-read : tag ≡ guardedTag → (a b c : Command) × (only passesAll (command n) (limits .commands) (drop 1 bs) ≡ some (a ∷ b ∷ c ∷ [])) × (x ≡ guarded (eqb (getD bs 0 0) 1) a b c)
+  guarded-read h =
+      let f = bind-some (flag bs) _ x (sym (command-guarded n tag bs h) ∙ e) in
+      let t = bind-some (only passesAll (command n) (limits .commands) (drop 1 bs)) _ x (f .2) in
+      let s = asGuarded-is (f .0) (t .0) x (t .2) in
+      (s .0, s .1, s .2, t .1 ∙ ap some (s .3), s .4 ∙ ap (λ (keep : Bool). guarded keep (s .0) (s .1) (s .2)) (flag-is bs (f .0) (f .1) .1))
 
   pub loop-read : tag ≡ loopTag → (c : Command) × (only passesAll (command n) (limits .commands) bs ≡ some (c ∷ [])) × (x ≡ loop c)
   loop-read h =
@@ -390,24 +390,45 @@ module _ (n tag : ℕ) (bs : List ℕ) (x : Command) (e : command (suc n) tag bs
   pub break-read : tag ≡ breakTag → (bs ≡ []) × (x ≡ break)
   break-read h = leaf-is break bs x (sym (command-break n tag bs h) ∙ e)
 
--- a command has a tag, and there is depth for it
-pub command-tag : (n tag : ℕ) (bs : List ℕ) (x : Command) → command n tag bs ≡ some x → (0 < n) × (ruleSetTag ≤ tag) × (tag ≤ breakTag)
+-- the tag of a command
+abbrev pub tagOf : Command → ℕ
+tagOf (ruleSet l) = ruleSetTag
+tagOf (sequence cs) = sequenceTag
+tagOf (guarded keep a b c) = guardedTag
+tagOf (loop c) = loopTag
+tagOf skip = skipTag
+tagOf fail = failTag
+tagOf break = breakTag
+
+pub no-rule : (x : Command) → tagOf x ≡ ruleTag → ⊥
+no-rule (ruleSet l) h = omega arith
+no-rule (sequence cs) h = omega arith
+no-rule (guarded keep a b c) h = omega arith
+no-rule (loop c) h = omega arith
+no-rule skip h = omega arith
+no-rule fail h = omega arith
+no-rule break h = omega arith
+
+-- a command that is read has its tag, and there is depth for it
+pub command-tag : (n tag : ℕ) (bs : List ℕ) (x : Command) → command n tag bs ≡ some x → (0 < n) × (tag ≡ tagOf x)
 command-tag zero tag bs x e =
     let h = command-no-depth tag bs in
     let z : _≡_ {A = ℕ} 0 1 = cc in
     absurd (omega arith)
-command-tag (suc n) tag bs x e = at (decLt tag ruleSetTag) (decLt breakTag tag)
+command-tag (suc n) tag bs x e = (omega arith, at (ℕ-discrete tag ruleSetTag) (ℕ-discrete tag sequenceTag) (ℕ-discrete tag guardedTag) (ℕ-discrete tag loopTag) (ℕ-discrete tag skipTag) (ℕ-discrete tag failTag) (ℕ-discrete tag breakTag))
   where
-    none-of : ((ruleSetTag ≤ tag → tag ≤ breakTag → ⊥)) → ⊥
-    none-of h =
-        let k = command-other n tag bs h in
+    at : Dec (tag ≡ ruleSetTag) → Dec (tag ≡ sequenceTag) → Dec (tag ≡ guardedTag) → Dec (tag ≡ loopTag) → Dec (tag ≡ skipTag) → Dec (tag ≡ failTag) → Dec (tag ≡ breakTag) → tag ≡ tagOf x
+    at (yes h) k1 k2 k3 k4 k5 k6 = rw (rule-set-read n tag bs x e h .0) h
+    at (no h0) (yes h) k2 k3 k4 k5 k6 = rw (sequence-read n tag bs x e h .4) h
+    at (no h0) (no h1) (yes h) k3 k4 k5 k6 = rw (guarded-read n tag bs x e h .4) h
+    at (no h0) (no h1) (no h2) (yes h) k4 k5 k6 = rw (loop-read n tag bs x e h .2) h
+    at (no h0) (no h1) (no h2) (no h3) (yes h) k5 k6 = rw (skip-read n tag bs x e h .1) h
+    at (no h0) (no h1) (no h2) (no h3) (no h4) (yes h) k6 = rw (fail-read n tag bs x e h .1) h
+    at (no h0) (no h1) (no h2) (no h3) (no h4) (no h5) (yes h) = rw (break-read n tag bs x e h .1) h
+    at (no h0) (no h1) (no h2) (no h3) (no h4) (no h5) (no h6) =
+        let k = command-other n tag bs h0 h1 h2 h3 h4 h5 h6 in
         let z : _≡_ {A = ℕ} 0 1 = cc in
-        omega arith
-
-    at : Dec (tag < ruleSetTag) → Dec (breakTag < tag) → (0 < suc n) × (ruleSetTag ≤ tag) × (tag ≤ breakTag)
-    at (yes h) k = absurd (none-of (λ a b. omega arith))
-    at (no h) (yes k) = absurd (none-of (λ a b. omega arith))
-    at (no h) (no k) = (omega arith, omega arith, omega arith)
+        absurd (omega arith)
 
 -- How deep a command is nested, a leaf one deep.
 

@@ -13,14 +13,14 @@ use lib.ListN.{length, drop, getD, length-drop, drop-of-length-le}
 use lib.Seq.{drop-cons, drop-drop}
 use Rattle.meaning.specs.Basics.{both, either, every, isEmpty, isSome, _>>=_}
 use Rattle.meaning.specs.Layout.{isNodeMark, isEdgeMark}
-use Rattle.meaning.specs.Tags.{constantTag, variableTag, sumTag, differenceTag, edgeTestTag, inDegreeTag, outDegreeTag, relationTag, equalRelation, lessRelation, blueMark, greyMark, dashedMark, anyMark}
-use Rattle.meaning.specs.Image.{Command, limits, only, passesAll, operand, twoOperands, element, label, ruleNode, ruleEdge, condition, test, isType, types, leaf, command}
+use Rattle.meaning.specs.Tags.{constantTag, variableTag, sumTag, differenceTag, edgeTestTag, inDegreeTag, outDegreeTag, relationTag, guardedTag, equalRelation, lessRelation, blueMark, greyMark, dashedMark, anyMark}
+use Rattle.meaning.specs.Image.{Command, limits, only, passesAll, flag, operand, twoOperands, element, label, ruleNode, ruleEdge, condition, test, isType, types, leaf, command}
 use Rattle.meaning.specs.Laws.Tests.{both-no, both-yes, both-true}
-use Rattle.fields.specs.Image.{isSome-no, isSome-after, first-at, operand-constant, operand-variable, operand-other, element-constant, element-variable, element-sum, element-difference, element-other, ruleNode-ok, ruleEdge-ok, related-ok, condition-edge, condition-in, condition-out, condition-relation, test-ok, types-ok, leaf-ok, command-no-depth}
+use Rattle.fields.specs.Image.{isSome-no, isSome-after, isSome-then, first-at, flag-ok, operand-constant, operand-variable, operand-other, element-constant, element-variable, element-sum, element-difference, element-other, ruleNode-ok, ruleEdge-ok, related-ok, condition-edge, condition-in, condition-out, condition-relation, test-ok, types-ok, leaf-ok, command-no-depth, command-guarded}
 use Rattle.image.specs.declared.Row.{Row}
-use Rattle.image.specs.declared.Row.the-variants.{Nodes, Edges, Tests, Elements, Operands}
+use Rattle.image.specs.declared.Row.the-variants.{Nodes, Edges, Tests, Elements, Operands, Guarded}
 use Rattle.image.specs.Form.{fits, rank, Holds}
-use Rattle.image.proofs.Rows.{both-assoc, both-comm, label-fits, operands-fit}
+use Rattle.image.proofs.Rows.{both-assoc, both-comm, label-fits, operands-fit, guarded-fits}
 
 pub failed : {A : Type 0} (o : Option A) → o ≡ none → false ≡ isSome o
 failed o e = sym (isSome-no o e)
@@ -83,51 +83,52 @@ module _ (bs : List ℕ) where
     pub edge-label : r ≡ true → Holds (rank Edges) (isSome (ruleEdge bs)) bs Elements 3
     edge-label h = record { lower = lit< tt; inside = l; same = label-fits (drop 3 bs) ∙ sym (edge-parts ∙ both-yes _ _ h) }
 
+-- Flags.
+
+pub flag-long : (bs : List ℕ) → isSome (flag bs) ≡ true → 1 ≤ length bs
+flag-long bs h = leb-true _ _ (both-true (leb 1 (length bs)) _ (sym (flag-ok bs) ∙ h) .0)
+
 -- Tests.
 
-module _ (tag : ℕ) (bs : List ℕ) where
-  pub test-short : length bs < 1 → false ≡ isSome (test tag bs)
-  test-short h = sym (test-ok tag bs ∙ both-no _ _ (lt-leb 1 _ h))
+module _ (tag : ℕ) (bs : List ℕ) {f : Bool} (e : f ≡ isSome (flag bs)) where
+  pub test-unflagged : f ≡ false → false ≡ isSome (test tag bs)
+  test-unflagged h = sym (test-ok tag bs ∙ both-no _ _ (sym e ∙ h))
 
-  module _ (l : 1 ≤ length bs) where
-    pub test-flag : 1 < getD bs 0 0 → false ≡ isSome (test tag bs)
-    test-flag h = sym (test-ok tag bs ∙ both-yes _ _ (le-leb 1 _ l) ∙ both-no _ _ (lt-leb _ 1 h))
+  module _ (h : f ≡ true) where
+    test-is : isSome (condition tag (drop 1 bs)) ≡ isSome (test tag bs)
+    test-is = sym (test-ok tag bs ∙ both-yes _ _ (sym e ∙ h))
 
-    module _ (f : getD bs 0 0 ≤ 1) where
-      test-is : isSome (condition tag (drop 1 bs)) ≡ isSome (test tag bs)
-      test-is = sym (test-ok tag bs ∙ both-yes _ _ (le-leb 1 _ l) ∙ both-yes _ _ (le-leb _ 1 f))
+    sized : (k : ℕ) → isSome (condition tag (drop 1 bs)) ≡ eqb (length (drop 1 bs)) k → eqb (length bs - 1) k ≡ isSome (test tag bs)
+    sized k q = ap (λ (n : ℕ). eqb n k) (sym (length-drop 1 bs)) ∙ sym q ∙ test-is
 
-      sized : (k : ℕ) → isSome (condition tag (drop 1 bs)) ≡ eqb (length (drop 1 bs)) k → eqb (length bs - 1) k ≡ isSome (test tag bs)
-      sized k e = ap (λ (n : ℕ). eqb n k) (sym (length-drop 1 bs)) ∙ sym e ∙ test-is
+    pub test-edge : tag ≡ edgeTestTag → eqb (length bs - 1) 2 ≡ isSome (test tag bs)
+    test-edge t = sized 2 (condition-edge tag (drop 1 bs) t)
 
-      pub test-edge : tag ≡ edgeTestTag → eqb (length bs - 1) 2 ≡ isSome (test tag bs)
-      test-edge h = sized 2 (condition-edge tag (drop 1 bs) h)
+    pub test-in : tag ≡ inDegreeTag → eqb (length bs - 1) 3 ≡ isSome (test tag bs)
+    test-in t = sized 3 (condition-in tag (drop 1 bs) t)
 
-      pub test-in : tag ≡ inDegreeTag → eqb (length bs - 1) 3 ≡ isSome (test tag bs)
-      test-in h = sized 3 (condition-in tag (drop 1 bs) h)
+    pub test-out : tag ≡ outDegreeTag → eqb (length bs - 1) 3 ≡ isSome (test tag bs)
+    test-out t = sized 3 (condition-out tag (drop 1 bs) t)
 
-      pub test-out : tag ≡ outDegreeTag → eqb (length bs - 1) 3 ≡ isSome (test tag bs)
-      test-out h = sized 3 (condition-out tag (drop 1 bs) h)
+    pub test-other : condition tag (drop 1 bs) ≡ none → false ≡ isSome (test tag bs)
+    test-other q = failed _ q ∙ test-is
 
-      pub test-other : condition tag (drop 1 bs) ≡ none → false ≡ isSome (test tag bs)
-      test-other e = failed _ e ∙ test-is
+    module _ (t : tag ≡ relationTag) {r : Bool} (q : r ≡ both (leb 2 (length bs)) (either (eqb (getD bs 1 0) equalRelation) (eqb (getD bs 1 0) lessRelation))) where
+      relation-parts : both r (isSome (twoOperands (drop 2 bs))) ≡ isSome (test tag bs)
+      relation-parts =
+          let z : length bs ≡ suc (length bs - 1) = omega (arith, flag-long bs (sym e ∙ h)) in
+          let long : leb 2 (length bs) ≡ leb 1 (length bs - 1) = ap (leb 2) z ∙ leb·suc-suc 1 (length bs - 1) in
+          let parts : isSome (condition tag (drop 1 bs)) ≡ both (leb 1 (length bs - 1)) (both (isSome (twoOperands (drop 2 bs))) (either (eqb (getD bs 1 0) equalRelation) (eqb (getD bs 1 0) lessRelation))) =
+          ap isSome (condition-relation tag (drop 1 bs) t) ∙ isSome-after _ _ _ (related-ok (getD (drop 1 bs) 0 0) (drop 1 (drop 1 bs))) ∙ rw (length-drop 1 bs, first-at bs 1, drop-drop 1 1 bs) in
+          ap₂ both (q ∙ ap₂ both long refl) refl ∙ both-assoc _ _ _ ∙ ap (both _) (both-comm _ _) ∙ sym parts ∙ test-is
 
-      module _ (h : tag ≡ relationTag) {r : Bool} (q : r ≡ both (leb 2 (length bs)) (either (eqb (getD bs 1 0) equalRelation) (eqb (getD bs 1 0) lessRelation))) where
-        relation-parts : both r (isSome (twoOperands (drop 2 bs))) ≡ isSome (test tag bs)
-        relation-parts =
-            let z : length bs ≡ suc (length bs - 1) = omega arith in
-            let long : leb 2 (length bs) ≡ leb 1 (length bs - 1) = ap (leb 2) z ∙ leb·suc-suc 1 (length bs - 1) in
-            let parts : isSome (condition tag (drop 1 bs)) ≡ both (leb 1 (length bs - 1)) (both (isSome (twoOperands (drop 2 bs))) (either (eqb (getD bs 1 0) equalRelation) (eqb (getD bs 1 0) lessRelation))) =
-            ap isSome (condition-relation tag (drop 1 bs) h) ∙ isSome-after _ _ _ (related-ok (getD (drop 1 bs) 0 0) (drop 1 (drop 1 bs))) ∙ rw (length-drop 1 bs, first-at bs 1, drop-drop 1 1 bs) in
-            ap₂ both (q ∙ ap₂ both long refl) refl ∙ both-assoc _ _ _ ∙ ap (both _) (both-comm _ _) ∙ sym parts ∙ test-is
+      pub unrelated : r ≡ false → false ≡ isSome (test tag bs)
+      unrelated k = sym (both-no _ _ k) ∙ relation-parts
 
-        pub unrelated : r ≡ false → false ≡ isSome (test tag bs)
-        unrelated k = sym (both-no _ _ k) ∙ relation-parts
-
-        pub test-operands : r ≡ true → Holds (rank Tests) (isSome (test tag bs)) bs Operands 2
-        test-operands k =
-            let z = leb-true 2 (length bs) (both-true (leb 2 (length bs)) _ (sym q ∙ k) .0) in
-            record { lower = lit< tt; inside = z; same = operands-fit (drop 2 bs) ∙ sym (both-yes _ _ k) ∙ relation-parts }
+      pub test-operands : r ≡ true → Holds (rank Tests) (isSome (test tag bs)) bs Operands 2
+      test-operands k =
+          let z = leb-true 2 (length bs) (both-true (leb 2 (length bs)) _ (sym q ∙ k) .0) in
+          record { lower = lit< tt; inside = z; same = operands-fit (drop 2 bs) ∙ sym (both-yes _ _ k) ∙ relation-parts }
 
 -- Elements.
 
@@ -196,3 +197,16 @@ module _ (depth tag : ℕ) (bs : List ℕ) (d : depth ≡ 0 → ⊥) where
   -- a command of commands
   pub of-parts : (row : Row) (make : List Command → Option Command) → rank row ≡ suc (depth - 1) → command (suc (depth - 1)) tag bs ≡ (only passesAll (command (depth - 1)) (limits .commands) bs >>= make) → fits row bs ≡ isSome (only passesAll (command (depth - 1)) (limits .commands) bs >>= make) → Holds (suc depth) (isSome (command depth tag bs)) bs row 0
   of-parts row make z e q = record { lower = omega arith; inside = omega arith; same = as-is (only passesAll (command (depth - 1)) (limits .commands) bs >>= make) e q }
+
+  -- a guarded command: its flag, and its row behind it
+  module _ (t : tag ≡ guardedTag) {f : Bool} (e : f ≡ isSome (flag bs)) where
+    guarded-parts : isSome (command depth tag bs) ≡ both (isSome (flag bs)) (fits (Guarded (depth - 1)) (drop 1 bs))
+    guarded-parts =
+        ap isSome (deeper (command-guarded (depth - 1) tag bs t))
+        ∙ isSome-then (flag bs) _ _ (λ keep. sym (guarded-fits (depth - 1) (drop 1 bs) keep))
+
+    pub guarded-unflagged : f ≡ false → false ≡ isSome (command depth tag bs)
+    guarded-unflagged h = sym (guarded-parts ∙ both-no _ _ (sym e ∙ h))
+
+    pub guarded-row : f ≡ true → Holds (suc depth) (isSome (command depth tag bs)) bs (Guarded (depth - 1)) 1
+    guarded-row h = record { lower = omega arith; inside = flag-long bs (sym e ∙ h); same = sym (guarded-parts ∙ both-yes _ _ (sym e ∙ h)) }

@@ -6,7 +6,7 @@ ghost use lib.ListN.{length, getD};
 ghost use lib.Dec.{eqb, leb};
 ghost use Rattle.meaning.specs.Basics.{both, either, isSome};
 ghost use Rattle.meaning.specs.Tags.{equalRelation, lessRelation, anyMark};
-ghost use Rattle.meaning.specs.Image.{operand, element, ruleNode, ruleEdge, test, types, command, asRuleSet};
+ghost use Rattle.meaning.specs.Image.{flag, operand, element, ruleNode, ruleEdge, test, types, command, asRuleSet};
 ghost use Rattle.image.specs.declared.Row.the-variants.{Nodes, Edges, Tests, Elements};
 ghost use Rattle.image.specs.Form.{read, rank, Tells};
 use crate::Inside;
@@ -92,14 +92,21 @@ fn related(p: &[u8]) -> bool
     one_of(p[1], Relation::EQUAL, Relation::LESS)
 }
 
+// Whether a flag, 0 or 1, stands in front.
+fn flagged(p: &[u8]) -> bool
+    ensures { λ r. ⌜ r ≡ isSome (flag (now (p .entry))) ⌝ }
+{
+    if p.len() < 1 {
+        return false;
+    }
+    p[0] <= 1
+}
+
 // Whether the test is negated, then its condition.
 fn test(tag: u8, p: &[u8]) -> Inside
     ensures { λ r. ⌜ Tells (rank Tests) (isSome (test tag (now (p .entry)))) (now (p .entry)) r ⌝ }
 {
-    if p.len() < 1 {
-        return Inside::Known(false);
-    }
-    if p[0] > 1 {
+    if !flagged(p) {
         return Inside::Known(false);
     }
     if tag == Tag::RELATION {
@@ -160,8 +167,12 @@ fn command(tag: u8, p: &[u8], depth: usize) -> Inside
     match tag {
         Tag::RULE_SET => Inside::Known(rule_set_ok(p)),
         Tag::SEQUENCE => Inside::From(Row::Sequence(lower), 0),
-        Tag::IF => Inside::From(Row::Guarded(lower), 0),
-        Tag::TRY => Inside::From(Row::Guarded(lower), 0),
+        Tag::GUARDED => {
+            if flagged(p) {
+                return Inside::From(Row::Guarded(lower), 1);
+            }
+            Inside::Known(false)
+        }
         Tag::LOOP => Inside::From(Row::Loop(lower), 0),
         Tag::SKIP => Inside::Known(p.len() == 0),
         Tag::FAIL => Inside::Known(p.len() == 0),

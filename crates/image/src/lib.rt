@@ -30,7 +30,7 @@ pub enum Row {
     Elements,
     // The operands of a sum, a difference or a relation.
     Operands,
-    // The commands in a sequence, in an if or a try, and in a loop, each nested at most so deep.
+    // The commands in a sequence, in a guarded command and in a loop, each nested at most so deep.
     Sequence(usize),
     Guarded(usize),
     Loop(usize),

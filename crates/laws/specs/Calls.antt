@@ -14,7 +14,7 @@ use Rattle.meaning.specs.Image.{Program, limits, program}
 use Rattle.meaning.specs.References.{references}
 use Rattle.meaning.specs.Placement.{placement}
 use Rattle.meaning.specs.Commands.{State, Out, beginning, exec}
-use Rattle.meaning.specs.Calls.{Lent, LentUndo, mostFuel, refused, referencesHold, placementHolds, runRefusal, journalRoom, finished, started, runOn, run, counted, keepsRecords, undoRefusal, undoOn, undo}
+use Rattle.meaning.specs.Calls.{Lent, LentUndo, mostFuel, refused, referencesHold, placementHolds, refusalAs, runRefusal, journalRoom, finished, started, runOn, run, counted, keepsRecords, undoRefusal, undoOn, undo}
 use Rattle.meaning.specs.Laws.Tests.{both-true, isSome-true}
 use Rattle.meaning.specs.Laws.Checks.{firstFailing-none}
 use Rattle.meaning.specs.declared.Layout.{Layout}
@@ -42,7 +42,7 @@ module _ (L : Layout) (x : Lent) where
     pub placement : placement tree ≡ true
 
   pub accepted : runRefusal L x ≡ none → Accepted
-  unfolding runRefusal referencesHold placementHolds
+  unfolding refusalAs referencesHold placementHolds
   accepted e =
       let t1 = firstFailing-none _ _ _ e in
       let t2 = firstFailing-none _ _ _ (t1 .1) in
@@ -70,7 +70,7 @@ module _ (L : Layout) (x : Lent) where
       }
 
   pub accepts : Accepted → runRefusal L x ≡ none
-  unfolding runRefusal firstFailing choose referencesHold placementHolds isSome
+  unfolding refusalAs firstFailing choose referencesHold placementHolds isSome
   accepts a =
       rw (
         eq-eqb (length (x .report)) 8 (a .reportSize),

@@ -11,9 +11,9 @@ use lib.ListN.{length, getD, drop}
 use Rattle.meaning.specs.Tags.{interfaceTag, leftTag, rightTag, testsTag, variablesTag}
 use Rattle.meaning.specs.Basics.{choose, every, _>>=_}
 use Rattle.meaning.specs.Numbers.{number, whole}
-use Rattle.meaning.specs.Image.{RuleNode, RuleEdge, RuleGraph, Rule, Program, limits, Field, Read, stated, field, expect, leading, only, passesAll, constant, oneByte, operand, Pair, asPair, twoOperands, element, label, ruleNode, ruleEdge, ruleGraph, isType, types, relation, condition, test, rule, program}
+use Rattle.meaning.specs.Image.{RuleNode, RuleEdge, RuleGraph, Rule, Program, limits, Field, Read, stated, field, expect, leading, only, passesAll, constant, oneByte, flag, operand, Pair, asPair, twoOperands, element, label, ruleNode, ruleEdge, ruleGraph, isType, types, relation, condition, test, rule, programBy, program}
 use Rattle.meaning.specs.References.{conditionOperands, ruleHolds, references}
-use Rattle.meaning.specs.Laws.Tests.{both-true, some-inj, bind-some, ensure-some}
+use Rattle.meaning.specs.Laws.Tests.{choose-either, both-true, some-inj, bind-some, ensure-some}
 use Rattle.meaning.specs.Laws.Every.{Every, Every-true, Every-with}
 use Rattle.laws.specs.Numbers.{Bytes, Bytes-take, Bytes-drop, number-lt}
 use Rattle.laws.specs.Values.{LegalOperand, LegalElement, LegalRuleNode, LegalRuleEdge, LegalTest, LegalRule}
@@ -91,11 +91,6 @@ constant-word bs c h e =
     let n : number bs < 256 ^ length bs = number-lt bs h in
     let k : number bs < 256 ^ 4 = rw l at n in
     rw (← (some-inj (number bs) c (t .1))) k
-
-choose-either : {A C : Type 0} (b : Bool) (x y z : A) → choose b x y ≡ z → (x ≡ z → C) → (y ≡ z → C) → C
-unfolding choose
-choose-either true x y z e f g = f e
-choose-either false x y z e f g = g e
 
 operand-legal : (tag : ℕ) (bs : List ℕ) (a : Operand) → Bytes bs → operand tag bs ≡ some a → LegalOperand a
 unfolding operand
@@ -192,8 +187,8 @@ condition-legal tag bs c h e =
 test-legal : (tag : ℕ) (bs : List ℕ) (t : Test) → Bytes bs → test tag bs ≡ some t → LegalTest t
 unfolding test
 test-legal tag bs t h e =
-    let u = ensure-some _ _ t (ensure-some _ _ t e .1) in
-    let c = bind-some (condition tag (drop 1 bs)) _ t (u .1) in
+    let f = bind-some (flag bs) _ t e in
+    let c = bind-some (condition tag (drop 1 bs)) _ t (f .2) in
     rw (← (some-inj _ t (c .2))) (condition-legal tag (drop 1 bs) (c .0) (Bytes-drop 1 bs h) (c .1))
 
 -- Rules.
@@ -235,7 +230,7 @@ rule-formed bs r h e =
     })))))))))))
 
 pub program-formed : (bs : List ℕ) (p : Program) → Bytes bs → program bs ≡ some p → Every Formed (p .rules)
-unfolding program
+unfolding program programBy
 program-formed bs p h e =
     let t = bind-some _ _ p e in
     let d = bind-some (field (t .0 .rest)) _ p (t .2) in

@@ -132,18 +132,21 @@ module _ (L : Layout) where
 
   -- Run.
 
-  -- the lowest applicable number from 9 to 18
-  unfoldable pub runRefusal : Lent → Option Refusal
-  runRefusal x =
+  -- the lowest applicable number from 9 to 18, where the image is read as p
+  unfoldable pub refusalAs : Option Program → Lent → Option Refusal
+  refusalAs p x =
       firstFailing
       (lengthChecks (x .nodes) (x .edges) (x .journal) (x .report)
       ++ (leb (x .fuel) mostFuel, TooMuchFuel)
       ∷ (leb (length (x .image)) (limits .bytes), ImageTooLong)
       ∷ (keepsLayout L (x .nodes) (x .edges), BadHost)
-      ∷ (isSome (program (x .image)), BadForm)
-      ∷ (referencesHold (program (x .image)), BadReferences)
-      ∷ (placementHolds (program (x .image)), BadPlacement)
+      ∷ (isSome p, BadForm)
+      ∷ (referencesHold p, BadReferences)
+      ∷ (placementHolds p, BadPlacement)
       ∷ [])
+
+  abbrev pub runRefusal : Lent → Option Refusal
+  runRefusal x = refusalAs (program (x .image)) x
 
   -- how many records the journal holds
   abbrev pub journalRoom : List ℕ → ℕ
@@ -178,8 +181,12 @@ module _ (L : Layout) where
   runOn none none x = refused BadForm (x .nodes) (x .edges) (x .journal) (x .report)
   runOn none (some p) x = started p (x .nodes) (x .edges) (x .journal) (x .fuel)
 
+  -- what a call returns, where the image is read as p
+  abbrev pub runAs : Option Program → Lent → Returned
+  runAs p x = runOn (refusalAs p x) p x
+
   unfoldable pub run : Lent → Returned
-  run x = runOn (runRefusal x) (program (x .image)) x
+  run x = runAs (program (x .image)) x
 
   -- Undo.
 

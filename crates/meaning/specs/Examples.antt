@@ -5,9 +5,9 @@ use mathlib.Core.List.{List, [], _∷_, _++_, map}
 use Prim.Native.Nat.{ℕ, _*_}
 use lib.ListN.{replicate}
 use Rattle.meaning.specs.Layout.{base, edgeLength, recordLength}
-use Rattle.meaning.specs.Tags.{ruleTag, variablesTag, leftTag, rightTag, interfaceTag, testsTag, constantTag, sumTag, inDegreeTag, outDegreeTag, ifTag, loopTag}
+use Rattle.meaning.specs.Tags.{ruleTag, variablesTag, leftTag, rightTag, interfaceTag, testsTag, constantTag, sumTag, inDegreeTag, outDegreeTag, loopTag, guardedTag}
 use Rattle.meaning.specs.Calls.{Returned, run, undo, reportOf, lending, lendingUndo}
-use Rattle.meaning.specs.ProvedSet.{Case, given, liveNode, freeNode, liveEdge, nodeRecord, edgeRecord, plainNode, redNode, fieldBytes, ruleField, nodeField, edgeField, variableField, ruleSetField, marksRed, skipField, breakField, noResult, results, onPlainNode}
+use Rattle.meaning.specs.ProvedSet.{Case, Expected, given, liveNode, freeNode, liveEdge, nodeRecord, edgeRecord, plainNode, redNode, fieldBytes, ruleField, nodeField, edgeField, variableField, ruleSetField, marksRed, skipField, breakField, noResult, results, onPlainNode}
 use Rattle.meaning.specs.Computing.{computing}
 use Rattle.meaning.specs.declared.Answer.the-variants.{Result}
 
@@ -51,11 +51,20 @@ rootNode = liveNode 0 1 (0 ∷ [])
 abbrev largest : List ℕ
 largest = liveNode 0 0 (1 ∷ 127 ∷ 255 ∷ 255 ∷ 255 ∷ [])
 
+-- what is left on a plain node with 8 records where the call is refused
+abbrev refuses : ℕ → Expected
+refuses answer =
+    record { answer = answer; nodes = plainNode; edges = []; journal = replicate (8 * recordLength base) 1; report = reportOf 0 0 }
+
 abbrev examples : List Case
 examples =
     -- no break stands in a guard, whatever stands around it
-    onPlainNode 100 (fieldBytes loopTag (fieldBytes ifTag (breakField ++ skipField ++ skipField)))
-    (record { answer = 18; nodes = plainNode; edges = []; journal = replicate (8 * recordLength base) 1; report = reportOf 0 0 })
+    onPlainNode 100 (fieldBytes loopTag (fieldBytes guardedTag (0 ∷ breakField ++ skipField ++ skipField))) (refuses 18)
+    -- a guarded command has a byte of 0 or 1 in front, and no other tag
+    ∷ onPlainNode 100 (fieldBytes guardedTag (2 ∷ skipField ++ skipField ++ skipField)) (refuses 16)
+    ∷ onPlainNode 100 (fieldBytes guardedTag (skipField ++ skipField ++ skipField)) (refuses 16)
+    ∷ onPlainNode 100 (fieldBytes 0x52 (skipField ++ skipField ++ skipField)) (refuses 16)
+    ∷ onPlainNode 100 (fieldBytes 0x53 (skipField ++ skipField ++ skipField)) (refuses 16)
     -- a label that can't be held is answered before records that don't fit
     ∷ record {
       nodes = largest;

@@ -10,7 +10,7 @@ use lib.Dec.{eqb, leb}
 use Rattle.meaning.specs.Basics.{choose, both, either, every, isEmpty, ensure, _>>_, _>>=_}
 use Rattle.meaning.specs.Numbers.{number}
 use Rattle.meaning.specs.Layout.{isNodeMark, isEdgeMark}
-use Rattle.meaning.specs.Tags.{ruleTag, variablesTag, leftTag, rightTag, interfaceTag, testsTag, nodeTag, edgeTag, constantTag, variableTag, sumTag, differenceTag, edgeTestTag, inDegreeTag, outDegreeTag, relationTag, ruleSetTag, sequenceTag, ifTag, tryTag, loopTag, skipTag, failTag, breakTag, intType, listType, equalRelation, lessRelation, anyMark}
+use Rattle.meaning.specs.Tags.{ruleTag, variablesTag, leftTag, rightTag, interfaceTag, testsTag, nodeTag, edgeTag, constantTag, variableTag, sumTag, differenceTag, edgeTestTag, inDegreeTag, outDegreeTag, relationTag, ruleSetTag, sequenceTag, loopTag, skipTag, failTag, breakTag, guardedTag, intType, listType, equalRelation, lessRelation, anyMark}
 use Rattle.meaning.specs.declared.Operand.{Operand}
 use Rattle.meaning.specs.declared.Operand.the-variants.{Constant as constantOperand, Variable as variableOperand}
 use Rattle.meaning.specs.declared.Element.{Element}
@@ -147,7 +147,7 @@ only passes item n bs = do
 abbrev pub passesAll : ℕ → Bool
 passesAll t = true
 
--- Operands and label elements.
+-- Single values, operands and label elements.
 
 unfoldable pub constant : List ℕ → Option ℕ
 constant bs = do
@@ -158,6 +158,12 @@ unfoldable pub oneByte : List ℕ → Option ℕ
 oneByte bs = do
   ensure (eqb (length bs) 1)
   some (getD bs 0 0)
+
+-- a byte in front, 1 for yes or 0 for no
+unfoldable pub flag : List ℕ → Option Bool
+flag bs = do
+  ensure (both (leb 1 (length bs)) (leb (getD bs 0 0) 1))
+  some (eqb (getD bs 0 0) 1)
 
 unfoldable pub operand : ℕ → List ℕ → Option Operand
 operand tag bs =
@@ -213,14 +219,14 @@ ruleGraph bs = do
   e ← only (eqb edgeTag) (λ tag. ruleEdge) (limits .edges) (n .rest)
   some (record { nodes = n .items; edges = e })
 
--- Tests. The first byte says whether the test is negated.
+-- Tests.
 
 unfoldable pub relation : ℕ → Pair → Option Condition
 relation kind p =
     choose (eqb kind equalRelation) (some (Equal (p .first) (p .second)))
     (choose (eqb kind lessRelation) (some (Less (p .first) (p .second))) none)
 
--- the condition of a test, from its tag and the bytes behind the first
+-- the condition of a test, from its tag and the bytes behind its flag
 unfoldable pub condition : ℕ → List ℕ → Option Condition
 condition tag bs =
     choose (eqb tag edgeTestTag) (ensure (eqb (length bs) 2) >> some (Edge (getD bs 0 0) (getD bs 1 0)))
@@ -228,12 +234,12 @@ condition tag bs =
     (choose (eqb tag outDegreeTag) (ensure (eqb (length bs) 3) >> some (OutDegree (getD bs 0 0) (number (drop 1 bs))))
     (choose (eqb tag relationTag) (ensure (leb 1 (length bs)) >> (twoOperands (drop 1 bs) >>= relation (getD bs 0 0))) none)))
 
+-- the flag says whether the test is negated
 unfoldable pub test : ℕ → List ℕ → Option Test
 test tag bs = do
-  ensure (leb 1 (length bs))
-  ensure (leb (getD bs 0 0) 1)
+  negated ← flag bs
   c ← condition tag (drop 1 bs)
-  some (record { negated = eqb (getD bs 0 0) 1; condition = c })
+  some (record { negated = negated; condition = c })
 
 -- Rules: exactly 0x11 to 0x15.
 
@@ -293,25 +299,33 @@ asLoop [] = none
 asLoop (c ∷ []) = some (loop c)
 asLoop (c ∷ d ∷ l) = none
 
+-- every command but the guarded one; `parts` reads the commands in it
+unfoldable pub unguarded : (List ℕ → Option (List Command)) → ℕ → List ℕ → Option Command
+unguarded parts tag bs =
+    choose (eqb tag ruleSetTag) (asRuleSet bs)
+    (choose (eqb tag sequenceTag) (parts bs >>= asSequence)
+    (choose (eqb tag loopTag) (parts bs >>= asLoop)
+    (choose (eqb tag skipTag) (leaf skip bs)
+    (choose (eqb tag failTag) (leaf fail bs)
+    (choose (eqb tag breakTag) (leaf break bs) none)))))
+
+-- the flag of a guarded command says whether a successful guard's changes are kept
 unfoldable pub command : ℕ → ℕ → List ℕ → Option Command
 command zero tag bs = none
 command (suc n) tag bs =
-    let parts = only passesAll (command n) (limits .commands) bs in
-    choose (eqb tag ruleSetTag) (asRuleSet bs)
-    (choose (eqb tag sequenceTag) (parts >>= asSequence)
-    (choose (eqb tag ifTag) (parts >>= asGuarded false)
-    (choose (eqb tag tryTag) (parts >>= asGuarded true)
-    (choose (eqb tag loopTag) (parts >>= asLoop)
-    (choose (eqb tag skipTag) (leaf skip bs)
-    (choose (eqb tag failTag) (leaf fail bs)
-    (choose (eqb tag breakTag) (leaf break bs) none)))))))
+    let parts : List ℕ → Option (List Command) = only passesAll (command n) (limits .commands) in
+    choose (eqb tag guardedTag) (flag bs >>= λ keep. parts (drop 1 bs) >>= asGuarded keep) (unguarded parts tag bs)
 
 -- The whole image: rules, then one command, then nothing.
 
-unfoldable pub program : List ℕ → Option Program
-program bs = do
+-- `main` reads the command from its tag and payload
+unfoldable pub programBy : (ℕ → List ℕ → Option Command) → List ℕ → Option Program
+programBy main bs = do
   r ← leading (eqb ruleTag) (λ tag. rule) (limits .rules) bs
   d ← field (r .rest)
   ensure (isEmpty (d .rest))
-  c ← command (limits .depth) (d .tag) (d .payload)
+  c ← main (d .tag) (d .payload)
   some (record { rules = r .items; main = c })
+
+unfoldable pub program : List ℕ → Option Program
+program bs = programBy (command (limits .depth)) bs

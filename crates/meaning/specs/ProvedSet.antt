@@ -141,8 +141,8 @@ cases =
     -- 7: a left side of two nodes on one
     ∷ onPlainNode 100 (twoNodes ++ ruleSetField 0) (noResult 1 1 plainNode [])
     -- 8, 9: if and try M then skip else fail
-    ∷ onPlainNode 100 (marksRed ++ fieldBytes 0x52 (ruleSetField 0 ++ skipField ++ failField)) (results 3 0 plainNode [] [])
-    ∷ onPlainNode 100 (marksRed ++ fieldBytes 0x53 (ruleSetField 0 ++ skipField ++ failField)) (results 3 1 redNode [] (nodeRecord 0 plainNode))
+    ∷ onPlainNode 100 (marksRed ++ fieldBytes 0x59 (0 ∷ ruleSetField 0 ++ skipField ++ failField)) (results 3 0 plainNode [] [])
+    ∷ onPlainNode 100 (marksRed ++ fieldBytes 0x59 (1 ∷ ruleSetField 0 ++ skipField ++ failField)) (results 3 1 redNode [] (nodeRecord 0 plainNode))
     -- 10, 11: a loop of (M; fail) and of (M; break)
     ∷ onPlainNode 100 (marksRed ++ fieldBytes 0x54 (fieldBytes 0x51 (ruleSetField 0 ++ failField))) (results 4 0 plainNode [] [])
     ∷ onPlainNode 100 (marksRed ++ fieldBytes 0x54 (fieldBytes 0x51 (ruleSetField 0 ++ breakField))) (results 4 1 redNode [] (nodeRecord 0 plainNode))

@@ -66,12 +66,6 @@ ruleSetTag = 0x50
 abbrev pub sequenceTag : ℕ
 sequenceTag = 0x51
 
-abbrev pub ifTag : ℕ
-ifTag = 0x52
-
-abbrev pub tryTag : ℕ
-tryTag = 0x53
-
 abbrev pub loopTag : ℕ
 loopTag = 0x54
 
@@ -83,6 +77,9 @@ failTag = 0x56
 
 abbrev pub breakTag : ℕ
 breakTag = 0x57
+
+abbrev pub guardedTag : ℕ
+guardedTag = 0x59
 
 -- The types of variables, and the relations of a relation test.
 

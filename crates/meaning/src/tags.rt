@@ -45,10 +45,6 @@ impl Tag {
 
     pub const SEQUENCE: u8 = 0x51;
 
-    pub const IF: u8 = 0x52;
-
-    pub const TRY: u8 = 0x53;
-
     pub const LOOP: u8 = 0x54;
 
     pub const SKIP: u8 = 0x55;
@@ -56,6 +52,8 @@ impl Tag {
     pub const FAIL: u8 = 0x56;
 
     pub const BREAK: u8 = 0x57;
+
+    pub const GUARDED: u8 = 0x59;
 }
 
 // The types of variables.

@@ -1,6 +1,7 @@
 -- What is read of operands, elements, conditions and tests is what the definition's reader gives, where it gives something.
 -- Rests on the meaning's Image and on Series.
 use mathlib.Core.Path.{_≡_, sym, _∙_, ap}
+use mathlib.Core.Bool.{Bool}
 use mathlib.Core.Option.{Option, some, none}
 use mathlib.Core.List.{List, []}
 use Prim.Native.Nat.{ℕ, _<_}
@@ -159,11 +160,11 @@ module _ (tag : ℕ) (bs : List ℕ) where
               rw (ha, hn (t .0)) (sym (t .1))
           at (no h) = never (condition-other tag bs h0 h1 h h3) e
 
-  pub test-read : (first : ℕ) (rest : List ℕ) (r : Condition) → first ≡ getD bs 0 0 → rest ≡ drop 1 bs → For (condition tag rest) (λ c. r ≡ c) → For (test tag bs) (λ t. record { negated = eqb first 1; condition = r } ≡ t)
-  test-read first rest r hf hr q x e =
+  pub test-read : (negated : Bool) (rest : List ℕ) (r : Condition) → negated ≡ eqb (getD bs 0 0) 1 → rest ≡ drop 1 bs → For (condition tag rest) (λ c. r ≡ c) → For (test tag bs) (λ t. record { negated = negated; condition = r } ≡ t)
+  test-read negated rest r hn hr q x e =
       let i = test-is tag bs x e in
       let w : r ≡ x .condition = q (x .condition) (ap (condition tag) hr ∙ i .condition) in
-      let v : eqb first 1 ≡ x .negated = ap (λ (m : ℕ). eqb m 1) hf ∙ sym (i .negated) in
+      let v : negated ≡ x .negated = hn ∙ sym (i .negated) in
       rw (v, w)
 
 -- what is read from the field of a number, of a label or of tests

@@ -13,10 +13,10 @@ use lib.ListN.{length, getD, drop, length-append, length-map, List·getD-map, Li
 use lib.Seq.{getD-append-add, getD-at}
 use Rattle.meaning.specs.Tags.{edgeTag, interfaceTag, leftTag, nodeTag, rightTag, ruleTag, testsTag, variablesTag}
 use Rattle.meaning.specs.Basics.{choose, isEmpty, _>>=_}
-use Rattle.meaning.specs.Image.{RuleNode, RuleEdge, RuleGraph, Rule, Command, Program, Field, field, expect, leading, only, passesAll, oneByte, label, ruleNode, ruleEdge, ruleGraph, test, types, rule, command, program}
+use Rattle.meaning.specs.Image.{RuleNode, RuleEdge, RuleGraph, Rule, Command, Program, Field, field, expect, leading, only, passesAll, oneByte, label, ruleNode, ruleEdge, ruleGraph, test, types, rule, command, programBy, program}
 use Rattle.meaning.specs.Laws.Tests.{choose-true, choose-eq, choose-ne, some-inj, bind-some, ensure-some, empty-true}
 use Rattle.fields.specs.Image.{field-is, bind-yes}
-use Rattle.fields.specs.Parsed.{oneByte-is, ruleNode-is, ruleEdge-is, ruleGraph-is, types-is, rule-is, command-tag}
+use Rattle.fields.specs.Parsed.{oneByte-is, ruleNode-is, ruleEdge-is, ruleGraph-is, types-is, rule-is, no-rule, command-tag}
 use Rattle.meaning.specs.declared.Element.{Element}
 use Rattle.fields.specs.Laws.{Lies}
 use Rattle.parts.specs.Series.{Series, For, series-none, series-some, series-there, leading-series, only-series, series-append, series-map, nthPart, nthTag, nth-item}
@@ -133,11 +133,11 @@ count-is item bs r h l q = let t = series-tags item l [] bs q in h (t .0) (t .1)
 unfoldable pub tagged : {A : Type 0} → ℕ → (List ℕ → Option A) → ℕ → List ℕ → Option A
 tagged t item tag bs = choose (eqb t tag) (item bs) none
 
-tagged-yes : {A : Type 0} (t : ℕ) (item : List ℕ → Option A) (tag : ℕ) (bs : List ℕ) (a : A) → eqb t tag ≡ true → item bs ≡ some a → tagged t item tag bs ≡ some a
+pub tagged-yes : {A : Type 0} (t : ℕ) (item : List ℕ → Option A) (tag : ℕ) (bs : List ℕ) (a : A) → eqb t tag ≡ true → item bs ≡ some a → tagged t item tag bs ≡ some a
 unfolding tagged
 tagged-yes t item tag bs a h e = choose-true _ _ _ h ∙ e
 
-tagged-some : {A : Type 0} (t : ℕ) (item : List ℕ → Option A) (tag : ℕ) (bs : List ℕ) (a : A) → tagged t item tag bs ≡ some a → (t ≡ tag) × (item bs ≡ some a)
+pub tagged-some : {A : Type 0} (t : ℕ) (item : List ℕ → Option A) (tag : ℕ) (bs : List ℕ) (a : A) → tagged t item tag bs ≡ some a → (t ≡ tag) × (item bs ≡ some a)
 unfolding tagged choose
 tagged-some {A} t item tag bs a e = at (eqb t tag) refl e
   where
@@ -343,14 +343,14 @@ rule-item tag bs x e =
     rw (← (t .0)) (bind-yes _ _ x (t .1))
 
 pub no-command : (tag : ℕ) (bs : List ℕ) (c : Command) → command 16 tag bs ≡ some c → tag ≡ ruleTag → ⊥
-no-command tag bs c e h = omega (arith, command-tag 16 tag bs c e .1)
+no-command tag bs c e h = no-rule c (sym (command-tag 16 tag bs c e .1) ∙ h)
 
 main-item : (tag : ℕ) (bs : List ℕ) (c : Command) → command 16 tag bs ≡ some c → imagePart tag bs ≡ some (mainOf tag c)
 unfolding imagePart
 main-item tag bs c e = choose-ne tag ruleTag _ _ (no-command tag bs c e) ∙ bind-yes _ _ c e
 
 pub image-series : (bs : List ℕ) (p : Program) → program bs ≡ some p → (t : ℕ) × (t ≡ ruleTag → ⊥) × (Series imagePart (imageParts t p) [] bs)
-unfolding program Series
+unfolding program programBy Series
 image-series bs p e =
     let t = bind-some (leading (eqb ruleTag) (λ tag. rule) 32 bs) _ p e in
     let u = bind-some (field (t .0 .rest)) _ p (t .2) in

@@ -4,6 +4,7 @@ ghost use mathlib.Core.Path.{_≡_};
 ghost use mathlib.Core.Option.{some, none};
 ghost use mathlib.Core.List.{List, []};
 ghost use Prim.Native.Nat.{ℕ, _<_, _≤_};
+ghost use lib.Dec.{eqb};
 ghost use lib.ListN.{length, getD, drop};
 ghost use Rattle.meaning.specs.Numbers.{number};
 ghost use Rattle.meaning.specs.Image.{Rule, only, passesAll, constant, label, ruleNode, ruleEdge, RuleNode, RuleEdge, ruleGraph, test, rule, program};
@@ -44,6 +45,13 @@ pub fn number_at(p: &[u8], i: usize) -> usize
     ensures { λ r. ⌜ (r ≡ getD (now (p .entry)) i 0) × (r < 256) ⌝ }
 {
     fields::wide(byte_at(p, i))
+}
+
+// Whether the flag in front says yes; it doesn't if there is none.
+pub fn flag(p: &[u8]) -> bool
+    ensures { λ r. ⌜ r ≡ eqb (getD (now (p .entry)) 0 0) 1 ⌝ }
+{
+    byte_at(p, 0) == 1
 }
 
 // The bytes behind the first n.

@@ -68,7 +68,7 @@ pub fn read_relation(p: &[u8]) -> Condition
     Condition::Less(a, b)
 }
 
-// A condition, from its tag and the bytes behind the first.
+// A condition, from its tag and the bytes behind the test's flag.
 pub fn read_condition(tag: u8, p: &[u8]) -> Condition
     ensures { λ r. ⌜ For (condition tag (now (p .entry))) (λ c. r ≡ c) ⌝ }
 {
@@ -91,7 +91,7 @@ pub fn read_test(tag: u8, p: &[u8]) -> Test
 {
     let c = read_condition(tag, crate::behind(p, 1));
     Test {
-        negated: crate::byte_at(p, 0) == 1,
+        negated: crate::flag(p),
         condition: c,
     }
 }

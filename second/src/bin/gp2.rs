@@ -1,4 +1,4 @@
-//! The text tools' program: `gp2 asm`, `gp2 dis` and `gp2 dot`.
+//! The text tools' program: `gp2 asm`, `gp2 dis`, `gp2 dot` and `gp2 renew`.
 
 use second::text::{perform, task};
 use std::process::ExitCode;

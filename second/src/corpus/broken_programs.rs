@@ -18,6 +18,22 @@ pub fn mangle(random: &mut Random, bytes: &mut Vec<u8>) {
     }
 }
 
+/// Answer 16: a guarded command with a byte that is neither 0 nor 1, without one, or with a tag that no command has. Where
+/// there is none, a few bits are turned.
+pub fn break_guarded(random: &mut Random, bytes: &mut Vec<u8>) {
+    let begins = |at: &usize| matches!(bytes[*at..], [0x59, _, _, 0 | 1, 0x50..=0x59, ..]);
+    let places: Vec<usize> = (0..bytes.len()).filter(begins).collect();
+    if places.is_empty() {
+        return flip_bits(random, bytes);
+    }
+    let at = random.pick(&places);
+    match random.below(4) {
+        0 => bytes[at] = random.pick(&[0x52, 0x53, 0x58, 0x5A]),
+        1 => drop(bytes.remove(at + 3)),
+        _ => bytes[at + 3] = random.pick(&[2, 3, 0x80, 0xFF]),
+    }
+}
+
 /// Answer 14: bytes behind the image, one more than there may be, or a few.
 pub fn make_too_long(random: &mut Random, bytes: &mut Vec<u8>) {
     let length = limit::IMAGE_BYTES + random.pick(&[1, 1, 2, 64]);

@@ -266,7 +266,9 @@ impl Writer<'_> {
 fn depth(command: &Command) -> usize {
     let deepest = match command {
         Command::Sequence(parts) => parts.iter().map(depth).max().unwrap_or(0),
-        Command::If(a, b, c) | Command::Try(a, b, c) => depth(a).max(depth(b)).max(depth(c)),
+        Command::Guarded {
+            guard, then, other, ..
+        } => depth(guard).max(depth(then)).max(depth(other)),
         Command::Loop(body) => depth(body),
         _ => 0,
     };

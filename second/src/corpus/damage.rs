@@ -14,6 +14,7 @@ enum Kind {
     References,
     Placement,
     Layout,
+    Guarded,
     Bytes,
     Length,
     Nodes,
@@ -24,11 +25,12 @@ enum Kind {
 }
 
 /// Each kind with its weight.
-const KINDS: [(Kind, usize); 11] = [
+const KINDS: [(Kind, usize); 12] = [
     (Kind::Form, 14),
     (Kind::References, 24),
     (Kind::Placement, 10),
     (Kind::Layout, 16),
+    (Kind::Guarded, 10),
     (Kind::Bytes, 11),
     (Kind::Length, 1),
     (Kind::Nodes, 6),
@@ -52,6 +54,7 @@ pub fn damaged(random: &mut Random, mut draft: Draft) -> Vec<u8> {
     for kind in &kinds {
         match kind {
             Kind::Layout => break_layout(random, &draft.host, &mut input),
+            Kind::Guarded => break_guarded(random, &mut input.program),
             Kind::Bytes => mangle(random, &mut input.program),
             Kind::Length => make_too_long(random, &mut input.program),
             Kind::Nodes => odd_length(random, &mut input.nodes, LAYOUT.node_length()),

@@ -88,7 +88,9 @@ fn has_loop(command: &Command) -> bool {
     match command {
         Command::Loop(_) => true,
         Command::Sequence(parts) => parts.iter().any(has_loop),
-        Command::If(a, b, c) | Command::Try(a, b, c) => [a, b, c].into_iter().any(|c| has_loop(c)),
+        Command::Guarded {
+            guard, then, other, ..
+        } => [guard, then, other].into_iter().any(|part| has_loop(part)),
         _ => false,
     }
 }

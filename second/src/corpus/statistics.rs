@@ -83,6 +83,8 @@ fn named(exercised: &Exercised) -> Vec<(String, u64)> {
     let counters = [
         ("steps", e.steps),
         ("applications", e.applications),
+        ("ifs", e.ifs),
+        ("tries", e.tries),
         ("guards undone", e.guards_undone),
         ("bodies undone", e.bodies_undone),
         ("breaks", e.breaks),

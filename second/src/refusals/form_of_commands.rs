@@ -12,8 +12,10 @@ pub(super) fn images_of_commands() -> Vec<Images> {
     let image = |command: &[u8]| [&encode::rule(&rule())[..], command].concat();
     let mut list = form_of_rule_set();
     list.extend(form_of_sequence());
-    list.extend(form_of_three_commands("if", 0x52));
-    list.extend(form_of_three_commands("try", 0x53));
+    list.extend(form_of_guarded("if", 0));
+    list.extend(form_of_guarded("try", 1));
+    list.extend(form_of_guarded_byte());
+    list.extend(form_of_other_tags());
     list.extend(form_of_loop());
     list.extend(form_of_empty_commands());
     let commands = list.into_iter();
@@ -56,18 +58,79 @@ fn form_of_sequence() -> Vec<Images> {
     ]
 }
 
-fn form_of_three_commands(words: &str, tag: u8) -> Vec<Images> {
-    let of = |commands: &[[u8; 3]]| field(tag, &commands.concat());
+/// A guarded command with this byte before its commands.
+fn guarded(byte: u8, commands: &[u8]) -> Vec<u8> {
+    field(0x59, &[&[byte], commands].concat())
+}
+
+fn form_of_guarded(words: &str, byte: u8) -> Vec<Images> {
+    let legal = guarded(byte, &SKIP.repeat(3));
+    let refused = |name: String, commands: &[u8]| images(name, &legal, &guarded(byte, commands));
     let mut list = Vec::new();
     for count in [0, 1, 2, 4] {
         let name = format!("{words} of {count} commands");
-        list.push(images(name, &of(&[SKIP; 3]), &of(&vec![SKIP; count])));
+        list.push(refused(name, &SKIP.repeat(count)));
     }
     for place in 0..3 {
         let mut commands = [SKIP; 3];
         commands[place] = [0x4f, 0, 0];
         let name = format!("{words} with tag 0x4f at {place}");
-        list.push(images(name, &of(&[SKIP; 3]), &of(&commands)));
+        list.push(refused(name, &commands.concat()));
+    }
+    list
+}
+
+/// The byte before the three commands is neither 0 nor 1, or isn't there alone.
+fn form_of_guarded_byte() -> Vec<Images> {
+    let three = SKIP.repeat(3);
+    let refused = |name: String, payload: &[u8]| {
+        let name = format!("guarded command {name}");
+        images(name, &guarded(1, &three), &field(0x59, payload))
+    };
+    let mut list: Vec<Images> = [2, 0x80, 0xff]
+        .map(|byte| refused(format!("of byte {byte}"), &[&[byte], &three[..]].concat()))
+        .to_vec();
+    list.extend([
+        refused("of no bytes".into(), &[]),
+        refused("without its byte".into(), &three),
+        refused("with its byte behind".into(), &[&three[..], &[1]].concat()),
+        refused(
+            "with its byte twice".into(),
+            &[&[1, 1], &three[..]].concat(),
+        ),
+    ]);
+    list
+}
+
+/// The tags that if and try have in the old form, alone and inside of each kind of command; and three commands behind a
+/// byte, as in a guarded command, under the tags of the old form and those beside a guarded command's.
+fn form_of_other_tags() -> Vec<Images> {
+    let three = SKIP.repeat(3);
+    let inside: [(&str, fn(&[u8]) -> Vec<u8>); 6] = [
+        ("alone", |it| it.to_vec()),
+        ("in a sequence", |it| field(0x51, &[&SKIP, it].concat())),
+        ("in a loop", |it| {
+            field(0x54, &field(0x51, &[it, &FAIL].concat()))
+        }),
+        ("in a guard", |it| guarded(0, &[it, &SKIP, &SKIP].concat())),
+        ("in a then", |it| guarded(1, &[&SKIP, it, &SKIP].concat())),
+        ("in an else", |it| guarded(1, &[&SKIP, &SKIP, it].concat())),
+    ];
+    let mut list = Vec::new();
+    for (tag, byte) in [(0x52, 0), (0x53, 1)] {
+        for (words, inside) in inside {
+            let (today, old) = (guarded(byte, &three), field(tag, &three));
+            list.push(images(
+                format!("tag {tag:#x} {words}"),
+                &inside(&today),
+                &inside(&old),
+            ));
+        }
+    }
+    for tag in [0x52, 0x53, 0x58, 0x5a] {
+        let today = guarded(1, &three);
+        let other = [&[tag], &today[1..]].concat();
+        list.push(images(format!("tag {tag:#x} with a byte"), &today, &other));
     }
     list
 }

@@ -1,6 +1,7 @@
 //! The command line of `gp2`.
 
 use super::sizes::Sizes;
+use std::slice::Iter;
 
 pub const HELP: &str = "\
 gp2: text tools for graph program images
@@ -24,6 +25,12 @@ gp2 dot IMAGE [--after]
     Draws the host graph of a runner image as Graphviz text: marks as colours, roots
     as double circles. --after draws the result of the run.
 
+gp2 renew OLD -o NEW
+    Rewrites an image of the old form, in which if (0x52) and try (0x53) are commands
+    of their own, to today's, in which either is a guarded command (0x59). Each takes
+    one byte more; an image without them stays as it is. OLD is a program image or a
+    runner image.
+
 gp2 --help
     Prints this page.
 
@@ -38,6 +45,7 @@ pub enum Task {
     Assemble(AssembleTask),
     Disassemble { image: String, host_only: bool },
     Draw { image: String, after: bool },
+    Renew { old: String, new: String },
     Help,
 }
 
@@ -52,7 +60,7 @@ pub struct AssembleTask {
 /// What a command line asks for.
 pub fn task(arguments: &[String]) -> Result<Task, String> {
     let Some((word, rest)) = arguments.split_first() else {
-        return Err("no subcommand, expected asm, dis, dot or --help".to_string());
+        return Err(format!("no subcommand, expected {SUBCOMMANDS}"));
     };
     if rest.iter().any(|argument| is_help(argument)) {
         return Ok(Task::Help);
@@ -67,13 +75,14 @@ pub fn task(arguments: &[String]) -> Result<Task, String> {
             let (image, after) = image_and_flag(rest, "--after")?;
             Ok(Task::Draw { image, after })
         }
+        "renew" => renew_task(rest),
         "help" => Ok(Task::Help),
         word if is_help(word) => Ok(Task::Help),
-        word => Err(format!(
-            "no subcommand `{word}`, expected asm, dis, dot or --help"
-        )),
+        word => Err(format!("no subcommand `{word}`, expected {SUBCOMMANDS}")),
     }
 }
+
+const SUBCOMMANDS: &str = "asm, dis, dot, renew or --help";
 
 fn is_help(argument: &str) -> bool {
     argument == "--help" || argument == "-h"
@@ -111,15 +120,11 @@ fn assemble_task(arguments: &[String]) -> Result<AssembleTask, String> {
     let mut sizes = Sizes::default();
     let mut rest = arguments.iter();
     while let Some(argument) = rest.next() {
-        let mut value = || {
-            rest.next()
-                .ok_or(format!("nothing behind `{argument}`, expected its value"))
-        };
         match argument.as_str() {
-            "-o" => set_file(&mut image, value()?, "-o")?,
-            "--host" => set_file(&mut host, value()?, "--host")?,
+            "-o" => set_file(&mut image, value(argument, &mut rest)?, "-o")?,
+            "--host" => set_file(&mut host, value(argument, &mut rest)?, "--host")?,
             "--fuel" | "--records" | "--nodes" | "--edges" => {
-                let set = sizes.set(&argument[2..], value()?);
+                let set = sizes.set(&argument[2..], value(argument, &mut rest)?);
                 set.map_err(|reason| format!("{argument}: {reason}"))?;
             }
             file if is_file(file) => set_file(&mut program, file, "PROGRAM")?,
@@ -133,6 +138,30 @@ fn assemble_task(arguments: &[String]) -> Result<AssembleTask, String> {
         program: program.ok_or("no PROGRAM, expected a file or -")?,
         host,
         sizes,
-        image: image.ok_or("no -o, expected the image's file or -")?,
+        image: image.ok_or(NO_OUTPUT)?,
+    })
+}
+
+const NO_OUTPUT: &str = "no -o, expected the image's file or -";
+
+/// What stands behind an option.
+fn value<'a>(option: &str, rest: &mut Iter<'a, String>) -> Result<&'a String, String> {
+    rest.next()
+        .ok_or(format!("nothing behind `{option}`, expected its value"))
+}
+
+fn renew_task(arguments: &[String]) -> Result<Task, String> {
+    let (mut old, mut new) = (None, None);
+    let mut rest = arguments.iter();
+    while let Some(argument) = rest.next() {
+        match argument.as_str() {
+            "-o" => set_file(&mut new, value(argument, &mut rest)?, "-o")?,
+            file if is_file(file) => set_file(&mut old, file, "OLD")?,
+            option => return Err(format!("no option `{option}`, expected -o")),
+        }
+    }
+    Ok(Task::Renew {
+        old: old.ok_or("no OLD, expected a file or -")?,
+        new: new.ok_or(NO_OUTPUT)?,
     })
 }

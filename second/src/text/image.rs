@@ -8,7 +8,7 @@ use crate::encode::RunnerInput;
 use crate::host::Host;
 use crate::listing::INPUT_BYTES;
 use crate::tree::{self, Command, Program};
-use crate::{decode, placement, references};
+use crate::{decode, old_form, placement, references};
 use std::fmt;
 
 /// Where reading an image stopped, and why.
@@ -49,7 +49,7 @@ pub struct RunnerImage {
     nodes_at: usize,
     edges_at: usize,
     fuel_at: usize,
-    program_at: usize,
+    pub program_at: usize,
 }
 
 /// The fields of a runner image, whatever tables and program hold.
@@ -105,7 +105,7 @@ fn records_number(at: usize, payload: &[u8]) -> Result<u16, Fault> {
 }
 
 /// A number below a million as a reader expects it.
-fn grouped(number: usize) -> String {
+pub fn grouped(number: usize) -> String {
     match number / 1000 {
         0 => number.to_string(),
         thousands => format!("{thousands},{:03}", number % 1000),
@@ -219,13 +219,21 @@ fn layout(at: usize, kind: &str, number: usize, reason: &str) -> Fault {
 pub fn program(image: &[u8], start: usize) -> Result<Program, Fault> {
     check_image_length(image, start)?;
     let program = decode::program(image).map_err(|damage| {
-        let expected = format!("expected {}", damage.expected);
+        let expected = match old_form::program(image) {
+            Ok(_) => IN_OLD_FORM.to_string(),
+            Err(_) => format!("expected {}", damage.expected),
+        };
         fault(start + damage.at, &damage.field, expected, answer::FORM)
     })?;
     check_references(&program, start)?;
     check_placement(&program, start)?;
     Ok(program)
 }
+
+/// What is said of an image that can be renewed.
+pub const IN_OLD_FORM: &str = "\
+    an image of the old form, in which if (0x52) and try (0x53) are commands of their own; \
+    `gp2 renew OLD -o NEW` rewrites it";
 
 fn check_image_length(image: &[u8], start: usize) -> Result<(), Fault> {
     let (most, found) = (tree::limit::IMAGE_BYTES, image.len());

@@ -4,6 +4,7 @@
 use super::complaint::{Place, Problem};
 use super::scopes::{Meaning, Scopes};
 use super::syntax::*;
+use crate::build::guarded;
 use crate::tree::{limit, Command};
 
 /// Where a command comes to stand.
@@ -80,14 +81,8 @@ impl Lowering<'_> {
             }
             CommandKind::RuleSet(names) => self.rule_set(names, text.place, scope),
             CommandKind::Sequence(parts) => self.sequence(parts, scope, position),
-            CommandKind::If(guard, then, otherwise) => {
-                let [guard, then, otherwise] = self.branches([guard, then, otherwise], scope, position)?;
-                Ok(Command::If(guard, then, otherwise))
-            }
-            CommandKind::Try(guard, then, otherwise) => {
-                let [guard, then, otherwise] = self.branches([guard, then, otherwise], scope, position)?;
-                Ok(Command::Try(guard, then, otherwise))
-            }
+            CommandKind::If(guard, then, otherwise) => self.guarded(false, [guard, then, otherwise], scope, position),
+            CommandKind::Try(guard, then, otherwise) => self.guarded(true, [guard, then, otherwise], scope, position),
             CommandKind::Loop(body) => Ok(Command::Loop(Box::new(self.command(body, scope, position.in_loop_body())?))),
             CommandKind::Skip => Ok(Command::Skip),
             CommandKind::Fail => Ok(Command::Fail),
@@ -113,17 +108,19 @@ impl Lowering<'_> {
         Ok(())
     }
 
-    fn branches(
+    fn guarded(
         &mut self,
+        keep: bool,
         [guard, then, otherwise]: [&CommandText; 3],
         scope: usize,
         position: Position,
-    ) -> Result<[Box<Command>; 3], Problem> {
-        Ok([
-            Box::new(self.command(guard, scope, position.in_guard())?),
-            Box::new(self.command(then, scope, position.inside())?),
-            Box::new(self.command(otherwise, scope, position.inside())?),
-        ])
+    ) -> Result<Command, Problem> {
+        Ok(guarded(
+            keep,
+            self.command(guard, scope, position.in_guard())?,
+            self.command(then, scope, position.inside())?,
+            self.command(otherwise, scope, position.inside())?,
+        ))
     }
 
     /// The numbers of the named rules. An empty set always fails, and is written as `fail`.

@@ -2,7 +2,7 @@
 //!
 //! A text is cut into tokens (`lexer`), read as it is written (`parse_*` into `syntax`), and put in terms of
 //! the image (`scopes`, `lower_*`, `variables`, `bidirectional`, `host_graph`). The other way, `image` reads bytes and
-//! `print_*` and `dot` write text.
+//! `print_*` and `dot` write text. `renew` makes bytes of bytes.
 
 mod arguments;
 mod assemble;
@@ -27,6 +27,7 @@ mod parse_rules;
 mod print_commands;
 mod print_host;
 mod print_program;
+mod renew;
 mod scopes;
 mod sizes;
 mod syntax;
@@ -43,6 +44,7 @@ pub use host_graph::{HostEdge, HostGraph, HostNode};
 pub use image::Fault;
 pub use print_host::host_graph_text;
 pub use print_program::program_text;
+pub use renew::renew;
 pub use sizes::Sizes;
 pub use tools::{disassemble, draw, draw_after, image_graph, perform};
 

@@ -3,9 +3,6 @@
 use crate::encode;
 use crate::tree::{Command, Program};
 
-/// The bytes of a field before its payload.
-const HEAD: usize = 3;
-
 /// Asks whether a command is the wanted one; the flag says whether a break may stand there.
 pub type Wanted<'a> = &'a dyn Fn(&Command, bool) -> bool;
 
@@ -25,7 +22,7 @@ fn find(command: &Command, at: usize, in_body: bool, wanted: Wanted) -> Option<u
     if wanted(command, in_body) {
         return Some(at);
     }
-    let mut at = at + HEAD;
+    let mut at = at + head(command);
     for (part, in_body) in parts(command, in_body) {
         if let Some(found) = find(part, at, in_body, wanted) {
             return Some(found);
@@ -35,13 +32,21 @@ fn find(command: &Command, at: usize, in_body: bool, wanted: Wanted) -> Option<u
     None
 }
 
+/// The bytes of a command before those inside of it: its tag, its length, and in a guarded one whether it keeps.
+fn head(command: &Command) -> usize {
+    match command {
+        Command::Guarded { .. } => 4,
+        _ => 3,
+    }
+}
+
 /// The commands inside of a command, each with whether a break may stand there.
 fn parts(command: &Command, in_body: bool) -> Vec<(&Command, bool)> {
     match command {
         Command::Sequence(parts) => parts.iter().map(|part| (part, in_body)).collect(),
-        Command::If(guard, then, other) | Command::Try(guard, then, other) => {
-            vec![(guard, false), (then, in_body), (other, in_body)]
-        }
+        Command::Guarded {
+            guard, then, other, ..
+        } => vec![(guard, false), (then, in_body), (other, in_body)],
         Command::Loop(body) => vec![(body, true)],
         _ => Vec::new(),
     }

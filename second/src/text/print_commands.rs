@@ -48,12 +48,13 @@ fn text(command: &Command, indent: usize, role: Role) -> String {
             let parts = broken_parts(parts, inner);
             format!("({}{parts}{end}{})", new_line(inner), new_line(indent))
         }
-        Command::If(guard, then, otherwise) => in_role(
-            broken_branches("if", [guard, then, otherwise], indent),
-            role,
-        ),
-        Command::Try(guard, then, otherwise) => in_role(
-            broken_branches("try", [guard, then, otherwise], indent),
+        Command::Guarded {
+            keep,
+            guard,
+            then,
+            other,
+        } => in_role(
+            broken_branches(word(*keep), [guard, then, other], indent),
             role,
         ),
         Command::Loop(body) => format!("{}!", text(body, indent, Role::Block)),
@@ -88,12 +89,12 @@ fn flat(command: &Command, role: Role) -> String {
             let parts: Vec<String> = parts.iter().map(|part| flat(part, Role::Part)).collect();
             format!("({}{end})", parts.join("; "))
         }
-        Command::If(guard, then, otherwise) => {
-            in_role(flat_branches("if", [guard, then, otherwise]), role)
-        }
-        Command::Try(guard, then, otherwise) => {
-            in_role(flat_branches("try", [guard, then, otherwise]), role)
-        }
+        Command::Guarded {
+            keep,
+            guard,
+            then,
+            other,
+        } => in_role(flat_branches(word(*keep), [guard, then, other]), role),
         Command::Loop(body) => format!("{}!", flat(body, Role::Block)),
         Command::Skip => "skip".to_string(),
         Command::Fail => "fail".to_string(),
@@ -109,6 +110,14 @@ fn flat_branches(word: &str, [guard, then, otherwise]: [&Command; 3]) -> String 
         branch(then),
         branch(otherwise)
     )
+}
+
+/// The word for a guarded command, by whether it keeps a successful guard's changes.
+fn word(keep: bool) -> &'static str {
+    match keep {
+        true => "try",
+        false => "if",
+    }
 }
 
 fn in_role(branching: String, role: Role) -> String {

@@ -4,15 +4,17 @@ use super::arguments::{AssembleTask, Task, HELP};
 use super::assemble::{assemble, read_graph, runner_input, HostSection};
 use super::dot::drawing;
 use super::files::{read_bytes, read_text, write_bytes};
-use super::image::{is_runner_image, program, runner_image, RunnerImage};
+use super::image::{is_runner_image, program, runner_image, RunnerImage, IN_OLD_FORM};
 use super::print_host::{host_graph_text, host_section_text};
 use super::print_program::program_text;
+use super::renew::renew;
 use super::sizes::Sizes;
 use super::LAYOUT;
 use crate::answer;
 use crate::encode;
 use crate::host::Host;
 use crate::listing::run_input;
+use crate::old_form;
 
 /// Does what a command line asks for, or says why not.
 pub fn perform(task: &Task) -> Result<(), String> {
@@ -31,14 +33,18 @@ pub fn perform(task: &Task) -> Result<(), String> {
             image,
             after: false,
         } => print(image, draw),
+        Task::Renew { old, new } => write_bytes(new, &made(old, renew)?),
         Task::Help => write_bytes("-", HELP.as_bytes()),
     }
 }
 
 /// Prints what a tool makes of an image.
 fn print(image: &str, tool: fn(&[u8]) -> Result<String, String>) -> Result<(), String> {
-    let text = tool(&read_bytes(image)?).map_err(|reason| format!("{image}: {reason}"))?;
-    write_bytes("-", text.as_bytes())
+    write_bytes("-", made(image, tool)?.as_bytes())
+}
+
+fn made<T>(image: &str, tool: fn(&[u8]) -> Result<T, String>) -> Result<T, String> {
+    tool(&read_bytes(image)?).map_err(|reason| format!("{image}: {reason}"))
 }
 
 /// The bytes of the image that a program, and a host graph if there is one, make.
@@ -120,6 +126,9 @@ pub fn draw_after(bytes: &[u8]) -> Result<String, String> {
         answer::RESULT => {
             let after = Host::read(LAYOUT, &outcome.nodes, &outcome.edges)?;
             Ok(drawing(&after))
+        }
+        answer::FORM if old_form::program(&image.input.program).is_ok() => {
+            Err(IN_OLD_FORM.to_string())
         }
         number => Err(format!(
             "the run answers {number}, expected a result (0) to draw"

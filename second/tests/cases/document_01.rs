@@ -63,14 +63,14 @@ fn case_7_two_nodes_on_the_left() {
 
 #[test]
 fn case_8_if() {
-    let command = field(0x52, &[&RULE_0, &SKIP, &FAIL]);
+    let command = field(0x59, &[&[0], &RULE_0, &SKIP, &FAIL]);
     let outcome = run_on(&PLAIN, &[], &[&M, &command], AMPLE_FUEL);
     expect(&outcome, (0, 3, 0), &PLAIN, &[], &[]);
 }
 
 #[test]
 fn case_9_try() {
-    let command = field(0x53, &[&RULE_0, &SKIP, &FAIL]);
+    let command = field(0x59, &[&[1], &RULE_0, &SKIP, &FAIL]);
     let outcome = run_on(&PLAIN, &[], &[&M, &command], AMPLE_FUEL);
     let records = [node_record(0, &PLAIN)];
     expect(&outcome, (0, 3, 1), &RED, &[], &records);

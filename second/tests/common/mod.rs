@@ -1,5 +1,6 @@
 //! Small random runs: a host, rules sampled from it so that they tend to match, and a command tree.
 
+use second::build::{guarded, looped};
 use second::calls::{Outcome, RunCall};
 use second::encode::{self, RunnerInput};
 use second::host::{Edge, Host, Label, Node};
@@ -345,24 +346,19 @@ fn command(random: &mut Random, rules: usize, depth: usize, in_body: bool) -> Co
     if depth == 1 || random.chance(30) {
         return small_command(random, rules, in_body);
     }
-    let inner =
-        |random: &mut Random, in_body: bool| Box::new(command(random, rules, depth - 1, in_body));
+    let inner = |random: &mut Random, in_body: bool| command(random, rules, depth - 1, in_body);
     match random.below(10) {
         0..=4 => {
             let count = random.between(1, 4);
-            Command::Sequence((0..count).map(|_| *inner(random, in_body)).collect())
+            Command::Sequence((0..count).map(|_| inner(random, in_body)).collect())
         }
-        5 => Command::If(
+        kind @ 5..=6 => guarded(
+            kind == 6,
             inner(random, false),
             inner(random, in_body),
             inner(random, in_body),
         ),
-        6 => Command::Try(
-            inner(random, false),
-            inner(random, in_body),
-            inner(random, in_body),
-        ),
-        _ => Command::Loop(inner(random, true)),
+        _ => looped(inner(random, true)),
     }
 }
 

@@ -226,6 +226,7 @@ fn files_that_are_no_text_or_not_there() {
         &["asm", "none", "-o", "x"][..],
         &["dis", "none"],
         &["dot", "none"],
+        &["renew", "none", "-o", "x"],
     ] {
         assert_refused_by_system(&place.gp2(arguments), "none: can't be read: ");
     }
@@ -258,10 +259,13 @@ fn numbers_need_a_host_and_a_host_stands_once() {
 
 /// Command lines, and what is wrong with each.
 const MISUSES: &[(&[&str], &str)] = &[
-    (&[], "no subcommand, expected asm, dis, dot or --help"),
+    (
+        &[],
+        "no subcommand, expected asm, dis, dot, renew or --help",
+    ),
     (
         &["run"],
-        "no subcommand `run`, expected asm, dis, dot or --help",
+        "no subcommand `run`, expected asm, dis, dot, renew or --help",
     ),
     (&["asm", "-o", "x"], "no PROGRAM, expected a file or -"),
     (&["asm", "p.gp2"], "no -o, expected the image's file or -"),
@@ -315,6 +319,20 @@ const MISUSES: &[(&[&str], &str)] = &[
         &["dot", "x", "--host"],
         "no option `--host`, expected --after",
     ),
+    (&["renew", "-o", "x"], "no OLD, expected a file or -"),
+    (&["renew", "x"], "no -o, expected the image's file or -"),
+    (
+        &["renew", "x", "-o"],
+        "nothing behind `-o`, expected its value",
+    ),
+    (
+        &["renew", "x", "y", "-o", "z"],
+        "`y` beside another OLD, expected one",
+    ),
+    (
+        &["renew", "x", "--host", "-o", "y"],
+        "no option `--host`, expected -o",
+    ),
 ];
 
 #[test]
@@ -347,6 +365,7 @@ fn help_is_printed_on_the_standard_output() {
             "gp2 asm PROGRAM",
             "gp2 dis IMAGE",
             "gp2 dot IMAGE",
+            "gp2 renew OLD -o NEW",
             "--after",
             "100000",
         ] {
@@ -370,6 +389,51 @@ fn dis_and_dot_refuse_damaged_images_with_status_1() {
         &output,
         1,
         "bad.image: offset 0: no host graph, expected a runner image (tag 0x01)",
+    );
+}
+
+/// `if skip then skip else skip` in the old form and in today's.
+const OLD: [u8; 12] = [0x52, 0, 9, 0x55, 0, 0, 0x55, 0, 0, 0x55, 0, 0];
+const TODAY: [u8; 13] = [0x59, 0, 10, 0, 0x55, 0, 0, 0x55, 0, 0, 0x55, 0, 0];
+
+#[test]
+fn renew_rewrites_an_image_of_the_old_form() {
+    let place = Place::new("renew");
+    place.write("old.image", &OLD);
+    let refused = place.gp2(&["dis", "old.image"]);
+    let what =
+        "an image of the old form, in which if (0x52) and try (0x53) are commands of their own";
+    let remedy = "`gp2 renew OLD -o NEW` rewrites it; a run answers 16";
+    let message = format!("old.image: offset 0, program: {what}; {remedy}");
+    assert_refused(&refused, 1, &message);
+    assert_done(&place.gp2(&["renew", "old.image", "-o", "new.image"]));
+    assert_eq!(place.read("new.image"), TODAY);
+    assert_eq!(place.read("old.image"), OLD);
+    assert_eq!(
+        out(&place.gp2(&["dis", "new.image"])),
+        "Main = if skip then skip else skip\n"
+    );
+    let streams = place.gp2_with_input(&["renew", "-", "-o", "-"], &OLD);
+    assert_done(&streams);
+    assert_eq!(streams.stdout, TODAY);
+    assert_done(&place.gp2(&["renew", "old.image", "-o", "old.image"]));
+    assert_eq!(place.read("old.image"), TODAY);
+}
+
+#[test]
+fn what_cannot_be_renewed_leaves_the_new_image_alone() {
+    let place = Place::new("not-renewed");
+    place.write("today.image", &TODAY);
+    place.write("new.image", b"old");
+    let message = "today.image: an image of today's form already, with guarded commands (0x59)";
+    for new in ["new.image", "none.image"] {
+        let refused = place.gp2(&["renew", "today.image", "-o", new]);
+        assert_refused(&refused, 1, message);
+    }
+    assert_eq!(place.read("new.image"), b"old");
+    assert_eq!(
+        place.files(),
+        ["new.image", "p.gp2", "p.host", "today.image"]
     );
 }
 

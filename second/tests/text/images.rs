@@ -47,7 +47,7 @@ fn damaged_forms_say_where_reading_stopped() {
     let cases = [
         (
             Vec::new(),
-            "offset 0, program: expected a command: tag 0x50 to 0x57; a run answers 16",
+            "offset 0, program: expected a command: tag 0x50, 0x51, 0x54 to 0x57, or 0x59; a run answers 16",
         ),
         (
             with_byte(&legal, 12, 5),
@@ -99,7 +99,7 @@ fn a_misplaced_break_is_found() {
     let expected = "expected a loop around the break with no guard of if or try between";
     assert_eq!(
         found,
-        format!("offset 12, placement: {expected}; a run answers 18")
+        format!("offset 13, placement: {expected}; a run answers 18")
     );
 }
 

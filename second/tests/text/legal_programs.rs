@@ -1,5 +1,6 @@
 //! Random legal programs of every shape that an image can have.
 
+use second::build::{guarded, looped};
 use second::encode;
 use second::random::Random;
 use second::tree::*;
@@ -42,15 +43,9 @@ impl Commands<'_> {
         match self.random.weighted(&weights) {
             0 if self.rules > 0 => self.rule_set(),
             1 => self.sequence(depth, in_loop),
-            2 => {
-                let [guard, then, otherwise] = self.branches(depth, in_loop);
-                Command::If(guard, then, otherwise)
-            }
-            3 => {
-                let [guard, then, otherwise] = self.branches(depth, in_loop);
-                Command::Try(guard, then, otherwise)
-            }
-            4 => Command::Loop(Box::new(self.command(depth - 1, true))),
+            2 => self.guarded(false, depth, in_loop),
+            3 => self.guarded(true, depth, in_loop),
+            4 => looped(self.command(depth - 1, true)),
             5 => Command::Fail,
             6 if in_loop => Command::Break,
             _ => Command::Skip,
@@ -75,8 +70,10 @@ impl Commands<'_> {
         )
     }
 
-    fn branches(&mut self, depth: usize, in_loop: bool) -> [Box<Command>; 3] {
-        [false, in_loop, in_loop].map(|in_loop| Box::new(self.command(depth - 1, in_loop)))
+    fn guarded(&mut self, keep: bool, depth: usize, in_loop: bool) -> Command {
+        let guard = self.command(depth - 1, false);
+        let then = self.command(depth - 1, in_loop);
+        guarded(keep, guard, then, self.command(depth - 1, in_loop))
     }
 }
 

@@ -21,6 +21,7 @@ use Rattle.command_checks.proofs.commands_hold.Kinds as commands-hold-k
 use Rattle.command_checks.proofs.commands_hold.Reads as commands-hold
 use Rattle.command_checks.proofs.of_first.Reads as of-first-reads
 use Rattle.command_checks.proofs.rule_set_holds.Reads as rule-set-holds-reads
+use Rattle.command_checks.proofs.inner.Reads as inner-reads
 
 abbrev μ-command-holds : Measures 1 command-holds-kinds.ps ℕ
 μ-command-holds κs a = 2 * a .1 .1 .1 .0
@@ -53,7 +54,7 @@ commands-hold-below t =
     commands-hold.Pre
 
 abbrev command-holds-claims : ℕ → command-holds-lts.Claims
-command-holds-claims t = (rule-set-holds-reads.Asked, rule-set-holds-reads.Learnt, break-holds-reads.Asked, break-holds-reads.Learnt, of-first-reads.Asked, of-first-reads.Learnt, commands-hold-below t, commands-hold.Post)
+command-holds-claims t = (rule-set-holds-reads.Asked, rule-set-holds-reads.Learnt, break-holds-reads.Asked, break-holds-reads.Learnt, of-first-reads.Asked, of-first-reads.Learnt, inner-reads.Asked, inner-reads.Learnt, commands-hold-below t, commands-hold.Post)
 
 abbrev commands-hold-claims : ℕ → commands-hold-lts.Claims
 commands-hold-claims t = (read-field-reads.Asked, read-field-reads.Learnt, part-reads.Asked, part-reads.Learnt, command-holds-below t, command-holds.Post)
@@ -76,6 +77,9 @@ command-holds-returns-3 t c = break-at _ _ _ _ _ (c .before .before .before .if1
 command-holds-of-first-requires : (t : ℕ) → command-holds-lts.Need-of-first-requires (command-holds-claims t) (command-holds-at t) command-holds.Post
 command-holds-of-first-requires t c κs = search needs
 
+command-holds-inner-requires : (t : ℕ) → command-holds-lts.Need-inner-requires (command-holds-claims t) (command-holds-at t) command-holds.Post
+command-holds-inner-requires t c κs = search needs
+
 command-holds-sub-commands-hold : (t : ℕ) → command-holds-lts.Need-sub-commands-hold (command-holds-claims t) (command-holds-at t) command-holds.Post
 command-holds-sub-commands-hold t c = search needs
 
@@ -83,7 +87,7 @@ command-holds-commands-hold-requires : (t : ℕ) → command-holds-lts.Need-comm
 command-holds-commands-hold-requires t c κs = search needs
 
 command-holds-returns-4 : (t : ℕ) → command-holds-lts.Need-returns-4 (command-holds-claims t) (command-holds-at t) command-holds.Post
-command-holds-returns-4 t c = parts-at _ _ _ _ _ (c .before .before .before .before .if1 .left) _ (c .before .of-first .ensures) (c .commands-hold .ensures) (c .before .before .before .if2 .left) (c .before .before .if3 .left)
+command-holds-returns-4 t c = parts-at _ _ _ _ _ (c .before .before .before .before .before .if1 .left) _ (c .before .before .of-first .ensures) _ (c .before .inner .ensures) (c .commands-hold .ensures) (c .before .before .before .before .if2 .left) (c .before .before .before .if3 .left)
 
 abbrev commands-hold-Inv-loop : commands-hold-lts.InvT-loop
 commands-hold-Inv-loop others p depth at₀ demand₀ at demand = Parting demand₀ others depth p at demand
@@ -132,6 +136,7 @@ pub +command-holds+commands-hold-spec : {M : Type 1} → statement M
     (command-holds-break-holds-requires t)
     (command-holds-returns-3 t)
     (command-holds-of-first-requires t)
+    (command-holds-inner-requires t)
     (command-holds-sub-commands-hold t)
     (command-holds-commands-hold-requires t)
     (command-holds-returns-4 t))

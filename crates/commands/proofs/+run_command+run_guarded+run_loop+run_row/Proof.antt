@@ -8,7 +8,7 @@ use borrow.Author.Needs.{needs}
 use lib.ListN.{length}
 use Rattle.parts.proofs.Loops.{a-field, nearer, no-field, part-in}
 use Rattle.ends.specs.declared.Kind.the-variants.{Sequence, Guarded, Loop, Leaf}
-use Rattle.commands.proofs.Parts.{row-of, guarded-of, loop-of, nth-known, nth-shorter}
+use Rattle.commands.proofs.Parts.{row-of, guarded-of, no-longer, loop-of, nth-known, nth-shorter}
 use Rattle.commands.proofs.Turns.{Going, Looping, is-kind, which-less, mark-below, fuel-less, out-of-fuel, begun-spent, paid-row, paid-guarded, paid-loop, paid-leaf, row-start, row-over, row-cut, here-known, here-shorter, row-next, row-stop, guarded-stop, begun-settled, guarded-go, loop-start, loop-over, loop-next, loop-stop}
 use borrow.Fn.Kinds.{In}
 use borrow.Fn.PlainCycle.{Measures, is, falls, and}
@@ -37,6 +37,7 @@ use Rattle.tally.proofs.entered.Reads as entered-reads
 use Rattle.commands.proofs.run_set.Reads as run-set-reads
 use Rattle.commands.proofs.+run_command+run_guarded+run_loop+run_row.{statement}
 use Rattle.commands.proofs.+run_command+run_guarded+run_loop+run_row.Tie.{close}
+use Rattle.parts.proofs.behind.Reads as behind-reads
 
 abbrev μ-run-command : Measures 5 run-command-kinds.ps ℕ
 μ-run-command κs a = 2 * length (a .1 .1 .1 .0 .now) + 1
@@ -80,7 +81,7 @@ abbrev run-row-below : ℕ → In 5 run-row-kinds.ps
 run-row-below t = and 5 run-row-kinds.ps (falls 5 run-row-kinds.ps _<_ μ-run-row t) run-row.Pre
 
 abbrev run-command-claims : ℕ → run-command-lts.Claims
-run-command-claims t = (run-set-reads.Asked, run-set-reads.Learnt, entered-reads.Asked, entered-reads.Learnt, kind-of-reads.Asked, kind-of-reads.Learnt, run-row-below t, run-row.Post, run-guarded-below t, run-guarded.Post, run-loop-below t, run-loop.Post)
+run-command-claims t = (run-set-reads.Asked, run-set-reads.Learnt, entered-reads.Asked, entered-reads.Learnt, kind-of-reads.Asked, kind-of-reads.Learnt, run-row-below t, run-row.Post, behind-reads.Asked, behind-reads.Learnt, run-guarded-below t, run-guarded.Post, run-loop-below t, run-loop.Post)
 
 abbrev run-guarded-claims : ℕ → run-guarded-lts.Claims
 run-guarded-claims t = (nth-part-reads.Asked, nth-part-reads.Learnt, nth-tag-reads.Asked, nth-tag-reads.Learnt, run-command-below t, run-command.Post, part-after-reads.Asked, part-after-reads.Learnt, settle-reads.Asked, settle-reads.Learnt)
@@ -124,8 +125,13 @@ run-command-run-row-requires t c κs = (omega (arith, c .before .before .before 
 run-command-enum-known-kind : (t : ℕ) → run-command-lts.Need-enum-known-kind (run-command-claims t) (run-command-at t) run-command.Post
 run-command-enum-known-kind t c = search needs
 
+run-command-behind-requires : (t : ℕ) → run-command-lts.Need-behind-requires (run-command-claims t) (run-command-at t) run-command.Post
+run-command-behind-requires t c κs = search needs
+
 run-command-run-guarded-requires : (t : ℕ) → run-command-lts.Need-run-guarded-requires (run-command-claims t) (run-command-at t) run-command.Post
-run-command-run-guarded-requires t c κs = (omega (arith, c .before .before .before .before .before .before .before .before .before .before .before .before .before .before .before .pre .0), (begun-spent _ (c .before .before .before .before .before .before .before .entered .ensures) (c .before .before .before .before .before .before .before .before .if2 .left) (c .before .before .before .before .before .before .before .before .before .before .before .before .before .before .before .pre .1 .0), guarded-of (c .before .before .before .before .before .before .before .before .before .before .before .before .before .before .before .pre .1 .1) _ (is-kind (c .before .before .before .before .before .before .before .before .before .before .before .before .before .before .before .pre .1 .1) (c .before .before .before .before .before .before .before .before .before .if1 .left) (c .before .before .before .before .before .before .kind-of .ensures) (Guarded _) (c .before .before .before .before .kind .given .1))))
+run-command-run-guarded-requires t c κs =
+    let k = is-kind (c .before .before .before .before .before .before .before .before .before .before .before .before .before .before .before .before .pre .1 .1) (c .before .before .before .before .before .before .before .before .before .before .if1 .left) (c .before .before .before .before .before .before .before .kind-of .ensures) (Guarded _) (c .before .before .before .before .before .kind .given .1) in
+    (omega (arith, c .before .before .before .before .before .before .before .before .before .before .before .before .before .before .before .before .pre .0, no-longer (c .before .before .before .before .before .before .before .before .before .before .before .before .before .before .before .before .args .p .now) (c .before .before .before .behind .ensures)), (begun-spent _ (c .before .before .before .before .before .before .before .before .entered .ensures) (c .before .before .before .before .before .before .before .before .before .if2 .left) (c .before .before .before .before .before .before .before .before .before .before .before .before .before .before .before .before .pre .1 .0), guarded-of (c .before .before .before .before .before .before .before .before .before .before .before .before .before .before .before .before .pre .1 .1) (k .0) (k .1) (c .before .before .before .behind .ensures)))
 
 run-command-enum-told-2 : (t : ℕ) → run-command-lts.Need-enum-told-2 (run-command-claims t) (run-command-at t) run-command.Post
 run-command-enum-told-2 t c = search needs
@@ -158,7 +164,8 @@ run-command-same-length-9 : (t : ℕ) → run-command-lts.Need-same-length-9 (ru
 run-command-same-length-9 t c = search needs
 
 run-command-returns-4 : (t : ℕ) → run-command-lts.Need-returns-4 (run-command-claims t) (run-command-at t) run-command.Post
-run-command-returns-4 t c = paid-guarded _ (c .before .before .before .before .before .before .before .before .before .before .before .before .before .before .entered .ensures) (c .before .before .before .before .before .before .before .before .before .before .before .before .before .before .before .if2 .left) _ (is-kind (c .before .before .before .before .before .before .before .before .before .before .before .before .before .before .before .before .before .before .before .before .before .before .pre .1 .1) (c .before .before .before .before .before .before .before .before .before .before .before .before .before .before .before .before .if1 .left) (c .before .before .before .before .before .before .before .before .before .before .before .before .before .kind-of .ensures) (Guarded _) (c .before .before .before .before .before .before .before .before .before .before .before .kind .given .1)) (c .before .before .before .before .before .before .run-guarded .ensures)
+run-command-returns-4 t c =
+    paid-guarded _ (c .before .before .before .before .before .before .before .before .before .before .before .before .before .before .before .entered .ensures) (c .before .before .before .before .before .before .before .before .before .before .before .before .before .before .before .before .if2 .left) (is-kind (c .before .before .before .before .before .before .before .before .before .before .before .before .before .before .before .before .before .before .before .before .before .before .before .pre .1 .1) (c .before .before .before .before .before .before .before .before .before .before .before .before .before .before .before .before .before .if1 .left) (c .before .before .before .before .before .before .before .before .before .before .before .before .before .before .kind-of .ensures) (Guarded _) (c .before .before .before .before .before .before .before .before .before .before .before .before .kind .given .1)) (c .before .before .before .before .before .before .before .before .before .before .behind .ensures) (c .before .before .before .before .before .before .run-guarded .ensures)
 
 run-command-same-length-10 : (t : ℕ) → run-command-lts.Need-same-length-10 (run-command-claims t) (run-command-at t) run-command.Post
 run-command-same-length-10 t c = search needs
@@ -359,6 +366,7 @@ pub +run-command+run-guarded+run-loop+run-row-spec : {M : Type 1} → statement 
     (run-command-enum-told t)
     (run-command-run-row-requires t)
     (run-command-enum-known-kind t)
+    (run-command-behind-requires t)
     (run-command-run-guarded-requires t)
     (run-command-enum-told-2 t)
     (run-command-run-loop-requires t)

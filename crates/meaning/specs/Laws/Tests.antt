@@ -157,6 +157,12 @@ pub choose-false : {A : Type 0} (b : Bool) (x y : A) → b ≡ false → choose 
 unfolding choose
 choose-false b x y e = rw e
 
+-- what a choice is, one of the two is
+pub choose-either : {A C : Type 0} (b : Bool) (x y z : A) → choose b x y ≡ z → (x ≡ z → C) → (y ≡ z → C) → C
+unfolding choose
+choose-either true x y z e f g = f e
+choose-either false x y z e f g = g e
+
 pub both-of : (a b : Bool) → a ≡ true → b ≡ true → both a b ≡ true
 both-of a b e f = both-yes a b e ∙ f
 

@@ -2,7 +2,7 @@
 use mathlib.Core.Path.{sym, ap, _∙_}
 use borrow.Author.Needs.{needs}
 use Rattle.answers.specs.Answers.{refusalOf}
-use Rattle.meaning.specs.Calls.{runRefusal}
+use Rattle.meaning.specs.Calls.{refusalAs}
 use Rattle.meaning.specs.Laws.Checks.{behind-fine, behind-refused}
 use Rattle.refusal.proofs.run_check.Statement.{statement}
 use Rattle.refusal.proofs.run_check.Tie as tie
@@ -20,11 +20,11 @@ content-check-requires : tie.Need-content-check-requires
 content-check-requires c κs = search needs
 
 returns : tie.Need-returns
-unfolding refusalOf runRefusal
+unfolding refusalOf refusalAs
 returns c = sym (behind-refused _ _ _ (sym (c .before .before .before .length-check .ensures) ∙ ap refusalOf (c .before .fit .given .1)))
 
 returns-2 : tie.Need-returns-2
-unfolding refusalOf runRefusal
+unfolding refusalOf refusalAs
 returns-2 c = c .content-check .ensures ∙ sym (behind-fine _ _ (sym (c .before .before .before .length-check .ensures) ∙ ap refusalOf (c .before .enum-told .given .1)))
 
 pub run-check-spec : {M : Type 1} → statement M

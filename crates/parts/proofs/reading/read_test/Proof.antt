@@ -10,12 +10,12 @@ behind-requires c κs = search needs
 read-condition-requires : tie.Need-read-condition-requires
 read-condition-requires c κs = search needs
 
-byte-at-requires : tie.Need-byte-at-requires
-byte-at-requires c κs = search needs
+flag-requires : tie.Need-flag-requires
+flag-requires c κs = search needs
 
 returns : tie.Need-returns
-returns c = test-read _ _ _ _ _ (c .byte-at .ensures) (c .before .before .behind .ensures) (c .before .read-condition .ensures)
+returns c = test-read _ _ _ _ _ (c .flag .ensures) (c .before .before .behind .ensures) (c .before .read-condition .ensures)
 
 pub read-test-spec : {M : Type 1} → statement M
 read-test-spec =
-    tie.close (tie.spec behind-requires read-condition-requires byte-at-requires returns)
+    tie.close (tie.spec behind-requires read-condition-requires flag-requires returns)

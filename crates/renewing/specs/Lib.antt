@@ -1,0 +1,6 @@
+-- The old form and its rewriting (OldForm), and that a rewritten image means what it meant (Renewed).
+pub mod OldForm
+pub mod Written
+pub mod Commands
+pub mod Renewed
+pub mod Examples

@@ -1,0 +1,183 @@
+-- Every image of the old form can be rewritten, grows by one byte for each of its ifs and tries, and, where it is then no longer
+-- than an image may be, means what it meant: on every input the run that reads today's form returns, answer, report, tables and
+-- journal, what the run that read the old one did. Rests on OldForm, Commands and Written and on parts' Series and Rows.
+use mathlib.Core.Path.{_≡_, refl, sym, _∙_, ap, subst}
+use mathlib.Core.Bool.{true, false}
+use mathlib.Core.Option.{Option, some, none}
+use mathlib.Core.List.{List, [], _∷_, _++_, append-nil}
+use Prim.Native.Nat.{ℕ, _+_, _-_, _≤_}
+use native.Mathlib.Omega.{arith}
+use borrow.Author.Tests.{eq-eqb, ne-eqb, le-leb}
+use lib.Dec.{eqb, leb}
+use lib.ListN.{length, getD, take, length-append}
+use lib.Seq.{take-append-seam}
+use Rattle.meaning.specs.Basics.{isEmpty, isSome, ensure, _>>_, _>>=_}
+use Rattle.meaning.specs.Numbers.{bytes}
+use Rattle.meaning.specs.Layout.{base}
+use Rattle.meaning.specs.Tags.{ruleTag}
+use Rattle.meaning.specs.Image.{Program, Rule, Command, Field, Read, limits, field, leading, rule, command, programBy, program}
+use Rattle.meaning.specs.Calls.{Lent, Yields, RunPromise, refusalAs, runOn, runAs, run}
+use Rattle.meaning.specs.Laws.Tests.{isSome-true, some-inj, bind-some, ensure-some, ensure-yes, ensure-no, empty-true}
+use Rattle.meaning.specs.declared.Layout.{Layout}
+use Rattle.meaning.specs.declared.Refusal.{Refusal}
+use Rattle.fields.specs.Image.{bind-yes, field-is, leading-led, leading-other}
+use Rattle.fields.specs.Parsed.{command-tag, no-rule}
+use Rattle.parts.specs.Series.{Series, leading-series}
+use Rattle.parts.specs.Rows.{tagged, tagged-yes, tagged-some}
+use Rattle.renewing.specs.OldForm.{oldCommand, oldProgram, oldRun, fieldOf, renewedCommand, renewed}
+use Rattle.renewing.specs.Written.{field-written, length-field, series-front, series-leading}
+use Rattle.renewing.specs.Commands.{guards, New, renews}
+
+-- An image in parts: its rules, its command, and nothing behind.
+
+record Parts (main : ℕ → List ℕ → Option Command) (bs : List ℕ) (p : Program) : Type 0 where
+  rest : List ℕ
+  rules : leading (eqb ruleTag) (λ tag. rule) (limits .rules) bs ≡ some (record { items = p .rules; rest = rest })
+  whole : Field
+  there : field rest ≡ some whole
+  last : whole .rest ≡ []
+  reads : main (whole .tag) (whole .payload) ≡ some (p .main)
+
+module _ (main : ℕ → List ℕ → Option Command) (bs : List ℕ) (p : Program) where
+  in-parts : programBy main bs ≡ some p → Parts main bs p
+  unfolding programBy
+  in-parts e =
+      let r = bind-some (leading (eqb ruleTag) (λ tag. rule) (limits .rules) bs) _ p e in
+      let d = bind-some (field (r .0 .rest)) _ p (r .2) in
+      let l = ensure-some (isEmpty (d .0 .rest)) _ p (d .2) in
+      let c = bind-some (main (d .0 .tag) (d .0 .payload)) _ p (l .1) in
+      rw (← (some-inj _ p (c .2))) (record { rest = r .0 .rest; rules = r .1; whole = d .0; there = d .1; last = empty-true _ (l .0); reads = c .1 })
+
+  of-parts : Parts main bs p → programBy main bs ≡ some p
+  unfolding programBy isEmpty
+  of-parts i = bind-yes _ _ _ (i .rules) ∙ bind-yes _ _ _ (i .there) ∙ ensure-yes _ _ (rw (i .last)) ∙ bind-yes _ _ _ (i .reads)
+
+-- What is no image of the old form is not rewritten.
+
+no-image : (bs : List ℕ) → oldProgram bs ≡ none → renewed bs ≡ none
+unfolding renewed isSome
+no-image bs e = ensure-no _ _ (rw e)
+
+-- An image of the old form, and what it becomes.
+
+module _ (bs : List ℕ) (p : Program) (old : oldProgram bs ≡ some p) where
+  i : Parts (oldCommand (limits .depth)) bs p
+  i = in-parts (oldCommand (limits .depth)) bs p old
+
+  new : New (limits .depth) (i .whole .tag) (i .whole .payload) (p .main)
+  new = renews (limits .depth) (i .whole .tag) (i .whole .payload) (p .main) (i .reads)
+
+  abbrev newField : List ℕ
+  newField = fieldOf (new .newTag) (new .payload)
+
+  -- its rules, with what stands behind them exchanged
+  ruled : Series (tagged ruleTag rule) (p .rules) (i .rest) bs
+  ruled = leading-series (eqb ruleTag) (λ tag. rule) (tagged ruleTag rule) (tagged-yes ruleTag rule) (limits .rules) bs _ (i .rules)
+
+  abbrev front : List ℕ
+  front = series-front (tagged ruleTag rule) (p .rules) (i .rest) bs ruled .0
+
+  in-front : take (length bs - length (i .rest)) bs ≡ front
+  in-front =
+      let e : bs ≡ front ++ i .rest = series-front (tagged ruleTag rule) (p .rules) (i .rest) bs ruled .1 in
+      let l : length bs ≡ length front + length (i .rest) = ap length e ∙ length-append front (i .rest) in
+      let z : length bs - length (i .rest) ≡ length front = omega arith in
+      rw z (ap (take (length front)) e ∙ take-append-seam front (i .rest))
+
+  becomes : renewed bs ≡ some (front ++ newField)
+  unfolding renewed isSome
+  becomes = ensure-yes _ _ (rw old) ∙ bind-yes _ _ _ (i .rules) ∙ bind-yes _ _ _ (i .there) ∙ bind-yes _ _ _ (new .is) ∙ rw in-front
+
+  longer : length (front ++ newField) ≡ length bs + guards (p .main)
+  longer =
+      let e : length bs ≡ length front + length (i .rest) = ap length (series-front (tagged ruleTag rule) (p .rules) (i .rest) bs ruled .1) ∙ length-append front (i .rest) in
+      let f = field-is (i .rest) (i .whole) (i .there) .long in
+      let z : length (i .whole .rest) ≡ 0 = ap length (i .last) in
+      length-append front newField ∙ omega (arith, length-field (new .newTag) (new .payload), new .longer)
+
+  reads-same : length (front ++ newField) ≤ limits .bytes → program (front ++ newField) ≡ some p
+  unfolding program bytes
+  reads-same h =
+      let l = length-append front newField in
+      let k = length-field (new .newTag) (new .payload) in
+      let c : command (limits .depth) (new .newTag) (new .payload) ≡ some (p .main) = new .reads (omega arith) in
+      let t : eqb ruleTag (getD newField 0 0) ≡ false = ne-eqb _ _ (λ e. no-rule (p .main) (sym (command-tag (limits .depth) (new .newTag) (new .payload) (p .main) c .1) ∙ sym e)) in
+      of-parts (command (limits .depth)) (front ++ newField) p
+      (record {
+        rest = newField;
+        rules = series-leading (eqb ruleTag) (λ tag. rule) (tagged ruleTag rule) (λ tag b a e. let s = tagged-some ruleTag rule tag b a e in (eq-eqb ruleTag tag (s .0), s .1)) newField (λ n. leading-other (eqb ruleTag) (λ tag. rule) n newField t) (p .rules) (limits .rules) (front ++ newField) (leading-led (eqb ruleTag) (λ tag. rule) (limits .rules) bs _ (i .rules) .few) (series-front (tagged ruleTag rule) (p .rules) (i .rest) bs ruled .2 newField);
+        whole = record { tag = new .newTag; payload = new .payload; rest = [] };
+        there = ap field (sym (append-nil newField)) ∙ field-written (new .newTag) (new .payload) [] (omega arith);
+        last = refl;
+        reads = c;
+      })
+
+-- what an image of the old form becomes
+record Renewal (bs : List ℕ) (p : Program) : Type 0 where
+  new : List ℕ
+  is : renewed bs ≡ some new
+  longer : length new ≡ length bs + guards (p .main)
+  reads : length new ≤ limits .bytes → program new ≡ some p
+
+renewal : (bs : List ℕ) (p : Program) → oldProgram bs ≡ some p → Renewal bs p
+renewal bs p old = record { new = front bs p old ++ newField bs p old; is = becomes bs p old; longer = longer bs p old; reads = reads-same bs p old }
+
+-- The theorems.
+
+-- every image of the old form is rewritten, and nothing else is
+pub renewed-there : (bs : List ℕ) → isSome (renewed bs) ≡ isSome (oldProgram bs)
+unfolding isSome
+renewed-there bs = at (oldProgram bs) refl
+  where
+    at : (o : Option Program) → oldProgram bs ≡ o → isSome (renewed bs) ≡ isSome (oldProgram bs)
+    at none e = rw (no-image bs e, e)
+    at (some p) e = rw (renewal bs p e .is, e)
+
+module _ (bs new : List ℕ) (e : renewed bs ≡ some new) where
+  -- it grows by one byte for each guarded command
+  pub renewed-longer : (p : Program) → oldProgram bs ≡ some p → length new ≡ length bs + guards (p .main)
+  renewed-longer p old = let r = renewal bs p old in ap length (some-inj _ _ (sym e ∙ r .is)) ∙ r .longer
+
+  was : (p : Program) × (oldProgram bs ≡ some p)
+  unfolding isSome
+  was = isSome-true (oldProgram bs) (sym (renewed-there bs) ∙ ap isSome e)
+
+  -- within the limit it is read as it was
+  pub renewed-reads : length new ≤ limits .bytes → program new ≡ oldProgram bs
+  renewed-reads h =
+      let r = renewal bs (was .0) (was .1) in
+      let same : r .new ≡ new = some-inj _ _ (sym (r .is) ∙ e) in
+      subst (λ (l : List ℕ). length l ≤ limits .bytes → program l ≡ some (was .0)) same (r .reads) h ∙ sym (was .1)
+
+  no-shorter : length bs ≤ length new
+  no-shorter = omega (arith, renewed-longer (was .0) (was .1))
+
+-- the same inputs with another image
+abbrev pub withImage : List ℕ → Lent → Lent
+withImage image x = record { nodes = x .nodes; edges = x .edges; journal = x .journal; image = image; fuel = x .fuel; report = x .report }
+
+module _ (L : Layout) (x : Lent) (new : List ℕ) where
+  same-on : (w : Option Refusal) (p : Option Program) → runOn L w p (withImage new x) ≡ runOn L w p x
+  unfolding runOn
+  same-on (some w) p = refl
+  same-on none none = refl
+  same-on none (some p) = refl
+
+  same-refusal : (p : Option Program) → leb (length new) (limits .bytes) ≡ leb (length (x .image)) (limits .bytes) → refusalAs L p (withImage new x) ≡ refusalAs L p x
+  unfolding refusalAs
+  same-refusal p e = rw e
+
+  -- answer, report, tables and journal are what they were, whatever is lent
+  pub renewed-same : renewed (x .image) ≡ some new → length new ≤ limits .bytes → run L (withImage new x) ≡ oldRun L x
+  unfolding run
+  renewed-same e h =
+      let k = no-shorter (x .image) new e in
+      let short : leb (length (x .image)) (limits .bytes) ≡ true = le-leb (length (x .image)) (limits .bytes) (omega arith) in
+      ap (λ (p : Option Program). runAs L p (withImage new x)) (renewed-reads (x .image) new e h)
+      ∙ ap (λ (w : Option Refusal). runOn L w (oldProgram (x .image)) (withImage new x)) (same-refusal (oldProgram (x .image)) (le-leb _ _ h ∙ sym short))
+      ∙ same-on (refusalAs L (oldProgram (x .image)) x) (oldProgram (x .image))
+
+-- so the exported call, given the rewritten image, yields what the old meaning says of the old one
+pub renewed-yields : (x : Lent) (new : List ℕ) → renewed (x .image) ≡ some new → length new ≤ limits .bytes
+    → (number : ℕ) (nodes edges journal report : List ℕ) → RunPromise (withImage new x) number nodes edges journal report → Yields (oldRun base x) number nodes edges journal report
+renewed-yields x new e h number nodes edges journal report y = rw (← (renewed-same base x new e h)) y
