@@ -55,7 +55,7 @@ enum {
     NHIEMAVUT_TOO_MUCH_FUEL = 13,  /* run: the fuel is over 1,000,000 */
     NHIEMAVUT_IMAGE_TOO_LONG = 14, /* run: the image has over 8,192 bytes */
     NHIEMAVUT_BAD_HOST = 15,       /* run: a slot of either table breaks the layout */
-    NHIEMAVUT_BAD_FORM = 16,       /* run: the image isn't a program */
+    NHIEMAVUT_BAD_FORM = 16,       /* run: the image isn't a program, or has if and try in the old form (0x52, 0x53) */
     NHIEMAVUT_BAD_REFERENCES = 17, /* run: a rule, a variable or a node that it names isn't there or is misused */
     NHIEMAVUT_BAD_PLACEMENT = 18,  /* run: a break isn't in a loop body, or a guard is between them */
     NHIEMAVUT_BAD_RECORDS = 20     /* undo: the count is over the journal's records, or a counted record has a kind

@@ -63,6 +63,11 @@ pub fn images(seed: u64, count: u64) -> Vec<Vec<u8>> {
     (0..count).map(|index| image(seed, index)).collect()
 }
 
+/// The first `count` images that a seed draws: all but those that are the same for each seed.
+pub fn drawn_images(seed: u64, count: u64) -> Vec<Vec<u8>> {
+    (0..count).map(|index| random_image(seed, index)).collect()
+}
+
 /// The images of the stored corpus: those of a seed, then every published program on every one of its hosts.
 pub fn stored_images() -> Vec<Vec<u8>> {
     let mut stored = images(STORED_SEED, STORED_COUNT);

@@ -5,8 +5,8 @@ mod ends;
 
 use ends::Ends;
 use second::corpus::{
-    fixed_count, image, images, joined, legal_program, listings, split, stored_images, Statistics,
-    STORED_COUNT, STORED_SEED as SEED,
+    drawn_images, fixed_count, image, images, joined, legal_program, listings, split,
+    stored_images, Statistics, STORED_COUNT, STORED_SEED as SEED,
 };
 use second::encode;
 use second::layout::Layout;
@@ -167,7 +167,7 @@ fn a_corpus_begins_with_the_cases() {
 /// Guarded commands as the drawn images have them: with a byte other than 0 and 1, and with a tag that no command has.
 #[test]
 fn drawn_images_have_damaged_guarded_commands() {
-    let drawn = images(SEED, fixed_count() + 3000).split_off(fixed_count() as usize);
+    let drawn = drawn_images(SEED, 3000);
     let inputs = drawn.iter().filter_map(|image| read_input(image));
     let programs: Vec<Vec<u8>> = inputs.map(|input| input.program).collect();
     let damages = |found: &dyn Fn(&decode::Damage, &[u8]) -> bool| {

@@ -197,7 +197,3 @@ pub record ReadFrom {A : Type 0} (item : ℕ → List ℕ → Option A) (bs : Li
 
 there : (bs : List ℕ) (at : ℕ) (d : Whole) → field (drop at bs) ≡ some d → at < length bs
 there bs at d e = omega (arith, field-is (drop at bs) d e .long, length-drop at bs)
-
--- Tags: a number that is none of four in a row lies behind them
-pub past : (low t : ℕ) → (t ≡ low → ⊥) → (t ≡ low + 1 → ⊥) → (t ≡ low + 2 → ⊥) → (t ≡ low + 3 → ⊥) → low ≤ t → low + 4 ≤ t
-past low t h0 h1 h2 h3 k = omega arith

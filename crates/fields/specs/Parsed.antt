@@ -10,7 +10,7 @@ use native.Mathlib.Decide.{ℕ-discrete}
 use borrow.Author.Tests.{eqb-true, leb-true}
 use lib.Dec.{eqb, leb}
 use lib.ListN.{length, getD, drop}
-use Rattle.meaning.specs.Basics.{either, every, isEmpty, _>>=_}
+use Rattle.meaning.specs.Basics.{either, every, isEmpty}
 use Rattle.meaning.specs.Numbers.{number}
 use Rattle.meaning.specs.Layout.{isNodeMark, isEdgeMark}
 use Rattle.meaning.specs.Image.{limits, RuleEdge, RuleGraph, Program, Commands, noMore, then, inOrder, RuleNode, Rule, Command, Field, Read, Pair, field, expect, leading, only, passesAll, constant, oneByte, flag, operand, asPair, twoOperands, element, label, ruleNode, ruleEdge, ruleGraph, relation, condition, test, isType, types, rule, leaf, asRuleSet, asSequence, asGuarded, asLoop, command}

@@ -1,7 +1,7 @@
 -- The program image: the tree that it stands for, and the reader of bytes, which succeeds exactly on what has the form
 -- of document 01 (answer 16). Rests on Basics, Numbers, Tags and, for marks, Layout, and on the code's Operand, Element,
 -- Condition and Test.
-use mathlib.Core.Bool.{Bool, true, false}
+use mathlib.Core.Bool.{Bool, true}
 use mathlib.Core.Option.{Option, some, none}
 use mathlib.Core.List.{List, [], _∷_}
 use Prim.Native.Nat.{ℕ, zero, suc, _+_, _-_}

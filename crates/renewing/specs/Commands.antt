@@ -3,21 +3,22 @@
 use mathlib.Core.Path.{_≡_, refl, sym, _∙_, ap}
 use mathlib.Core.Bool.{Bool, true, false}
 use mathlib.Core.Option.{Option, some, none}
-use mathlib.Core.List.{List, [], _∷_, _++_}
+use mathlib.Core.List.{List, [], _∷_}
 use Prim.Native.Nat.{ℕ, zero, suc, _+_, _≤_}
 use native.Mathlib.Omega.{arith}
 use native.Mathlib.Decide.{ℕ-discrete}
 use borrow.Author.Tests.{ne-eqb, le-leb}
 use lib.Dec.{eqb}
-use lib.ListN.{length, drop, length-append}
+use lib.ListN.{length, length-append}
 use Rattle.meaning.specs.Basics.{choose, either, concat, _>>=_}
 use Rattle.meaning.specs.Tags.{ruleSetTag, sequenceTag, loopTag, guardedTag}
-use Rattle.meaning.specs.Image.{Command, ruleSet, sequence, guarded, loop, skip, fail, break, Commands, noMore, then, inOrder, limits, flag, only, passesAll, leaf, asRuleSet, asSequence, asGuarded, asLoop, unguarded, command}
+use Rattle.meaning.specs.Image.{Command, ruleSet, sequence, guarded, loop, skip, fail, break, Commands, noMore, then, inOrder, limits, flag, only, passesAll, asRuleSet, asSequence, asGuarded, asLoop, unguarded, command}
+use Rattle.meaning.specs.ProvedSet.{fieldBytes}
 use Rattle.meaning.specs.Laws.Tests.{choose-eq, choose-ne, choose-either, both-of, some-inj, bind-some, ensure-some, ensure-yes}
 use Rattle.fields.specs.Image.{field-is, bind-yes, command-sequence, command-guarded, command-loop}
 use Rattle.fields.specs.Parsed.{only-few, asSequence-is, asGuarded-is, asLoop-is, leaf-is}
 use Rattle.parts.specs.Series.{Series, only-series}
-use Rattle.renewing.specs.OldForm.{ifTag, tryTag, oldCommand, fieldOf, renewedCommand}
+use Rattle.renewing.specs.OldForm.{ifTag, tryTag, oldCommand, renewedCommand}
 use Rattle.renewing.specs.Written.{field-written, length-field, series-only}
 
 -- how many guarded commands there are in a command
@@ -39,7 +40,7 @@ unfoldable mutual
 pub record New (n tag : ℕ) (bs : List ℕ) (c : Command) : Type 0 where
   pub newTag : ℕ
   pub payload : List ℕ
-  pub is : renewedCommand n tag bs ≡ some (fieldOf newTag payload)
+  pub is : renewedCommand n tag bs ≡ some (fieldBytes newTag payload)
   pub longer : length payload ≡ length bs + guards c
   pub reads : length payload ≤ limits .bytes → command n newTag payload ≡ some c
 
@@ -61,9 +62,9 @@ module _ (n : ℕ) (renews : (tag : ℕ) (bs : List ℕ) (c : Command) → oldCo
       let m = new-row cs (r .whole .rest) (r .more) in
       let l = field-is bs (r .whole) (r .there) .long in
       let f = length-field (i .newTag) (i .payload) in
-      let s : length (concat (fieldOf (i .newTag) (i .payload) ∷ m .news)) ≡ 3 + length (i .payload) + length (concat (m .news)) = length-append (fieldOf (i .newTag) (i .payload)) (concat (m .news)) ∙ omega arith in
+      let s : length (concat (fieldBytes (i .newTag) (i .payload) ∷ m .news)) ≡ 3 + length (i .payload) + length (concat (m .news)) = length-append (fieldBytes (i .newTag) (i .payload)) (concat (m .news)) ∙ omega arith in
       record {
-        news = fieldOf (i .newTag) (i .payload) ∷ m .news;
+        news = fieldBytes (i .newTag) (i .payload) ∷ m .news;
         is = record { whole = r .whole; there = r .there; read = i .is; more = m .is };
         counted = omega (arith, m .counted);
         longer = s ∙ omega (arith, l, i .longer, m .longer);
@@ -99,7 +100,7 @@ module _ (n : ℕ) (renews : (tag : ℕ) (bs : List ℕ) (c : Command) → oldCo
 
     new-guarded : (keep : Bool) (byte : ℕ) → ((l : List ℕ) → flag (byte ∷ l) ≡ some keep)
         → (only passesAll (oldCommand n) (limits .commands) bs >>= asGuarded keep) ≡ some c
-        → renewedCommand (suc n) tag bs ≡ (only passesAll (renewedCommand n) (limits .commands) bs >>= λ new. some (fieldOf guardedTag (byte ∷ concat new)))
+        → renewedCommand (suc n) tag bs ≡ (only passesAll (renewedCommand n) (limits .commands) bs >>= λ new. some (fieldBytes guardedTag (byte ∷ concat new)))
         → New (suc n) tag bs c
     unfolding guards inOrder
     new-guarded keep byte flagged e r =
@@ -110,7 +111,7 @@ module _ (n : ℕ) (renews : (tag : ℕ) (bs : List ℕ) (c : Command) → oldCo
         record {
           newTag = guardedTag;
           payload = byte ∷ p .new;
-          is = r ∙ p .is (λ l. fieldOf guardedTag (byte ∷ l));
+          is = r ∙ p .is (λ l. fieldBytes guardedTag (byte ∷ l));
           longer = omega (arith, p .longer);
           reads = λ h.
               command-guarded n guardedTag (byte ∷ p .new) refl
@@ -123,7 +124,7 @@ module _ (n : ℕ) (renews : (tag : ℕ) (bs : List ℕ) (c : Command) → oldCo
 
     new-series : (make : List Command → Option Command) → ((l : List Command) (x : Command) → make l ≡ some x → guards x ≡ allGuards (inOrder l))
         → (only passesAll (oldCommand n) (limits .commands) bs >>= make) ≡ some c
-        → renewedCommand (suc n) tag bs ≡ (only passesAll (renewedCommand n) (limits .commands) bs >>= λ new. some (fieldOf tag (concat new)))
+        → renewedCommand (suc n) tag bs ≡ (only passesAll (renewedCommand n) (limits .commands) bs >>= λ new. some (fieldBytes tag (concat new)))
         → ((l : List ℕ) → command (suc n) tag l ≡ (only passesAll (command n) (limits .commands) l >>= make))
         → New (suc n) tag bs c
     new-series make count e r q =
@@ -132,7 +133,7 @@ module _ (n : ℕ) (renews : (tag : ℕ) (bs : List ℕ) (c : Command) → oldCo
         record {
           newTag = tag;
           payload = p .new;
-          is = r ∙ p .is (λ l. fieldOf tag l);
+          is = r ∙ p .is (λ l. fieldBytes tag l);
           longer = omega (arith, p .longer, count (t .0) c (t .2));
           reads = λ h. q (p .new) ∙ bind-yes _ _ _ (p .reads h) ∙ t .2;
         }
@@ -163,7 +164,7 @@ module _ (n : ℕ) (renews : (tag : ℕ) (bs : List ℕ) (c : Command) → oldCo
         omega arith
 
     new-leaf : unguarded (only passesAll (oldCommand n) (limits .commands)) tag bs ≡ some c → (tag ≡ sequenceTag → ⊥) → (tag ≡ loopTag → ⊥)
-        → renewedCommand (suc n) tag bs ≡ some (fieldOf tag bs) → New (suc n) tag bs c
+        → renewedCommand (suc n) tag bs ≡ some (fieldBytes tag bs) → New (suc n) tag bs c
     unfolding command
     new-leaf e h k r =
         let z = no-guards (alone (λ l. none) _ h k ∙ e) in
@@ -207,7 +208,7 @@ module _ (n tag : ℕ) (bs : List ℕ) (g : tag ≡ ifTag → ⊥) (h : tag ≡ 
   old-unguarded = choose-ne tag ifTag _ _ g ∙ choose-ne tag tryTag _ _ h
 
   new-unguarded : renewedCommand (suc n) tag bs
-      ≡ choose (either (eqb tag sequenceTag) (eqb tag loopTag)) (only passesAll (renewedCommand n) (limits .commands) bs >>= λ new. some (fieldOf tag (concat new))) (some (fieldOf tag bs))
+      ≡ choose (either (eqb tag sequenceTag) (eqb tag loopTag)) (only passesAll (renewedCommand n) (limits .commands) bs >>= λ new. some (fieldBytes tag (concat new))) (some (fieldBytes tag bs))
   unfolding renewedCommand
   new-unguarded = choose-ne tag ifTag _ _ g ∙ choose-ne tag tryTag _ _ h
 

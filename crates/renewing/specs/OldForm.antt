@@ -1,6 +1,6 @@
 -- The form that images had when if (0x52) and try (0x53) were commands of their own, of three commands each and without a flag:
 -- how they were read and what a run of them came to; and how they are rewritten, tag for tag, in today's form.
--- Rests on the meaning's Basics, Numbers, Tags, Image and Calls.
+-- Rests on the meaning's Basics, Tags, Image, Calls and ProvedSet.
 use mathlib.Core.Bool.{true, false}
 use mathlib.Core.Option.{Option, some, none}
 use mathlib.Core.List.{List, _∷_, _++_}
@@ -8,10 +8,10 @@ use Prim.Native.Nat.{ℕ, zero, suc, _-_}
 use lib.ListN.{length, take}
 use lib.Dec.{eqb}
 use Rattle.meaning.specs.Basics.{choose, either, concat, isSome, ensure, _>>_, _>>=_}
-use Rattle.meaning.specs.Numbers.{bytes}
 use Rattle.meaning.specs.Tags.{ruleTag, sequenceTag, loopTag, guardedTag}
 use Rattle.meaning.specs.Image.{Command, Program, limits, field, leading, only, passesAll, rule, asGuarded, unguarded, programBy}
 use Rattle.meaning.specs.Calls.{Lent, Returned, runAs}
+use Rattle.meaning.specs.ProvedSet.{fieldBytes}
 use Rattle.meaning.specs.declared.Layout.{Layout}
 
 abbrev pub ifTag : ℕ
@@ -35,21 +35,17 @@ oldProgram bs = programBy (oldCommand (limits .depth)) bs
 abbrev pub oldRun : Layout → Lent → Returned
 oldRun L x = runAs L (oldProgram (x .image)) x
 
--- Rewriting.
-
--- a field: its tag, its length in two bytes, its payload
-abbrev pub fieldOf : ℕ → List ℕ → List ℕ
-fieldOf tag payload = tag ∷ bytes 2 (length payload) ++ payload
+-- Rewriting. `fieldBytes` writes a field: its tag, its length in two bytes, its payload.
 
 -- a command's field in today's form, from its tag and payload in the old one
 unfoldable pub renewedCommand : ℕ → ℕ → List ℕ → Option (List ℕ)
 renewedCommand zero tag bs = none
 renewedCommand (suc n) tag bs =
     let parts = only passesAll (renewedCommand n) (limits .commands) bs in
-    choose (eqb tag ifTag) (parts >>= λ new. some (fieldOf guardedTag (0 ∷ concat new)))
-    (choose (eqb tag tryTag) (parts >>= λ new. some (fieldOf guardedTag (1 ∷ concat new)))
-    (choose (either (eqb tag sequenceTag) (eqb tag loopTag)) (parts >>= λ new. some (fieldOf tag (concat new)))
-    (some (fieldOf tag bs))))
+    choose (eqb tag ifTag) (parts >>= λ new. some (fieldBytes guardedTag (0 ∷ concat new)))
+    (choose (eqb tag tryTag) (parts >>= λ new. some (fieldBytes guardedTag (1 ∷ concat new)))
+    (choose (either (eqb tag sequenceTag) (eqb tag loopTag)) (parts >>= λ new. some (fieldBytes tag (concat new)))
+    (some (fieldBytes tag bs))))
 
 -- an image of the old form in today's: its rules as they are, then its command
 unfoldable pub renewed : List ℕ → Option (List ℕ)

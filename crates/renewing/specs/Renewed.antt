@@ -4,18 +4,19 @@
 use mathlib.Core.Path.{_≡_, refl, sym, _∙_, ap, subst}
 use mathlib.Core.Bool.{true, false}
 use mathlib.Core.Option.{Option, some, none}
-use mathlib.Core.List.{List, [], _∷_, _++_, append-nil}
+use mathlib.Core.List.{List, [], _++_, append-nil}
 use Prim.Native.Nat.{ℕ, _+_, _-_, _≤_}
 use native.Mathlib.Omega.{arith}
 use borrow.Author.Tests.{eq-eqb, ne-eqb, le-leb}
 use lib.Dec.{eqb, leb}
 use lib.ListN.{length, getD, take, length-append}
 use lib.Seq.{take-append-seam}
-use Rattle.meaning.specs.Basics.{isEmpty, isSome, ensure, _>>_, _>>=_}
+use Rattle.meaning.specs.Basics.{isEmpty, isSome}
 use Rattle.meaning.specs.Numbers.{bytes}
 use Rattle.meaning.specs.Layout.{base}
 use Rattle.meaning.specs.Tags.{ruleTag}
-use Rattle.meaning.specs.Image.{Program, Rule, Command, Field, Read, limits, field, leading, rule, command, programBy, program}
+use Rattle.meaning.specs.Image.{Program, Command, Field, limits, field, leading, rule, command, programBy, program}
+use Rattle.meaning.specs.ProvedSet.{fieldBytes}
 use Rattle.meaning.specs.Calls.{Lent, Yields, RunPromise, refusalAs, runOn, runAs, run}
 use Rattle.meaning.specs.Laws.Tests.{isSome-true, some-inj, bind-some, ensure-some, ensure-yes, ensure-no, empty-true}
 use Rattle.meaning.specs.declared.Layout.{Layout}
@@ -24,7 +25,7 @@ use Rattle.fields.specs.Image.{bind-yes, field-is, leading-led, leading-other}
 use Rattle.fields.specs.Parsed.{command-tag, no-rule}
 use Rattle.parts.specs.Series.{Series, leading-series}
 use Rattle.parts.specs.Rows.{tagged, tagged-yes, tagged-some}
-use Rattle.renewing.specs.OldForm.{oldCommand, oldProgram, oldRun, fieldOf, renewedCommand, renewed}
+use Rattle.renewing.specs.OldForm.{oldCommand, oldProgram, oldRun, renewed}
 use Rattle.renewing.specs.Written.{field-written, length-field, series-front, series-leading}
 use Rattle.renewing.specs.Commands.{guards, New, renews}
 
@@ -68,7 +69,7 @@ module _ (bs : List ℕ) (p : Program) (old : oldProgram bs ≡ some p) where
   new = renews (limits .depth) (i .whole .tag) (i .whole .payload) (p .main) (i .reads)
 
   abbrev newField : List ℕ
-  newField = fieldOf (new .newTag) (new .payload)
+  newField = fieldBytes (new .newTag) (new .payload)
 
   -- its rules, with what stands behind them exchanged
   ruled : Series (tagged ruleTag rule) (p .rules) (i .rest) bs

@@ -1,21 +1,21 @@
 -- Fields and rows of fields that are written one behind the other: a field is read back, what stands behind a row can be exchanged,
 -- and a row is what `leading` and `only` read. Rests on fields' Image, parts' Series and laws' Numbers.
 use mathlib.Core.Path.{_≡_, refl, sym, _∙_, ap, ap₂}
-use mathlib.Core.Bool.{Bool, true, false}
-use mathlib.Core.Option.{Option, some, none}
+use mathlib.Core.Bool.{Bool, true}
+use mathlib.Core.Option.{Option, some}
 use mathlib.Core.List.{List, [], _∷_, _++_, append-assoc}
 use Prim.Native.Nat.{ℕ, zero, suc, _+_, _<_, _≤_}
 use native.Mathlib.Omega.{arith}
-use lib.ListN.{length, getD, take, drop, length-append, take-append-drop}
+use lib.ListN.{length, getD, drop, length-append, take-append-drop}
 use lib.Seq.{take-append-seam, drop-append-seam, drop-append-add}
-use Rattle.meaning.specs.Basics.{isEmpty, ensure, _>>_, _>>=_}
+use Rattle.meaning.specs.Basics.{isEmpty}
 use Rattle.meaning.specs.Numbers.{number, bytes}
 use Rattle.meaning.specs.Image.{Field, stated, field, leading, only, passesAll}
+use Rattle.meaning.specs.ProvedSet.{fieldBytes}
 use Rattle.meaning.specs.Laws.Tests.{ensure-yes}
 use Rattle.fields.specs.Image.{field-of, field-is, leading-empty, leading-step, bind-yes}
 use Rattle.laws.specs.Numbers.{number-bytes}
 use Rattle.parts.specs.Series.{Series}
-use Rattle.renewing.specs.OldForm.{fieldOf}
 
 -- Fields.
 
@@ -27,11 +27,11 @@ field-cons t h l payload more e =
     let b : drop (3 + length payload) bs ≡ more = drop-append-add (t ∷ h ∷ l ∷ []) (payload ++ more) (length payload) ∙ drop-append-seam payload more in
     field-of bs (omega arith) (omega arith) ∙ rw (s, take-append-seam payload more, b)
 
-pub field-written : (tag : ℕ) (payload more : List ℕ) → length payload < 65536 → field (fieldOf tag payload ++ more) ≡ some (record { tag = tag; payload = payload; rest = more })
+pub field-written : (tag : ℕ) (payload more : List ℕ) → length payload < 65536 → field (fieldBytes tag payload ++ more) ≡ some (record { tag = tag; payload = payload; rest = more })
 unfolding bytes
 field-written tag payload more h = field-cons tag _ _ payload more (sym (number-bytes 2 (length payload) h))
 
-pub length-field : (tag : ℕ) (payload : List ℕ) → length (fieldOf tag payload) ≡ 3 + length payload
+pub length-field : (tag : ℕ) (payload : List ℕ) → length (fieldBytes tag payload) ≡ 3 + length payload
 unfolding bytes
 length-field tag payload = omega arith
 

@@ -7,7 +7,7 @@ use std::process::ExitCode;
 use second::{corpus, listing, stored};
 
 const USAGE: &str = "usage: second run IMAGE|-
-       second corpus --seed S --count N [-o FILE] [--listings FILE]
+       second corpus --seed S --count N [--drawn] [-o FILE] [--listings FILE]
        second figures CORPUS
        second stored PROGRAM FOLDER";
 

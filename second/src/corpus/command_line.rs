@@ -1,15 +1,17 @@
 //! `second corpus`: makes a corpus, its listings, and the figures of what running it exercises.
 
-use super::{images, joined, listings, Statistics};
+use super::{drawn_images, images, joined, listings, Statistics};
 use std::fs;
 use std::io::Write;
 
-const USAGE: &str = "usage: second corpus --seed S --count N [-o FILE] [--listings FILE]";
+const USAGE: &str = "usage: second corpus --seed S --count N [--drawn] [-o FILE] [--listings FILE]";
 
 #[derive(Debug, PartialEq, Eq)]
 struct Options {
     seed: u64,
     count: u64,
+    /// Leave out the images that are the same for each seed.
+    drawn: bool,
     corpus: Option<String>,
     listings: Option<String>,
 }
@@ -18,7 +20,10 @@ struct Options {
 /// standard error.
 pub fn main(arguments: &[String]) -> Result<(), String> {
     let options = options(arguments)?;
-    let images = images(options.seed, options.count);
+    let images = match options.drawn {
+        true => drawn_images(options.seed, options.count),
+        false => images(options.seed, options.count),
+    };
     let parts: Vec<&[u8]> = images.iter().map(Vec::as_slice).collect();
     let corpus = joined(&images);
     let mut files: Vec<(&str, Vec<u8>)> = Vec::new();
@@ -41,6 +46,7 @@ pub fn main(arguments: &[String]) -> Result<(), String> {
 
 fn options(arguments: &[String]) -> Result<Options, String> {
     let (mut seed, mut count, mut corpus, mut listings) = (None, None, None, None);
+    let mut drawn = false;
     let mut rest = arguments.iter();
     while let Some(name) = rest.next() {
         let mut value = || {
@@ -50,6 +56,7 @@ fn options(arguments: &[String]) -> Result<Options, String> {
         match name.as_str() {
             "--seed" => seed = Some(number(name, value()?)?),
             "--count" => count = Some(number(name, value()?)?),
+            "--drawn" => drawn = true,
             "-o" => corpus = Some(value()?.clone()),
             "--listings" => listings = Some(value()?.clone()),
             _ => return Err(format!("{name} is no option of corpus\n{USAGE}")),
@@ -63,6 +70,7 @@ fn options(arguments: &[String]) -> Result<Options, String> {
     Ok(Options {
         seed,
         count,
+        drawn,
         corpus,
         listings,
     })
@@ -111,13 +119,14 @@ mod tests {
 
     #[test]
     fn all_options_are_read_in_any_order() {
-        let read = options(&words("--listings l --count 3 -o c --seed 5")).unwrap();
+        let read = options(&words("--listings l --count 3 -o c --drawn --seed 5")).unwrap();
         let (corpus, listings) = (Some("c".to_string()), Some("l".to_string()));
         assert_eq!(
             read,
             Options {
                 seed: 5,
                 count: 3,
+                drawn: true,
                 corpus,
                 listings
             }
