@@ -190,6 +190,7 @@ fn drawn_images_have_damaged_guarded_commands() {
 fn an_image_depends_on_its_seed_and_index_alone() {
     let index = fixed_count() + 5;
     assert_eq!(image(7, index), images(7, index + 1)[index as usize]);
+    assert_eq!(image(7, index), drawn_images(7, 6)[5]);
     assert_ne!(image(7, index), image(8, index));
     assert_eq!(image(7, 3), image(8, 3));
 }

@@ -60,7 +60,7 @@ abbrev examples : List Case
 examples =
     -- no break stands in a guard, whatever stands around it
     onPlainNode 100 (fieldBytes loopTag (fieldBytes guardedTag (0 ∷ breakField ++ skipField ++ skipField))) (refuses 18)
-    -- a guarded command has a byte of 0 or 1 in front, and no other tag
+    -- a guarded command has a byte of 0 or 1 in front; 0x52 and 0x53 are no commands
     ∷ onPlainNode 100 (fieldBytes guardedTag (2 ∷ skipField ++ skipField ++ skipField)) (refuses 16)
     ∷ onPlainNode 100 (fieldBytes guardedTag (skipField ++ skipField ++ skipField)) (refuses 16)
     ∷ onPlainNode 100 (fieldBytes 0x52 (skipField ++ skipField ++ skipField)) (refuses 16)
