@@ -4,7 +4,7 @@ use mathlib.Core.Path.{_≡_, refl, sym, _∙_, ap}
 use mathlib.Core.List.{List, [], _∷_}
 use mathlib.Core.Bool.{Bool, true, false}
 use mathlib.Core.Option.{Option, some, none}
-use Prim.Native.Nat.{ℕ, zero, suc, _-_, _<_, _≤_, max}
+use Prim.Native.Nat.{ℕ, zero, suc, _-_, _<_, _≤_}
 use native.Mathlib.Omega.{arith}
 use native.Mathlib.Decide.{ℕ-discrete}
 use borrow.Author.Tests.{eqb-true, leb-true}
@@ -13,7 +13,7 @@ use lib.ListN.{length, getD, drop}
 use Rattle.meaning.specs.Basics.{either, every, isEmpty}
 use Rattle.meaning.specs.Numbers.{number}
 use Rattle.meaning.specs.Layout.{isNodeMark, isEdgeMark}
-use Rattle.meaning.specs.Image.{limits, RuleEdge, RuleGraph, Program, Commands, noMore, then, inOrder, RuleNode, Rule, Command, Field, Read, Pair, field, expect, leading, only, passesAll, constant, oneByte, flag, operand, asPair, twoOperands, element, label, ruleNode, ruleEdge, ruleGraph, relation, condition, test, isType, types, rule, leaf, asRuleSet, asSequence, asGuarded, asLoop, command}
+use Rattle.meaning.specs.Image.{limits, RuleEdge, RuleGraph, Program, inOrder, RuleNode, Rule, Command, Field, Read, Pair, field, expect, leading, only, passesAll, constant, oneByte, flag, operand, asPair, twoOperands, element, label, ruleNode, ruleEdge, ruleGraph, relation, condition, test, isType, types, rule, leaf, asRuleSet, asSequence, asGuarded, asLoop, command, programBy}
 use Rattle.meaning.specs.Tags.{anyMark, breakTag, constantTag, differenceTag, edgeTag, edgeTestTag, failTag, guardedTag, inDegreeTag, interfaceTag, leftTag, loopTag, nodeTag, outDegreeTag, rightTag, ruleSetTag, ruleTag, sequenceTag, skipTag, sumTag, testsTag, variableTag, variablesTag}
 use Rattle.meaning.specs.Image.Command.{ruleSet, sequence, guarded, loop, skip, fail, break}
 use Rattle.meaning.specs.declared.Operand.{Operand}
@@ -24,8 +24,8 @@ use Rattle.meaning.specs.declared.Test.{Test}
 use Rattle.meaning.specs.declared.Condition.{Condition}
 use Rattle.meaning.specs.declared.Condition.the-variants.{Edge, InDegree, OutDegree, Equal, Less}
 use Rattle.meaning.specs.Laws.Every.{Every}
-use Rattle.meaning.specs.Laws.Tests.{both-true, empty-true, choose-eq, choose-true, choose-false, choose-ne, some-inj, bind-some, ensure-some}
-use Rattle.fields.specs.Image.{leading-led, command-no-depth, command-ruleSet, command-sequence, command-guarded, command-loop, command-skip, command-fail, command-break, command-other}
+use Rattle.meaning.specs.Laws.Tests.{both-true, empty-true, choose-eq, choose-true, choose-false, choose-ne, some-inj, bind-some, ensure-some, ensure-yes}
+use Rattle.fields.specs.Image.{bind-yes, leading-led, command-no-depth, command-ruleSet, command-sequence, command-guarded, command-loop, command-skip, command-fail, command-break, command-other}
 
 -- Series of fields.
 
@@ -430,29 +430,27 @@ command-tag (suc n) tag bs x e = (omega arith, at (ℕ-discrete tag ruleSetTag) 
         let z : _≡_ {A = ℕ} 0 1 = cc in
         absurd (omega arith)
 
--- How deep a command is nested, a leaf one deep.
-
-unfoldable mutual
-  pub height : Command → ℕ
-  height (ruleSet l) = 1
-  height (sequence cs) = suc (heights cs)
-  height (guarded keep a b c) = suc (max (height a) (max (height b) (height c)))
-  height (loop c) = suc (height c)
-  height skip = 1
-  height fail = 1
-  height break = 1
-
-  pub heights : Commands → ℕ
-  heights noMore = 0
-  heights (then c cs) = max (height c) (heights cs)
-
 -- The whole.
 
-pub record IsProgram (bs : List ℕ) (x : Program) : Type 0 where
+-- an image that is read, its command by `main`
+pub record IsProgram (main : ℕ → List ℕ → Option Command) (bs : List ℕ) (x : Program) : Type 0 where
   pub behind : List ℕ
   pub rules : leading (eqb ruleTag) (λ tag. rule) (limits .rules) bs ≡ some (record { items = x .rules; rest = behind })
-  pub few : length (x .rules) ≤ limits .rules
   pub whole : Field
   pub at-command : field behind ≡ some whole
   pub last : whole .rest ≡ []
-  pub main : command (limits .depth) (whole .tag) (whole .payload) ≡ some (x .main)
+  pub command : main (whole .tag) (whole .payload) ≡ some (x .main)
+
+module _ (main : ℕ → List ℕ → Option Command) (bs : List ℕ) (x : Program) where
+  pub program-is : programBy main bs ≡ some x → IsProgram main bs x
+  unfolding programBy
+  program-is e =
+      let r = bind-some (leading (eqb ruleTag) (λ tag. rule) (limits .rules) bs) _ x e in
+      let d = bind-some (field (r .0 .rest)) _ x (r .2) in
+      let l = ensure-some (isEmpty (d .0 .rest)) _ x (d .2) in
+      let c = bind-some (main (d .0 .tag) (d .0 .payload)) _ x (l .1) in
+      rw (← (some-inj _ x (c .2))) (record { behind = r .0 .rest; rules = r .1; whole = d .0; at-command = d .1; last = empty-true _ (l .0); command = c .1 })
+
+  pub is-program : IsProgram main bs x → programBy main bs ≡ some x
+  unfolding programBy isEmpty
+  is-program i = bind-yes _ _ _ (i .rules) ∙ bind-yes _ _ _ (i .at-command) ∙ ensure-yes _ _ (rw (i .last)) ∙ bind-yes _ _ _ (i .command)

@@ -12,11 +12,11 @@ use lib.Dec.{eqb, lit<}
 use lib.ListN.{length, getD, drop, length-append, length-map, List·getD-map, List·getD-append, List·getD-eq-default}
 use lib.Seq.{getD-append-add, getD-at}
 use Rattle.meaning.specs.Tags.{edgeTag, interfaceTag, leftTag, nodeTag, rightTag, ruleTag, testsTag, variablesTag}
-use Rattle.meaning.specs.Basics.{choose, isEmpty, _>>=_}
-use Rattle.meaning.specs.Image.{RuleNode, RuleEdge, RuleGraph, Rule, Command, Program, Field, field, expect, leading, only, passesAll, oneByte, label, ruleNode, ruleEdge, ruleGraph, test, types, rule, command, programBy, program}
-use Rattle.meaning.specs.Laws.Tests.{choose-true, choose-eq, choose-ne, some-inj, bind-some, ensure-some, empty-true}
+use Rattle.meaning.specs.Basics.{choose, _>>=_}
+use Rattle.meaning.specs.Image.{RuleNode, RuleEdge, RuleGraph, Rule, Command, Program, Field, field, expect, only, passesAll, oneByte, label, ruleNode, ruleEdge, ruleGraph, test, types, rule, command, program}
+use Rattle.meaning.specs.Laws.Tests.{choose-true, choose-eq, choose-ne, some-inj, bind-some, ensure-some}
 use Rattle.fields.specs.Image.{field-is, bind-yes}
-use Rattle.fields.specs.Parsed.{oneByte-is, ruleNode-is, ruleEdge-is, ruleGraph-is, types-is, rule-is, no-rule, command-tag}
+use Rattle.fields.specs.Parsed.{oneByte-is, ruleNode-is, ruleEdge-is, ruleGraph-is, types-is, rule-is, no-rule, command-tag, program-is}
 use Rattle.meaning.specs.declared.Element.{Element}
 use Rattle.fields.specs.Laws.{Lies}
 use Rattle.parts.specs.Series.{Series, For, series-none, series-some, series-there, leading-series, only-series, series-append, series-map, nthPart, nthTag, nth-item}
@@ -350,19 +350,15 @@ unfolding imagePart
 main-item tag bs c e = choose-ne tag ruleTag _ _ (no-command tag bs c e) ∙ bind-yes _ _ c e
 
 pub image-series : (bs : List ℕ) (p : Program) → program bs ≡ some p → (t : ℕ) × (t ≡ ruleTag → ⊥) × (Series imagePart (imageParts t p) [] bs)
-unfolding program programBy Series
+unfolding program Series
 image-series bs p e =
-    let t = bind-some (leading (eqb ruleTag) (λ tag. rule) 32 bs) _ p e in
-    let u = bind-some (field (t .0 .rest)) _ p (t .2) in
-    let v = ensure-some (isEmpty (u .0 .rest)) _ p (u .2) in
-    let w = bind-some (command 16 (u .0 .tag) (u .0 .payload)) _ p (v .1) in
-    let rs = leading-series (eqb ruleTag) (λ tag. rule) (tagged ruleTag rule) (tagged-yes ruleTag rule) 32 bs (t .0) (t .1) in
-    rw (← (some-inj (record { rules = t .0 .items; main = w .0 }) p (w .2))) (
-      u .0 .tag,
-      no-command _ _ (w .0) (w .1),
-      series-append imagePart (map ruleOf (t .0 .items)) (mainOf (u .0 .tag) (w .0) ∷ []) (t .0 .rest) bs []
-          (series-map (tagged ruleTag rule) imagePart ruleOf rule-item (t .0 .items) (t .0 .rest) bs rs)
-          (record { whole = u .0; there = u .1; read = main-item _ _ (w .0) (w .1); more = empty-true _ (v .0) }),
+    let i = program-is (command 16) bs p e in
+    let rs = leading-series (eqb ruleTag) (λ tag. rule) (tagged ruleTag rule) (tagged-yes ruleTag rule) 32 bs _ (i .rules) in (
+      i .whole .tag,
+      no-command _ _ (p .main) (i .command),
+      series-append imagePart (map ruleOf (p .rules)) (mainOf (i .whole .tag) (p .main) ∷ []) (i .behind) bs []
+          (series-map (tagged ruleTag rule) imagePart ruleOf rule-item (p .rules) (i .behind) bs rs)
+          (record { whole = i .whole; there = i .at-command; read = main-item _ _ (p .main) (i .command); more = i .last }),
     )
 
 unfoldable partTag : Part → ℕ

@@ -11,47 +11,23 @@ use borrow.Author.Tests.{eq-eqb, ne-eqb, le-leb}
 use lib.Dec.{eqb, leb}
 use lib.ListN.{length, getD, take, length-append}
 use lib.Seq.{take-append-seam}
-use Rattle.meaning.specs.Basics.{isEmpty, isSome}
+use Rattle.meaning.specs.Basics.{isSome}
 use Rattle.meaning.specs.Numbers.{bytes}
 use Rattle.meaning.specs.Layout.{base}
 use Rattle.meaning.specs.Tags.{ruleTag}
-use Rattle.meaning.specs.Image.{Program, Command, Field, limits, field, leading, rule, command, programBy, program}
+use Rattle.meaning.specs.Image.{Program, limits, field, rule, command, program}
 use Rattle.meaning.specs.ProvedSet.{fieldBytes}
 use Rattle.meaning.specs.Calls.{Lent, Yields, RunPromise, refusalAs, runOn, runAs, run}
-use Rattle.meaning.specs.Laws.Tests.{isSome-true, some-inj, bind-some, ensure-some, ensure-yes, ensure-no, empty-true}
+use Rattle.meaning.specs.Laws.Tests.{isSome-true, some-inj, ensure-yes, ensure-no}
 use Rattle.meaning.specs.declared.Layout.{Layout}
 use Rattle.meaning.specs.declared.Refusal.{Refusal}
 use Rattle.fields.specs.Image.{bind-yes, field-is, leading-led, leading-other}
-use Rattle.fields.specs.Parsed.{command-tag, no-rule}
+use Rattle.fields.specs.Parsed.{command-tag, no-rule, IsProgram, program-is, is-program}
 use Rattle.parts.specs.Series.{Series, leading-series}
 use Rattle.parts.specs.Rows.{tagged, tagged-yes, tagged-some}
 use Rattle.renewing.specs.OldForm.{oldCommand, oldProgram, oldRun, renewed}
 use Rattle.renewing.specs.Written.{field-written, length-field, series-front, series-leading}
 use Rattle.renewing.specs.Commands.{guards, New, renews}
-
--- An image in parts: its rules, its command, and nothing behind.
-
-record Parts (main : ℕ → List ℕ → Option Command) (bs : List ℕ) (p : Program) : Type 0 where
-  rest : List ℕ
-  rules : leading (eqb ruleTag) (λ tag. rule) (limits .rules) bs ≡ some (record { items = p .rules; rest = rest })
-  whole : Field
-  there : field rest ≡ some whole
-  last : whole .rest ≡ []
-  reads : main (whole .tag) (whole .payload) ≡ some (p .main)
-
-module _ (main : ℕ → List ℕ → Option Command) (bs : List ℕ) (p : Program) where
-  in-parts : programBy main bs ≡ some p → Parts main bs p
-  unfolding programBy
-  in-parts e =
-      let r = bind-some (leading (eqb ruleTag) (λ tag. rule) (limits .rules) bs) _ p e in
-      let d = bind-some (field (r .0 .rest)) _ p (r .2) in
-      let l = ensure-some (isEmpty (d .0 .rest)) _ p (d .2) in
-      let c = bind-some (main (d .0 .tag) (d .0 .payload)) _ p (l .1) in
-      rw (← (some-inj _ p (c .2))) (record { rest = r .0 .rest; rules = r .1; whole = d .0; there = d .1; last = empty-true _ (l .0); reads = c .1 })
-
-  of-parts : Parts main bs p → programBy main bs ≡ some p
-  unfolding programBy isEmpty
-  of-parts i = bind-yes _ _ _ (i .rules) ∙ bind-yes _ _ _ (i .there) ∙ ensure-yes _ _ (rw (i .last)) ∙ bind-yes _ _ _ (i .reads)
 
 -- What is no image of the old form is not rewritten.
 
@@ -62,37 +38,37 @@ no-image bs e = ensure-no _ _ (rw e)
 -- An image of the old form, and what it becomes.
 
 module _ (bs : List ℕ) (p : Program) (old : oldProgram bs ≡ some p) where
-  i : Parts (oldCommand (limits .depth)) bs p
-  i = in-parts (oldCommand (limits .depth)) bs p old
+  i : IsProgram (oldCommand (limits .depth)) bs p
+  i = program-is (oldCommand (limits .depth)) bs p old
 
   new : New (limits .depth) (i .whole .tag) (i .whole .payload) (p .main)
-  new = renews (limits .depth) (i .whole .tag) (i .whole .payload) (p .main) (i .reads)
+  new = renews (limits .depth) (i .whole .tag) (i .whole .payload) (p .main) (i .command)
 
   abbrev newField : List ℕ
   newField = fieldBytes (new .newTag) (new .payload)
 
   -- its rules, with what stands behind them exchanged
-  ruled : Series (tagged ruleTag rule) (p .rules) (i .rest) bs
+  ruled : Series (tagged ruleTag rule) (p .rules) (i .behind) bs
   ruled = leading-series (eqb ruleTag) (λ tag. rule) (tagged ruleTag rule) (tagged-yes ruleTag rule) (limits .rules) bs _ (i .rules)
 
   abbrev front : List ℕ
-  front = series-front (tagged ruleTag rule) (p .rules) (i .rest) bs ruled .0
+  front = series-front (tagged ruleTag rule) (p .rules) (i .behind) bs ruled .0
 
-  in-front : take (length bs - length (i .rest)) bs ≡ front
+  in-front : take (length bs - length (i .behind)) bs ≡ front
   in-front =
-      let e : bs ≡ front ++ i .rest = series-front (tagged ruleTag rule) (p .rules) (i .rest) bs ruled .1 in
-      let l : length bs ≡ length front + length (i .rest) = ap length e ∙ length-append front (i .rest) in
-      let z : length bs - length (i .rest) ≡ length front = omega arith in
-      rw z (ap (take (length front)) e ∙ take-append-seam front (i .rest))
+      let e : bs ≡ front ++ i .behind = series-front (tagged ruleTag rule) (p .rules) (i .behind) bs ruled .1 in
+      let l : length bs ≡ length front + length (i .behind) = ap length e ∙ length-append front (i .behind) in
+      let z : length bs - length (i .behind) ≡ length front = omega arith in
+      rw z (ap (take (length front)) e ∙ take-append-seam front (i .behind))
 
   becomes : renewed bs ≡ some (front ++ newField)
   unfolding renewed isSome
-  becomes = ensure-yes _ _ (rw old) ∙ bind-yes _ _ _ (i .rules) ∙ bind-yes _ _ _ (i .there) ∙ bind-yes _ _ _ (new .is) ∙ rw in-front
+  becomes = ensure-yes _ _ (rw old) ∙ bind-yes _ _ _ (i .rules) ∙ bind-yes _ _ _ (i .at-command) ∙ bind-yes _ _ _ (new .is) ∙ rw in-front
 
   longer : length (front ++ newField) ≡ length bs + guards (p .main)
   longer =
-      let e : length bs ≡ length front + length (i .rest) = ap length (series-front (tagged ruleTag rule) (p .rules) (i .rest) bs ruled .1) ∙ length-append front (i .rest) in
-      let f = field-is (i .rest) (i .whole) (i .there) .long in
+      let e : length bs ≡ length front + length (i .behind) = ap length (series-front (tagged ruleTag rule) (p .rules) (i .behind) bs ruled .1) ∙ length-append front (i .behind) in
+      let f = field-is (i .behind) (i .whole) (i .at-command) .long in
       let z : length (i .whole .rest) ≡ 0 = ap length (i .last) in
       length-append front newField ∙ omega (arith, length-field (new .newTag) (new .payload), new .longer)
 
@@ -103,14 +79,14 @@ module _ (bs : List ℕ) (p : Program) (old : oldProgram bs ≡ some p) where
       let k = length-field (new .newTag) (new .payload) in
       let c : command (limits .depth) (new .newTag) (new .payload) ≡ some (p .main) = new .reads (omega arith) in
       let t : eqb ruleTag (getD newField 0 0) ≡ false = ne-eqb _ _ (λ e. no-rule (p .main) (sym (command-tag (limits .depth) (new .newTag) (new .payload) (p .main) c .1) ∙ sym e)) in
-      of-parts (command (limits .depth)) (front ++ newField) p
+      is-program (command (limits .depth)) (front ++ newField) p
       (record {
-        rest = newField;
-        rules = series-leading (eqb ruleTag) (λ tag. rule) (tagged ruleTag rule) (λ tag b a e. let s = tagged-some ruleTag rule tag b a e in (eq-eqb ruleTag tag (s .0), s .1)) newField (λ n. leading-other (eqb ruleTag) (λ tag. rule) n newField t) (p .rules) (limits .rules) (front ++ newField) (leading-led (eqb ruleTag) (λ tag. rule) (limits .rules) bs _ (i .rules) .few) (series-front (tagged ruleTag rule) (p .rules) (i .rest) bs ruled .2 newField);
+        behind = newField;
+        rules = series-leading (eqb ruleTag) (λ tag. rule) (tagged ruleTag rule) (λ tag b a e. let s = tagged-some ruleTag rule tag b a e in (eq-eqb ruleTag tag (s .0), s .1)) newField (λ n. leading-other (eqb ruleTag) (λ tag. rule) n newField t) (p .rules) (limits .rules) (front ++ newField) (leading-led (eqb ruleTag) (λ tag. rule) (limits .rules) bs _ (i .rules) .few) (series-front (tagged ruleTag rule) (p .rules) (i .behind) bs ruled .2 newField);
         whole = record { tag = new .newTag; payload = new .payload; rest = [] };
-        there = ap field (sym (append-nil newField)) ∙ field-written (new .newTag) (new .payload) [] (omega arith);
+        at-command = ap field (sym (append-nil newField)) ∙ field-written (new .newTag) (new .payload) [] (omega arith);
         last = refl;
-        reads = c;
+        command = c;
       })
 
 -- what an image of the old form becomes
