@@ -9,17 +9,23 @@ pub fn check(program: &Program) -> bool {
 /// Whether each break of the command is placed, where `in_body` says that a break may stand at the
 /// command itself.
 fn breaks_are_placed(command: &Command, in_body: bool) -> bool {
-    match command {
-        Command::Break => in_body,
-        Command::Loop(body) => breaks_are_placed(body, true),
-        Command::Guarded {
-            guard, then, other, ..
-        } => {
-            breaks_are_placed(guard, false)
-                && breaks_are_placed(then, in_body)
-                && breaks_are_placed(other, in_body)
-        }
-        Command::Sequence(parts) => parts.iter().all(|part| breaks_are_placed(part, in_body)),
-        Command::RuleSet(_) | Command::Skip | Command::Fail => true,
+    if *command == Command::Break {
+        return in_body;
     }
+    parts(command, in_body)
+        .into_iter()
+        .all(|(part, in_body)| breaks_are_placed(part, in_body))
+}
+
+/// The commands directly inside of a command, each with whether a break may stand there.
+pub fn parts(command: &Command, in_body: bool) -> Vec<(&Command, bool)> {
+    let may_break = |place| match command {
+        Command::Loop(_) => true,
+        Command::Guarded { .. } if place == 0 => false,
+        _ => in_body,
+    };
+    let parts = command.parts().into_iter().enumerate();
+    parts
+        .map(|(place, part)| (part, may_break(place)))
+        .collect()
 }

@@ -34,16 +34,10 @@ pub fn named_rules_exist(command: &Command, rules: usize) -> Result<(), String> 
             )),
             None => Ok(()),
         },
-        Command::Sequence(parts) => parts
-            .iter()
-            .try_for_each(|part| named_rules_exist(part, rules)),
-        Command::Guarded {
-            guard, then, other, ..
-        } => [guard, then, other]
+        _ => command
+            .parts()
             .into_iter()
             .try_for_each(|part| named_rules_exist(part, rules)),
-        Command::Loop(body) => named_rules_exist(body, rules),
-        Command::Skip | Command::Fail | Command::Break => Ok(()),
     }
 }
 

@@ -129,3 +129,17 @@ pub enum Command {
     Fail,
     Break,
 }
+
+impl Command {
+    /// The commands directly inside of it, in their order.
+    pub fn parts(&self) -> Vec<&Command> {
+        match self {
+            Command::Sequence(parts) => parts.iter().collect(),
+            Command::Guarded {
+                guard, then, other, ..
+            } => vec![guard, then, other],
+            Command::Loop(body) => vec![body],
+            Command::RuleSet(_) | Command::Skip | Command::Fail | Command::Break => Vec::new(),
+        }
+    }
+}

@@ -1,5 +1,5 @@
--- What is known of the parts of a command that is known: its row of commands by its tag and payload, a command of a row by its number,
--- and the commands of a row from a place on. Rests on Cycle, on parts' Series and on fields' Parsed.
+-- What is known of the parts of a command that is known: its row of commands by its tag and payload, a command of a row by its
+-- number, and the commands of a row from a place on. Rests on Cycle, on parts' Series and on fields' Parsed.
 use mathlib.Core.Path.{_≡_, refl, sym, _∙_, ap}
 use mathlib.Core.Bool.{Bool, true}
 use mathlib.Core.Option.{Option, some}

@@ -54,12 +54,17 @@ module _ (bs : List ℕ) (p : Program) (old : oldProgram bs ≡ some p) where
   abbrev front : List ℕ
   front = series-front (tagged ruleTag rule) (p .rules) (i .behind) bs ruled .0
 
+  split : bs ≡ front ++ i .behind
+  split = series-front (tagged ruleTag rule) (p .rules) (i .behind) bs ruled .1
+
+  lengths : length bs ≡ length front + length (i .behind)
+  lengths = ap length split ∙ length-append front (i .behind)
+
   in-front : take (length bs - length (i .behind)) bs ≡ front
   in-front =
-      let e : bs ≡ front ++ i .behind = series-front (tagged ruleTag rule) (p .rules) (i .behind) bs ruled .1 in
-      let l : length bs ≡ length front + length (i .behind) = ap length e ∙ length-append front (i .behind) in
+      let l = lengths in
       let z : length bs - length (i .behind) ≡ length front = omega arith in
-      rw z (ap (take (length front)) e ∙ take-append-seam front (i .behind))
+      rw z (ap (take (length front)) split ∙ take-append-seam front (i .behind))
 
   becomes : renewed bs ≡ some (front ++ newField)
   unfolding renewed isSome
@@ -67,7 +72,7 @@ module _ (bs : List ℕ) (p : Program) (old : oldProgram bs ≡ some p) where
 
   longer : length (front ++ newField) ≡ length bs + guards (p .main)
   longer =
-      let e : length bs ≡ length front + length (i .behind) = ap length (series-front (tagged ruleTag rule) (p .rules) (i .behind) bs ruled .1) ∙ length-append front (i .behind) in
+      let e = lengths in
       let f = field-is (i .behind) (i .whole) (i .at-command) .long in
       let z : length (i .whole .rest) ≡ 0 = ap length (i .last) in
       length-append front newField ∙ omega (arith, length-field (new .newTag) (new .payload), new .longer)

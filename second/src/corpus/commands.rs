@@ -264,15 +264,7 @@ impl Writer<'_> {
 }
 
 fn depth(command: &Command) -> usize {
-    let deepest = match command {
-        Command::Sequence(parts) => parts.iter().map(depth).max().unwrap_or(0),
-        Command::Guarded {
-            guard, then, other, ..
-        } => depth(guard).max(depth(then)).max(depth(other)),
-        Command::Loop(body) => depth(body),
-        _ => 0,
-    };
-    1 + deepest
+    1 + command.parts().into_iter().map(depth).max().unwrap_or(0)
 }
 
 /// The command inside others that keep its effect mostly, so many levels in all.

@@ -85,14 +85,7 @@ fn most_fuel(host: &Host, program: &Program) -> usize {
 }
 
 fn has_loop(command: &Command) -> bool {
-    match command {
-        Command::Loop(_) => true,
-        Command::Sequence(parts) => parts.iter().any(has_loop),
-        Command::Guarded {
-            guard, then, other, ..
-        } => [guard, then, other].into_iter().any(|part| has_loop(part)),
-        _ => false,
-    }
+    matches!(command, Command::Loop(_)) || command.parts().into_iter().any(has_loop)
 }
 
 /// How many candidates a search for a match looks at, about.

@@ -1,6 +1,7 @@
 //! Where rules and commands of a program stand in its image.
 
 use crate::encode;
+use crate::placement::parts;
 use crate::tree::{Command, Program};
 
 /// Asks whether a command is the wanted one; the flag says whether a break may stand there.
@@ -37,17 +38,5 @@ fn head(command: &Command) -> usize {
     match command {
         Command::Guarded { .. } => 4,
         _ => 3,
-    }
-}
-
-/// The commands inside of a command, each with whether a break may stand there.
-fn parts(command: &Command, in_body: bool) -> Vec<(&Command, bool)> {
-    match command {
-        Command::Sequence(parts) => parts.iter().map(|part| (part, in_body)).collect(),
-        Command::Guarded {
-            guard, then, other, ..
-        } => vec![(guard, false), (then, in_body), (other, in_body)],
-        Command::Loop(body) => vec![(body, true)],
-        _ => Vec::new(),
     }
 }

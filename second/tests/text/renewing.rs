@@ -45,19 +45,8 @@ fn write_old(command: &Command, image: &mut Vec<u8>) {
 
 /// How many commands of a program are guarded.
 fn guarded_commands(command: &Command) -> usize {
-    match command {
-        Command::Guarded {
-            guard, then, other, ..
-        } => {
-            1 + [guard, then, other]
-                .into_iter()
-                .map(|part| guarded_commands(part))
-                .sum::<usize>()
-        }
-        Command::Sequence(parts) => parts.iter().map(guarded_commands).sum(),
-        Command::Loop(body) => guarded_commands(body),
-        _ => 0,
-    }
+    let inside: usize = command.parts().into_iter().map(guarded_commands).sum();
+    inside + usize::from(matches!(command, Command::Guarded { .. }))
 }
 
 fn of_command(main: Command) -> Program {

@@ -31,13 +31,13 @@ use Rattle.ends.proofs.part_after.Reads as part-after-reads
 use Rattle.ends.proofs.settle.Reads as settle-reads
 use Rattle.fields.proofs.part.Reads as part-reads
 use Rattle.fields.proofs.read_field.Reads as read-field-reads
+use Rattle.parts.proofs.behind.Reads as behind-reads
 use Rattle.parts.proofs.nth_part.Reads as nth-part-reads
 use Rattle.parts.proofs.nth_tag.Reads as nth-tag-reads
 use Rattle.tally.proofs.entered.Reads as entered-reads
 use Rattle.commands.proofs.run_set.Reads as run-set-reads
 use Rattle.commands.proofs.+run_command+run_guarded+run_loop+run_row.{statement}
 use Rattle.commands.proofs.+run_command+run_guarded+run_loop+run_row.Tie.{close}
-use Rattle.parts.proofs.behind.Reads as behind-reads
 
 abbrev μ-run-command : Measures 5 run-command-kinds.ps ℕ
 μ-run-command κs a = 2 * length (a .1 .1 .1 .0 .now) + 1
