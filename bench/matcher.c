@@ -39,6 +39,7 @@ struct test {
 
 struct rule {
     int variables, nodes, edges, kept, tests;
+    int preserving; /* an unrooted left node takes a root too */
     uint8_t types[6];
     int first[6]; /* the first item that has the variable */
     struct item item[12];
@@ -156,7 +157,7 @@ static void read_test(struct rule *rule, int tag, const uint8_t *p)
     }
 }
 
-static void read_rule(struct rule *rule, const uint8_t *p)
+static void read_rule(struct rule *rule, const uint8_t *p, const uint8_t *rule_end)
 {
     int tag, length, i;
     const uint8_t *part = payload(&p, &tag, &length), *end;
@@ -181,6 +182,7 @@ static void read_rule(struct rule *rule, const uint8_t *p)
         const uint8_t *test = payload(&part, &tag, &length);
         read_test(rule, tag, test);
     }
+    rule->preserving = p < rule_end && payload(&p, &tag, &length)[0];
 }
 
 /* Labels and tests. */
@@ -317,10 +319,10 @@ static int unused(const struct search *s, int from, int to, int c)
 static int next_like(const struct search *s, int i, int c)
 {
     const struct item *left = &s->rule.item[i];
-    int one = left->elements == 1 && left->label[0].variable < 0;
+    int one = left->elements == 1 && left->label[0].variable < 0, either = s->rule.preserving && !left->root;
     for (; c < s->node_slots; c++) {
         const uint8_t *node = s->nodes + NODE * c;
-        if (node[0] && marks_agree(left->mark, node[1]) && left->root == node[2] &&
+        if (node[0] && marks_agree(left->mark, node[1]) && (left->root == node[2] || either) &&
             (left->lists == 0 ? node[3] == left->elements : node[3] >= left->elements - left->lists) &&
             !(one && four(node + 4) != left->label[0].constant))
             break;
@@ -414,9 +416,9 @@ static int place(struct search *s, int i)
 }
 
 /* The first match of a rule, read from its bytes. */
-__attribute__((noinline)) static int first_match(struct search *s, const uint8_t *rule)
+__attribute__((noinline)) static int first_match(struct search *s, const uint8_t *rule, int size)
 {
-    read_rule(&s->rule, rule);
+    read_rule(&s->rule, rule, rule + size);
     return place(s, 0);
 }
 
@@ -427,7 +429,7 @@ int main(void)
     size_t length = fread(bytes, 1, sizeof bytes, stdin);
     const uint8_t *p = bytes + 3, *image, *rule;
     uint32_t count;
-    int tag, size, found = 0, i, v;
+    int tag, size, rule_size, found = 0, i, v;
     if (length < 3)
         return 1;
     s.nodes = payload(&p, &tag, &size);
@@ -435,10 +437,10 @@ int main(void)
     s.edges = payload(&p, &tag, &size);
     s.edge_slots = size / EDGE;
     image = payload(&p, &tag, &size);
-    rule = payload(&image, &tag, &size);
+    rule = payload(&image, &tag, &rule_size);
     count = four(payload(&p, &tag, &size));
     do {
-        found = first_match(&s, rule);
+        found = first_match(&s, rule, rule_size);
         __asm__ volatile("" : : "r"(&s) : "memory");
     } while (count-- > 1);
     if (!found) {

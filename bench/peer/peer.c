@@ -35,6 +35,7 @@ struct test {
 
 struct rule {
     unsigned variables, interface, tests;
+    int preserving; /* an unrooted left node takes a root too, which stays one where the right node is unrooted */
     uint8_t type[6];
     struct side left, right;
     struct test test[4];
@@ -184,13 +185,26 @@ static int read_test(int tag, struct reader p, struct test *t)
     return 0;
 }
 
+/* The sixth field, where there is one: 1 for preserving, or 0. */
+static int read_mode(struct reader p, struct rule *r)
+{
+    struct reader mode;
+    r->preserving = 0;
+    if (left(&p) == 0)
+        return 1;
+    if (next(&p, &mode) != 0x16 || left(&p) > 0 || left(&mode) != 1 || mode.at[0] > 1)
+        return 0;
+    r->preserving = mode.at[0];
+    return 1;
+}
+
 static int read_rule(struct reader p, struct rule *r)
 {
     struct reader part[5];
     for (int i = 0; i < 5; i++)
         if (next(&p, &part[i]) != 0x11 + i)
             return 0;
-    if (left(&p) > 0 || left(&part[0]) > 6 || left(&part[3]) != 1)
+    if (!read_mode(p, r) || left(&part[0]) > 6 || left(&part[3]) != 1)
         return 0;
     r->variables = (unsigned)left(&part[0]);
     for (unsigned v = 0; v < r->variables; v++) {
@@ -474,6 +488,11 @@ static int marks_agree(unsigned mark, unsigned host_mark)
     return mark == ANY || mark == host_mark;
 }
 
+static int roots_agree(const struct rule *r, unsigned root, unsigned host_root)
+{
+    return root == host_root || (r->preserving && root == 0);
+}
+
 static int test_holds(const struct search *s, const struct test *t)
 {
     const struct host *h = s->host;
@@ -602,7 +621,7 @@ static int node_fits(struct search *s, unsigned i, unsigned c, unsigned *fresh)
 {
     const uint8_t *p = s->host->nodes + c * NODE;
     const struct item *m = &s->rule->left.node[i];
-    if (p[0] != 1 || !marks_agree(m->mark, p[1]) || m->root != p[2])
+    if (p[0] != 1 || !marks_agree(m->mark, p[1]) || !roots_agree(s->rule, m->root, p[2]))
         return 0;
     for (unsigned j = 0; j < i; j++)
         if (s->slot[j] == c)
@@ -757,14 +776,16 @@ static unsigned lowest_free(const uint8_t *table, unsigned size)
     return i;
 }
 
-static void put_node(struct host *h, unsigned slot, const struct item *m, const struct value *v)
+/* a node of the right side; the flag of the slot stays where `keeps_flag` says so */
+static void put_node(struct host *h, unsigned slot, const struct item *m, const struct value *v, int keeps_flag)
 {
     uint8_t *p = h->nodes + slot * NODE;
     record(h, 1, slot);
     p[0] = 1;
     if (m->mark != ANY)
         p[1] = m->mark;
-    p[2] = m->root;
+    if (!keeps_flag)
+        p[2] = m->root;
     put_label(p + 3, p + 4, v);
 }
 
@@ -790,14 +811,15 @@ static unsigned apply(struct host *h, const struct search *s)
     }
     for (unsigned i = 0; i < n; i++) {
         if (i < k) {
-            put_node(h, place[i] = s->slot[i], &to->node[i], &value[i]);
+            int unrooted = r->left.node[i].root == 0 && to->node[i].root == 0;
+            put_node(h, place[i] = s->slot[i], &to->node[i], &value[i], r->preserving && unrooted);
         } else {
             record(h, 1, s->slot[i]);
             memset(h->nodes + s->slot[i] * NODE, 0, NODE);
         }
     }
     for (unsigned j = k; j < to->nodes; j++)
-        put_node(h, place[j] = lowest_free(h->nodes, NODE), &to->node[j], &value[j]);
+        put_node(h, place[j] = lowest_free(h->nodes, NODE), &to->node[j], &value[j], 0);
     for (unsigned j = 0; j < to->edges; j++) {
         const struct item *e = &to->edge[j];
         unsigned x = lowest_free(h->edges, EDGE), a = place[e->source], b = place[e->target];

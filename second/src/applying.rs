@@ -141,7 +141,7 @@ impl Change {
         }
         for (number, slot) in found.nodes.iter().enumerate() {
             let node = match number < interface {
-                true => Some(self.kept_node(rule, number, *slot, labels)),
+                true => Some(self.kept_node(rule, number, *slot, labels, observer)),
                 false => None,
             };
             self.set_node(*slot, node);
@@ -160,11 +160,25 @@ impl Change {
         }
     }
 
-    /// An interface node after the change: the right side's mark, root and label; any keeps the mark.
-    fn kept_node(&self, rule: &Rule, number: usize, slot: usize, labels: &RightLabels) -> Node {
+    /// An interface node after the change: the right side's mark, root and label. Any keeps the mark; a preserving rule keeps
+    /// the root flag of a node that is unrooted on both sides.
+    fn kept_node(
+        &self,
+        rule: &Rule,
+        number: usize,
+        slot: usize,
+        labels: &RightLabels,
+        observer: &mut dyn Observer,
+    ) -> Node {
+        let before = self.host.node(slot).expect("a matched node is live");
         let mut node = new_node(rule, number, labels);
         if node.mark == mark::ANY {
-            node.mark = self.host.node(slot).expect("a matched node is live").mark;
+            node.mark = before.mark;
+        }
+        let unrooted = !rule.left.nodes[number].root && !node.root;
+        if rule.is_preserving() && unrooted {
+            node.root = before.root;
+            observer.sees(Event::RootFlagKept(before.root));
         }
         node
     }

@@ -46,6 +46,15 @@ pub fn node_rule(left: &[RuleNode], right: &[RuleNode], interface: u8) -> Rule {
     rule((left.to_vec(), vec![]), (right.to_vec(), vec![]), interface)
 }
 
+/// The rule with a mode, or without the field.
+pub fn with_mode(mode: Option<Mode>, rule: Rule) -> Rule {
+    Rule { mode, ..rule }
+}
+
+pub fn preserving(rule: Rule) -> Rule {
+    with_mode(Some(Mode::Preserving), rule)
+}
+
 /// The rule set of one rule.
 pub fn call(number: u8) -> Command {
     Command::RuleSet(vec![number])

@@ -5,6 +5,7 @@
 //! with the cases of document 01 and one input for each clause of the refusals.
 
 mod broken_inputs;
+mod broken_modes;
 mod broken_programs;
 mod cases;
 mod command_line;
@@ -17,6 +18,8 @@ mod fixed;
 mod hosts;
 mod large;
 mod lefts;
+mod mode_programs;
+mod modes;
 mod narrow;
 mod palette;
 mod rights;
@@ -34,6 +37,8 @@ use drafts::Draft;
 use fixed::fixed_images;
 
 pub use command_line::{main, write_files};
+pub use mode_programs::mode_programs;
+pub use rules::draw_mode;
 pub use statistics::{Counter, Statistics};
 
 /// The layout of the images.
@@ -44,7 +49,7 @@ pub const IMAGE_TAG: u8 = 0x06;
 
 /// The seed of the stored corpus, and how many of its images come from there.
 pub const STORED_SEED: u64 = 1;
-pub const STORED_COUNT: u64 = 2338;
+pub const STORED_COUNT: u64 = 2526;
 
 /// One image among so many is a large one.
 const LARGE_EVERY: u64 = 200;

@@ -1,5 +1,5 @@
-//! Reading a program image into its tree: the *form* of document 01, but with if and try as one guarded command, and with
-//! every limit. An image of any length is read; that it has at most 8,192 bytes is asked by the call.
+//! Reading a program image into its tree: the *form* of document 01, but with if and try as one guarded command and with a
+//! mode that a rule may have, and with every limit. An image of any length is read; that it has at most 8,192 bytes is asked by the call.
 
 use crate::build;
 use crate::tree::*;
@@ -53,13 +53,18 @@ fn rule(reader: &mut Reader) -> Read<Rule> {
     let right = graph(&mut parts, 0x13, "right graph")?;
     let interface = interface(&mut parts)?;
     let tests = tests(&mut parts)?;
-    parts.ended("the end of the rule behind its five fields")?;
+    let mode = mode(&mut parts)?;
+    parts.ended(match mode {
+        None => "the end of the rule behind its five fields, or a sixth, the mode (0x16)",
+        Some(_) => "the end of the rule behind its mode",
+    })?;
     Ok(Rule {
         variables,
         left,
         right,
         interface,
         tests,
+        mode,
     })
 }
 
@@ -169,6 +174,20 @@ fn interface(reader: &mut Reader) -> Read<u8> {
 fn tests(reader: &mut Reader) -> Read<Vec<Test>> {
     let mut fields = reader.field(0x15, "tests")?;
     fields.rest(limit::TESTS, "at most 4 tests", test)
+}
+
+/// The sixth field, if it stands there.
+fn mode(reader: &mut Reader) -> Read<Option<Mode>> {
+    if reader.tag() != Some(0x16) {
+        return Ok(None);
+    }
+    let mut parts = reader.field(0x16, "mode")?;
+    let mode = match parts.byte_in(0..=1, "a mode: 1 preserving or 0 reflecting")? {
+        1 => Mode::Preserving,
+        _ => Mode::Reflecting,
+    };
+    parts.ended("one byte and nothing more")?;
+    Ok(Some(mode))
 }
 
 fn test(reader: &mut Reader) -> Read<Test> {

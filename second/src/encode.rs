@@ -20,16 +20,29 @@ pub fn program(program: &Program) -> Vec<u8> {
 }
 
 pub fn rule(rule: &Rule) -> Vec<u8> {
+    field(0x10, &rule_fields(rule).concat())
+}
+
+/// The fields of a rule: five, and a sixth where it has a mode.
+pub fn rule_fields(rule: &Rule) -> Vec<Vec<u8>> {
     let types: Vec<u8> = rule.variables.iter().map(|t| variable_type(*t)).collect();
     let tests: Vec<u8> = rule.tests.iter().flat_map(test).collect();
-    let parts = [
+    let mut fields = vec![
         field(0x11, &types),
         field(0x12, &graph(&rule.left)),
         field(0x13, &graph(&rule.right)),
         field(0x14, &[rule.interface]),
         field(0x15, &tests),
     ];
-    field(0x10, &parts.concat())
+    fields.extend(rule.mode.map(|it| field(0x16, &[mode(it)])));
+    fields
+}
+
+fn mode(mode: Mode) -> u8 {
+    match mode {
+        Mode::Reflecting => 0,
+        Mode::Preserving => 1,
+    }
 }
 
 fn variable_type(kind: VariableType) -> u8 {

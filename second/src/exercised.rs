@@ -1,7 +1,7 @@
 //! What runs exercise: an observer that counts.
 
 use crate::observer::{Event, Observer};
-use crate::tree::{mark, Command, Element, Relation, Rule, Test, TestKind, VariableType};
+use crate::tree::{mark, Command, Element, Mode, Relation, Rule, Test, TestKind, VariableType};
 
 #[derive(Clone, Debug, Default, PartialEq, Eq)]
 pub struct Exercised {
@@ -33,6 +33,14 @@ pub struct Exercised {
     pub any_marks_matched: u64,
     /// Left roots in matches.
     pub roots_matched: u64,
+    /// Matches of rules that have a mode, by its byte.
+    pub modes_matched: [u64; 2],
+    /// Left nodes in matches that are unrooted and on a root.
+    pub unrooted_on_roots: u64,
+    /// Those of them outside the interface.
+    pub unrooted_roots_deleted: u64,
+    /// Flags of roots that an application keeps, since the rule has the node unrooted on both sides.
+    pub root_flags_kept: u64,
     /// For each guard and body that has begun and not ended, the applications before it.
     applications_before: Vec<u64>,
 }
@@ -65,10 +73,11 @@ impl Observer for Exercised {
             Event::BodyUndone => self.bodies_undone += u64::from(self.applied_in_last()),
             Event::Dangled => self.dangling_refusals += 1,
             Event::Tested(tests, held, at_loop) => self.tested(tests, held, at_loop),
-            Event::Matched(rule) => self.matched(rule),
+            Event::Matched(rule, on_roots) => self.matched(rule, on_roots),
             Event::Evaluated(rule, element) => {
                 *self.elements.of(element, &rule.variables) += 1;
             }
+            Event::RootFlagKept(root) => self.root_flags_kept += u64::from(root),
             Event::Placed(slot, left) => self.slots_reused += u64::from(left.contains(&slot)),
             Event::Applied(_) => self.applications += 1,
         }
@@ -118,12 +127,22 @@ impl Exercised {
         }
     }
 
-    fn matched(&mut self, rule: &Rule) {
+    fn matched(&mut self, rule: &Rule, on_roots: &[bool]) {
         let any_nodes = rule.left.nodes.iter().filter(|n| n.mark == mark::ANY);
         let any_edges = rule.left.edges.iter().filter(|e| e.mark == mark::ANY);
         let roots = rule.left.nodes.iter().filter(|n| n.root);
         self.any_marks_matched += (any_nodes.count() + any_edges.count()) as u64;
         self.roots_matched += roots.count() as u64;
+        match rule.mode {
+            Some(Mode::Reflecting) => self.modes_matched[0] += 1,
+            Some(Mode::Preserving) => self.modes_matched[1] += 1,
+            None => {}
+        }
+        let nodes = rule.left.nodes.iter().zip(on_roots).enumerate();
+        for (number, _) in nodes.filter(|(_, (left, on_root))| !left.root && **on_root) {
+            self.unrooted_on_roots += 1;
+            self.unrooted_roots_deleted += u64::from(number >= usize::from(rule.interface));
+        }
     }
 }
 
@@ -194,6 +213,27 @@ mod tests {
         let exercised = seen(&entered);
         assert_eq!((exercised.ifs, exercised.tries), (1, 2));
         assert_eq!((exercised.steps, exercised.breaks), (4, 0));
+    }
+
+    #[test]
+    fn modes_and_unrooted_nodes_on_roots_count_in_matches() {
+        use crate::build::{node, node_rule, preserving, root, with_mode};
+        let left = [root(0, &[]), node(0, &[]), node(0, &[])];
+        let rule = preserving(node_rule(&left, &left[..2], 2));
+        let reflecting = with_mode(Some(Mode::Reflecting), rule.clone());
+        let without = with_mode(None, rule.clone());
+        let exercised = seen(&[
+            Event::Matched(&rule, &[true, true, true]),
+            Event::Matched(&rule, &[true, true, false]),
+            Event::Matched(&reflecting, &[true, false, false]),
+            Event::Matched(&without, &[true, false, false]),
+            Event::RootFlagKept(true),
+            Event::RootFlagKept(false),
+        ]);
+        assert_eq!(exercised.modes_matched, [1, 2]);
+        assert_eq!(exercised.unrooted_on_roots, 3);
+        assert_eq!(exercised.unrooted_roots_deleted, 1);
+        assert_eq!((exercised.roots_matched, exercised.root_flags_kept), (4, 1));
     }
 
     #[test]

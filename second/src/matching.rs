@@ -45,7 +45,9 @@ pub fn first_match_observed<'h>(
         observer,
     };
     let found = search.place_nodes()?;
-    observer.sees(Event::Matched(rule));
+    let is_root = |slot: &usize| host.node(*slot).is_some_and(|node| node.root);
+    let on_roots: Vec<bool> = found.nodes.iter().map(is_root).collect();
+    observer.sees(Event::Matched(rule, &on_roots));
     Some(found)
 }
 
@@ -110,7 +112,7 @@ impl<'h> Search<'_, 'h> {
         let placed = slots_are_live(host, placement)
             && slots_are_different(placement)
             && marks_agree(rule, host, placement)
-            && root_flags_are_equal(rule, host, placement)
+            && root_flags_agree(rule, host, placement)
             && sources_and_targets_correspond(rule, host, placement);
         if !placed {
             return None;
@@ -141,7 +143,7 @@ fn node_candidates(rule: &Rule, host: &Host) -> Vec<Vec<usize>> {
         let agreeing = host.live_nodes().filter(|(_, node)| {
             values.fill(None);
             mark_agrees(left.mark, node.mark)
-                && left.root == node.root
+                && root_agrees(rule, left.root, node.root)
                 && label_agrees(rule, &left.label, &node.label, &mut values)
         });
         agreeing.map(|(slot, _)| slot).collect()
@@ -201,10 +203,20 @@ fn mark_agrees(left: u8, host: u8) -> bool {
     left == mark::ANY || left == host
 }
 
-/// Rule 2: root flags are equal both ways.
-pub fn root_flags_are_equal(rule: &Rule, host: &Host, placement: &Placement) -> bool {
+/// Rule 2: root flags are equal both ways; in a preserving rule an unrooted left node takes a root too.
+pub fn root_flags_agree(rule: &Rule, host: &Host, placement: &Placement) -> bool {
     let mut nodes = rule.left.nodes.iter().zip(&placement.nodes);
-    nodes.all(|(left, slot)| host.node(*slot).is_some_and(|node| node.root == left.root))
+    nodes.all(|(left, slot)| {
+        let node = host.node(*slot);
+        node.is_some_and(|node| root_agrees(rule, left.root, node.root))
+    })
+}
+
+fn root_agrees(rule: &Rule, left: bool, host: bool) -> bool {
+    match left {
+        true => host,
+        false => rule.is_preserving() || !host,
+    }
 }
 
 /// Rule 3: sources and targets correspond.

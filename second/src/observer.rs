@@ -21,10 +21,12 @@ pub enum Event<'a> {
     /// The tests of a rule at a placement that keeps the matching rules 1 to 5, whether each holds, and whether each asks for
     /// a degree of a node that has a loop.
     Tested(&'a [Test], &'a [bool], &'a [bool]),
-    /// A match of the rule was found.
-    Matched(&'a Rule),
+    /// A match of the rule was found; whether each left node is on a root.
+    Matched(&'a Rule, &'a [bool]),
     /// An element of one of the rule's right labels is evaluated.
     Evaluated(&'a Rule, &'a Element),
+    /// A node keeps this root flag, since a preserving rule has it unrooted on both sides.
+    RootFlagKept(bool),
     /// A new item takes a slot; the slots of the left items of its kind.
     Placed(usize, &'a [usize]),
     /// A rule was applied, which left this graph.

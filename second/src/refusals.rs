@@ -4,6 +4,7 @@
 mod form;
 mod form_of_commands;
 mod form_of_graphs;
+mod form_of_mode;
 mod form_of_tests;
 mod full_images;
 mod placement;

@@ -8,7 +8,7 @@ use std::fmt::Write;
 use crate::answer;
 use crate::calls;
 use crate::corpus;
-use crate::encode::{self, field};
+use crate::encode::{field, RunnerInput};
 use crate::layout::Layout;
 use crate::listing;
 use crate::refusals::{self, RunCall, UndoCall};
@@ -60,14 +60,16 @@ const MOST_BYTES: usize = 262_144;
 const DRAWN: u64 = 400;
 const LONGEST: usize = 1_200;
 
-/// Calls of undo: every refusal with its accepted twin, then the journals that drawn runs leave, undone in whole and in part.
+/// Calls of undo: every refusal with its accepted twin, then the journals that programs of both modes and drawn runs leave, undone in
+/// whole and in part.
 pub fn undo_cases() -> Stored {
     let mut calls: Vec<UndoCall> = Vec::new();
     for refusal in refusals::of_undo() {
         calls.push(refusal.accepted);
         calls.push(refusal.refused);
     }
-    calls.extend(drawn_calls().iter().flat_map(undone_after));
+    let runs = corpus::mode_programs().into_iter().map(run_call).chain(drawn_calls());
+    calls.extend(runs.flat_map(|run| undone_after(&run)));
     calls.retain(|call| call.journal.len() + call.nodes.len() + call.edges.len() < 30_000);
     let stdin = calls.iter().flat_map(undo_case).collect();
     let mut stdout = String::new();
@@ -164,13 +166,17 @@ fn drawn_calls() -> Vec<RunCall> {
         .filter(|image| image.len() <= LONGEST)
         .filter_map(|image| listing::read_input(&image))
         .filter(|input| input.records <= 40)
-        .map(|input: encode::RunnerInput| RunCall {
-            nodes: input.nodes,
-            edges: input.edges,
-            journal: vec![1; usize::from(input.records) * LAYOUT.record_length()],
-            program: input.program,
-            fuel: input.fuel,
-            report: vec![7; calls::REPORT_BYTES],
-        })
+        .map(run_call)
         .collect()
+}
+
+fn run_call(input: RunnerInput) -> RunCall {
+    RunCall {
+        nodes: input.nodes,
+        edges: input.edges,
+        journal: vec![1; usize::from(input.records) * LAYOUT.record_length()],
+        program: input.program,
+        fuel: input.fuel,
+        report: vec![7; calls::REPORT_BYTES],
+    }
 }

@@ -49,6 +49,23 @@ pub struct Rule {
     /// Nodes 0 to interface - 1 are the same on both sides.
     pub interface: u8,
     pub tests: Vec<Test>,
+    /// What the sixth field says, where there is one. A rule without it is reflecting.
+    pub mode: Option<Mode>,
+}
+
+impl Rule {
+    pub fn is_preserving(&self) -> bool {
+        self.mode == Some(Mode::Preserving)
+    }
+}
+
+/// What a rule asks of roots.
+#[derive(Clone, Copy, Debug, PartialEq, Eq)]
+pub enum Mode {
+    /// Root flags are equal both ways.
+    Reflecting,
+    /// An unrooted left node takes a root too, which stays one where the right side leaves the node unrooted.
+    Preserving,
 }
 
 #[derive(Clone, Copy, Debug, PartialEq, Eq)]

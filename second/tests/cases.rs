@@ -17,6 +17,8 @@ mod labels;
 mod listings;
 #[path = "cases/matching.rs"]
 mod matching;
+#[path = "cases/modes.rs"]
+mod modes;
 #[path = "cases/rules.rs"]
 mod rules;
 #[path = "cases/undo.rs"]

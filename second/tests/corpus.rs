@@ -12,6 +12,8 @@ use second::encode;
 use second::layout::Layout;
 use second::listing::{call_of, listing, read_input};
 use second::random::Random;
+use second::text::grouped;
+use second::tree::{Mode, Program};
 use second::{decode, placement, references};
 
 /// A file of the stored corpus: the test program reads the images and must write the listings.
@@ -61,7 +63,7 @@ fn the_stored_corpus_exercises_everything() {
     let corpus = stored("stdin");
     let parts = split(&corpus).unwrap();
     let figures = Statistics::of(&parts);
-    assert!(corpus.len() <= 2_400_000, "{} bytes", corpus.len());
+    assert!(corpus.len() <= 2_450_000, "{} bytes", corpus.len());
     for answer in [0, 1, 2, 3, 4, 5, 6, 10, 11, 13, 14, 15, 16, 17, 18] {
         assert!(
             figures.answers.contains_key(&answer),
@@ -124,7 +126,7 @@ fn the_page_beside_the_corpus_has_its_figures() {
     let page = String::from_utf8(stored("README.md")).unwrap();
     let figures = Statistics::of(&split(&corpus).unwrap()).to_string();
     assert!(page.contains(&figures), "the figures are\n{figures}");
-    let fixed = format!("The first {} images", fixed_count());
+    let fixed = format!("The first {} images", grouped(fixed_count() as usize));
     assert!(page.contains(&fixed), "the page should say: {fixed}");
     let published = split(&corpus).unwrap().len() as u64 - STORED_COUNT;
     let last = format!("The last {published} images");
@@ -164,26 +166,65 @@ fn a_corpus_begins_with_the_cases() {
     assert!(last.ends_with(graph), "case P gives\n{last}");
 }
 
+/// Programs of drawn images.
+fn drawn_programs() -> Vec<Vec<u8>> {
+    let drawn = drawn_images(SEED, 6000);
+    let inputs = drawn.iter().filter_map(|image| read_input(image));
+    inputs.map(|input| input.program).collect()
+}
+
+/// How many of the programs are damaged so: what was expected there, and the tag that stands there.
+fn damages(programs: &[Vec<u8>], found: impl Fn(&str, Option<u8>) -> bool) -> usize {
+    let damaged = |program: &&Vec<u8>| {
+        decode::program(program)
+            .is_err_and(|damage| found(&damage.expected, program.get(damage.at).copied()))
+    };
+    programs.iter().filter(damaged).count()
+}
+
 /// Guarded commands as the drawn images have them: with a byte other than 0 and 1, and with a tag that no command has.
 #[test]
 fn drawn_images_have_damaged_guarded_commands() {
-    let drawn = drawn_images(SEED, 3000);
-    let inputs = drawn.iter().filter_map(|image| read_input(image));
-    let programs: Vec<Vec<u8>> = inputs.map(|input| input.program).collect();
-    let damages = |found: &dyn Fn(&decode::Damage, &[u8]) -> bool| {
-        let damaged = |program: &&Vec<u8>| {
-            decode::program(program).is_err_and(|damage| found(&damage, program))
-        };
-        programs.iter().filter(damaged).count()
-    };
-    let bad_byte =
-        damages(&|damage, _| damage.expected.starts_with("1 where a successful guard's"));
-    let bad_tag = damages(&|damage, program| {
-        let tag = program.get(damage.at);
-        damage.expected.starts_with("a command: ")
-            && tag.is_some_and(|tag| [0x52, 0x53, 0x58, 0x5A].contains(tag))
+    let programs = drawn_programs();
+    let bad_byte = damages(&programs, |expected, _| {
+        expected.starts_with("1 where a successful guard's")
+    });
+    let bad_tag = damages(&programs, |expected, tag| {
+        let other = tag.is_some_and(|tag| [0x52, 0x53, 0x58, 0x5A].contains(&tag));
+        expected.starts_with("a command: ") && other
     });
     assert!(bad_byte >= 2 && bad_tag >= 2, "{bad_byte} {bad_tag}");
+}
+
+/// Rules of each mode, and modes that are damaged: in the byte, in the length, by the place, by what stands behind.
+#[test]
+fn drawn_images_have_modes_and_damaged_ones() {
+    let programs = drawn_programs();
+    let having = |mode: Option<Mode>| {
+        let legal = programs
+            .iter()
+            .filter_map(|image| decode::program(image).ok());
+        let has = |program: &Program| program.rules.iter().any(|rule| rule.mode == mode);
+        legal.filter(has).count()
+    };
+    let least = [
+        (None, 4000),
+        (Some(Mode::Reflecting), 600),
+        (Some(Mode::Preserving), 1800),
+    ];
+    for (mode, least) in least {
+        assert!(having(mode) >= least, "{mode:?}: {}", having(mode));
+    }
+    let of = |start: &str| damages(&programs, |expected, _| expected.starts_with(start));
+    let found = [
+        of("a mode: "),
+        of("one byte and nothing more"),
+        of("the end of the rule behind its mode"),
+        damages(&programs, |expected, tag| {
+            expected.starts_with("a field with tag 0x1") && tag == Some(0x16)
+        }),
+    ];
+    assert!(found.iter().all(|count| *count >= 2), "{found:?}");
 }
 
 #[test]

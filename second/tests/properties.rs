@@ -74,6 +74,10 @@ fn the_samples_exercise_what_they_should() {
         it.elements.difference,
         it.any_marks_matched,
         it.roots_matched,
+        it.modes_matched[0].min(it.modes_matched[1]),
+        it.unrooted_on_roots,
+        it.unrooted_roots_deleted,
+        it.root_flags_kept,
     ];
     assert!(often.iter().all(|count| *count >= 100), "{often:?}");
 }
@@ -232,7 +236,7 @@ fn full_match<'h>(rule: &Rule, host: &'h Host, placement: Placement) -> Option<M
     let placed = matching::slots_are_live(host, &placement)
         && matching::slots_are_different(&placement)
         && matching::marks_agree(rule, host, &placement)
-        && matching::root_flags_are_equal(rule, host, &placement)
+        && matching::root_flags_agree(rule, host, &placement)
         && matching::sources_and_targets_correspond(rule, host, &placement);
     let values = matching::labels_agree(rule, host, &placement).filter(|_| placed)?;
     let holds = matching::dangling_condition(rule, host, &placement)

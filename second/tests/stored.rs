@@ -47,6 +47,9 @@ fn match_cases_exercise_every_rule_of_matching() {
     for count in [exercised.negated_tests, exercised.dangling_refusals, exercised.any_marks_matched, exercised.roots_matched] {
         assert!(count > 100);
     }
+    for count in [exercised.modes_matched[0], exercised.modes_matched[1], exercised.unrooted_on_roots] {
+        assert!(count > 50);
+    }
 }
 
 #[test]

@@ -14,6 +14,10 @@ mod hosts;
 mod images;
 #[path = "text/legal_programs.rs"]
 mod legal_programs;
+#[path = "text/modes.rs"]
+mod modes;
+#[path = "text/passes.rs"]
+mod passes;
 #[path = "text/refused_conditions.rs"]
 mod refused_conditions;
 #[path = "text/refused_programs.rs"]

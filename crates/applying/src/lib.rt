@@ -69,6 +69,7 @@ fn change_left(
     let left = parts::left_part(rule);
     let right = parts::right_part(rule);
     let k = parts::interface_of(rule);
+    let mode = parts::mode_of(rule);
     let n = parts::node_count(left);
     let m = parts::edge_count(left);
     ledger::free_edges(l, &nodes[..], edges, journal, used, slots, n, m);
@@ -79,6 +80,8 @@ fn change_left(
         &edges[..],
         journal,
         gone,
+        mode == 1,
+        left,
         right,
         k,
         lens,

@@ -12,7 +12,7 @@ use lib.ListN.{length, getD, take, drop, length-drop, length-append, drop-of-len
 use lib.Seq.{length-take-le, getD-drop, drop-drop}
 use Rattle.meaning.specs.Basics.{choose, both, either, every, isEmpty, isSome, ensure, _>>_, _>>=_}
 use Rattle.meaning.specs.Layout.{isNodeMark, isEdgeMark}
-use Rattle.meaning.specs.Image.{RuleNode, Rule, Command, Field, Read, Pair, stated, field, expect, leading, only, passesAll, constant, oneByte, flag, operand, asPair, twoOperands, element, label, ruleNode, ruleEdge, ruleGraph, relation, condition, test, isType, types, rule, leaf, asRuleSet, asSequence, asGuarded, asLoop, unguarded, command, programBy, program}
+use Rattle.meaning.specs.Image.{RuleNode, Rule, Command, Field, Read, Pair, stated, field, expect, leading, only, passesAll, constant, oneByte, flag, operand, asPair, twoOperands, element, label, ruleNode, ruleEdge, ruleGraph, relation, condition, test, isType, types, mode, rule, leaf, asRuleSet, asSequence, asGuarded, asLoop, unguarded, command, programBy, program}
 use Rattle.meaning.specs.Tags.{anyMark, breakTag, constantTag, differenceTag, edgeTag, edgeTestTag, failTag, guardedTag, inDegreeTag, loopTag, nodeTag, outDegreeTag, relationTag, ruleSetTag, ruleTag, sequenceTag, skipTag, sumTag, variableTag}
 use Rattle.meaning.specs.Image.Command.{skip, fail, break}
 use Rattle.meaning.specs.declared.Operand.{Operand}
@@ -371,6 +371,10 @@ oneByte-ok bs = isSome-ensure _ _
 pub flag-ok : (bs : List ℕ) → isSome (flag bs) ≡ both (leb 1 (length bs)) (leb (getD bs 0 0) 1)
 unfolding flag
 flag-ok bs = isSome-ensure _ _
+
+pub mode-ok : (bs : List ℕ) → isSome (mode bs) ≡ both (eqb (length bs) 1) (isSome (flag bs))
+unfolding mode
+mode-ok bs = isSome-after _ _ _ refl
 
 -- Commands.
 

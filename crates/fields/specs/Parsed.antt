@@ -13,8 +13,8 @@ use lib.ListN.{length, getD, drop}
 use Rattle.meaning.specs.Basics.{either, every, isEmpty}
 use Rattle.meaning.specs.Numbers.{number}
 use Rattle.meaning.specs.Layout.{isNodeMark, isEdgeMark}
-use Rattle.meaning.specs.Image.{limits, RuleEdge, RuleGraph, Program, inOrder, RuleNode, Rule, Command, Field, Read, Pair, field, expect, leading, only, passesAll, constant, oneByte, flag, operand, asPair, twoOperands, element, label, ruleNode, ruleEdge, ruleGraph, relation, condition, test, isType, types, rule, leaf, asRuleSet, asSequence, asGuarded, asLoop, command, programBy}
-use Rattle.meaning.specs.Tags.{anyMark, breakTag, constantTag, differenceTag, edgeTag, edgeTestTag, failTag, guardedTag, inDegreeTag, interfaceTag, leftTag, loopTag, nodeTag, outDegreeTag, rightTag, ruleSetTag, ruleTag, sequenceTag, skipTag, sumTag, testsTag, variableTag, variablesTag}
+use Rattle.meaning.specs.Image.{limits, RuleEdge, RuleGraph, Program, inOrder, RuleNode, Rule, Command, Field, Read, Pair, field, expect, leading, only, passesAll, constant, oneByte, flag, operand, asPair, twoOperands, element, label, ruleNode, ruleEdge, ruleGraph, relation, condition, test, isType, types, mode, preserves, rule, leaf, asRuleSet, asSequence, asGuarded, asLoop, command, programBy}
+use Rattle.meaning.specs.Tags.{anyMark, breakTag, constantTag, differenceTag, edgeTag, edgeTestTag, failTag, guardedTag, inDegreeTag, interfaceTag, leftTag, loopTag, modeTag, nodeTag, outDegreeTag, rightTag, ruleSetTag, ruleTag, sequenceTag, skipTag, sumTag, testsTag, variableTag, variablesTag}
 use Rattle.meaning.specs.Image.Command.{ruleSet, sequence, guarded, loop, skip, fail, break}
 use Rattle.meaning.specs.declared.Operand.{Operand}
 use Rattle.meaning.specs.declared.Operand.the-variants.{Constant as constantOperand, Variable as variableOperand}
@@ -279,23 +279,29 @@ types-is bs l e =
     let u = ensure-some _ _ l (t .1) in
     (sym (some-inj _ l (u .1)), leb-true _ _ (t .0), u .0)
 
+pub mode-is : (bs : List ℕ) (b : Bool) → mode bs ≡ some b → b ≡ eqb (getD bs 0 0) 1
+unfolding mode
+mode-is bs b e = flag-is bs b (ensure-some _ _ b e .1) .1
+
 pub record IsRule (bs : List ℕ) (x : Rule) : Type 0 where
   pub v : Field
   pub l : Field
   pub r : Field
   pub k : Field
   pub t : Field
+  pub modes : List Bool
   pub at-v : expect variablesTag bs ≡ some v
   pub at-l : expect leftTag (v .rest) ≡ some l
   pub at-r : expect rightTag (l .rest) ≡ some r
   pub at-k : expect interfaceTag (r .rest) ≡ some k
   pub at-t : expect testsTag (k .rest) ≡ some t
-  pub last : t .rest ≡ []
+  pub at-modes : only (eqb modeTag) (λ tag. mode) 1 (t .rest) ≡ some modes
   pub variables : types (v .payload) ≡ some (x .variables)
   pub left : ruleGraph (l .payload) ≡ some (x .left)
   pub right : ruleGraph (r .payload) ≡ some (x .right)
   pub interface : oneByte (k .payload) ≡ some (x .interface)
   pub tests : only passesAll test (limits .tests) (t .payload) ≡ some (x .tests)
+  pub preserving : x .preserving ≡ preserves modes
 
 pub rule-is : (bs : List ℕ) (x : Rule) → rule bs ≡ some x → IsRule bs x
 unfolding rule
@@ -305,13 +311,13 @@ rule-is bs x e =
     let r = bind-some (expect rightTag (l .0 .rest)) _ x (l .2) in
     let k = bind-some (expect interfaceTag (r .0 .rest)) _ x (r .2) in
     let t = bind-some (expect testsTag (k .0 .rest)) _ x (k .2) in
-    let z = ensure-some (isEmpty (t .0 .rest)) _ x (t .2) in
-    let a = bind-some (types (v .0 .payload)) _ x (z .1) in
+    let m = bind-some (only (eqb modeTag) (λ tag. mode) 1 (t .0 .rest)) _ x (t .2) in
+    let a = bind-some (types (v .0 .payload)) _ x (m .2) in
     let b = bind-some (ruleGraph (l .0 .payload)) _ x (a .2) in
     let c = bind-some (ruleGraph (r .0 .payload)) _ x (b .2) in
     let d = bind-some (oneByte (k .0 .payload)) _ x (c .2) in
     let f = bind-some (only passesAll test (limits .tests) (t .0 .payload)) _ x (d .2) in
-    rw (← (some-inj _ x (f .2))) (record { v = v .0; l = l .0; r = r .0; k = k .0; t = t .0; at-v = v .1; at-l = l .1; at-r = r .1; at-k = k .1; at-t = t .1; last = empty-true _ (z .0); variables = a .1; left = b .1; right = c .1; interface = d .1; tests = f .1 })
+    rw (← (some-inj _ x (f .2))) (record { v = v .0; l = l .0; r = r .0; k = k .0; t = t .0; modes = m .0; at-v = v .1; at-l = l .1; at-r = r .1; at-k = k .1; at-t = t .1; at-modes = m .1; variables = a .1; left = b .1; right = c .1; interface = d .1; tests = f .1; preserving = refl })
 
 pub record Few (x : Rule) : Type 0 where
   pub variables : length (x .variables) ≤ limits .variables

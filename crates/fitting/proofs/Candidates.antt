@@ -53,6 +53,10 @@ module _ {h : Host} {bs plan : List ℕ} (w : Known bs plan) (i c : ℕ) where
 pub marks-are : (a b m n : ℕ) (g : Bool) → m ≡ a → n ≡ b → g ≡ marksAgree m n → marksAgree a b ≡ g
 marks-are a b m n g p q e = sym (rw (p, q) at e)
 
+pub roots-are : (mode preserving : Bool) (a b m n : ℕ) (g : Bool) → preserving ≡ mode → m ≡ a → n ≡ b → g ≡ rootsAgree preserving m n
+    → rootsAgree mode a b ≡ g
+roots-are mode preserving a b m n g o p q e = sym (rw (o, p, q) at e)
+
 module _ {bs plan : List ℕ} (w : Known bs plan) where
   pub joins-are : (h : Host) (p : List ℕ) (i s t c : ℕ) (g : Bool) → s ≡ nodeSlot p (leftEdge (w .rule) (i - leftNodes (w .rule)) .source)
       → t ≡ nodeSlot p (leftEdge (w .rule) (i - leftNodes (w .rule)) .target) → g ≡ joinsAt h (w .rule) (i - getD plan nodesAt 0) s t c
@@ -97,12 +101,12 @@ module _ (h : Host) (r : Rule) (sort i c : ℕ) where
   unfolding nodeFits
   other-mark e = unlike (λ p. sym (clauses-fail _ 2 (omega arith) e))
 
-  pub other-root : rootsAgree r (leftNode r i .root) (nodeAt h c .root) ≡ false → NodeLike h r sort i c false
+  pub other-root : rootsAgree (r .preserving) (leftNode r i .root) (nodeAt h c .root) ≡ false → NodeLike h r sort i c false
   unfolding nodeFits
   other-root e = unlike (λ p. sym (clauses-fail _ 3 (omega arith) e))
 
   pub like-label : i < leftNodes r → liveAt (h .nodes) c ≡ true → marksAgree (leftNode r i .mark) (nodeAt h c .mark) ≡ true
-      → rootsAgree r (leftNode r i .root) (nodeAt h c .root) ≡ true → (b : Bool) → Guessed r sort (labelOf r i) (labelAt h (leftNodes r) i c) b
+      → rootsAgree (r .preserving) (leftNode r i .root) (nodeAt h c .root) ≡ true → (b : Bool) → Guessed r sort (labelOf r i) (labelAt h (leftNodes r) i c) b
       → NodeLike h r sort i c b
   unfolding nodeFits
   like-label k l m t b q =

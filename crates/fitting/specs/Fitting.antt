@@ -53,7 +53,7 @@ module _ (h : Host) (r : Rule) where
     pub no : b ≡ false → (p : List ℕ) → nodeFits h r p i c ≡ false
     pub live : b ≡ true → liveAt (h .nodes) c ≡ true
     pub marks : b ≡ true → marksAgree (leftNode r i .mark) (nodeAt h c .mark) ≡ true
-    pub roots : b ≡ true → rootsAgree r (leftNode r i .root) (nodeAt h c .root) ≡ true
+    pub roots : b ≡ true → rootsAgree (r .preserving) (leftNode r i .root) (nodeAt h c .root) ≡ true
     pub label : b ≡ true → Guessed r sort (labelOf r i) (nodeAt h c .label) true
 
   -- the first such slot from c to n, or n

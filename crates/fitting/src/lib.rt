@@ -7,7 +7,7 @@ ghost use lib.ListN.{length, getD, take, drop};
 ghost use Rattle.meaning.specs.Basics.{exists, all, count, absent};
 ghost use Rattle.meaning.specs.Layout.{Host, hostOf};
 ghost use Rattle.meaning.specs.Image.{Rule, mostItems};
-ghost use Rattle.meaning.specs.Matching.{leftNodes, leftEdges, leftNode, leftEdge, nodeSlot, total};
+ghost use Rattle.meaning.specs.Matching.{leftNodes, leftEdges, leftNode, leftEdge, nodeSlot, total, rootsAgree};
 ghost use Rattle.meaning.specs.FirstMatch.{marksAgree, linked as isLinked, leftTouches, canGo, dangles as isDangling};
 ghost use Rattle.graph.specs.Graph.{Legal};
 ghost use Rattle.plan.specs.Plan.{For, IsLaid, HasEdge, edgesAt, interfaceAt, nodesAt, sortAt};
@@ -21,7 +21,7 @@ use meaning::tags::Mark;
 use plan::At;
 use plan::Side;
 
-// Marks, slots and edges.
+// Marks, roots, slots and edges.
 
 pub fn marks_agree(left: u8, mark: u8) -> bool
     ensures { λ r. ⌜ r ≡ marksAgree left mark ⌝ }
@@ -30,6 +30,19 @@ pub fn marks_agree(left: u8, mark: u8) -> bool
         return true;
     }
     left == mark
+}
+
+// Whether a left node's root flag agrees with a host node's.
+fn roots_agree(preserving: bool, left: u8, host: u8) -> bool
+    ensures { λ r. ⌜ r ≡ rootsAgree preserving left host ⌝ }
+{
+    if left == host {
+        return true;
+    }
+    if preserving {
+        return left == 0;
+    }
+    false
 }
 
 // Whether slot c is none of at[from..to].
@@ -206,7 +219,7 @@ fn can_go(
 
 // Candidates.
 
-// Whether slot c can stand for left node i, of this mark and root flag, as far as the slot alone tells.
+// Whether slot c can stand for left node i, of this mark and root flag and in a rule of this mode, as far as the slot alone tells.
 fn node_like(
     l: Layout,
     nodes: &[u8],
@@ -215,13 +228,14 @@ fn node_like(
     plan: &[usize; At::LENGTH],
     mark: u8,
     root: u8,
+    preserving: bool,
     i: usize,
     c: usize,
 ) -> bool
     requires { ⌜ Legal l (now nodes) (now edges) ⌝ }
     requires { ⌜ Known (now rule) (now plan) ⌝ }
     requires { ⌜ (i < getD (now plan) nodesAt 0) × (c < length (hostOf l (now nodes) (now edges) .nodes)) ⌝ }
-    requires { ⌜ ((w : Known (now rule) (now plan)) → (mark ≡ leftNode (w .rule) i .mark) × (root ≡ leftNode (w .rule) i .root)) ⌝ }
+    requires { ⌜ ((w : Known (now rule) (now plan)) → (mark ≡ leftNode (w .rule) i .mark) × (root ≡ leftNode (w .rule) i .root) × (preserving ≡ w .rule .preserving)) ⌝ }
     ensures { λ b. ⌜ ((w : Known (now (rule .entry)) (now (plan .entry))) → NodeLike (hostOf l (now (nodes .entry)) (now (edges .entry))) (w .rule) (getD (now (plan .entry)) (sortAt + i) 0) i c b) ⌝ }
 {
     if !graph::node_live(l, nodes, edges, c) {
@@ -230,7 +244,7 @@ fn node_like(
     if !marks_agree(mark, graph::node_mark(l, nodes, edges, c)) {
         return false;
     }
-    if root != graph::node_root(l, nodes, edges, c) {
+    if !roots_agree(preserving, root, graph::node_root(l, nodes, edges, c)) {
         return false;
     }
     agreeing::label_likely(l, nodes, edges, rule, plan, i, c)
@@ -254,9 +268,10 @@ pub fn next_like(
 {
     let mark = plan::mark(rule, plan, i);
     let root = plan::root(rule, plan, i);
+    let preserving = plan[At::MODE] == 1;
     let mut x = c;
     while x < n {
-        if node_like(l, nodes, edges, rule, plan, mark, root, i, x) {
+        if node_like(l, nodes, edges, rule, plan, mark, root, preserving, i, x) {
             return x;
         }
         x += 1;

@@ -11,8 +11,8 @@ use borrow.Author.Tests.{eq-eqb, ne-eqb}
 use lib.Dec.{eqb, leb, lit<, lit≤, leb·zero, leb·suc-zero, leb·suc-suc, eqb·zero-suc, eqb·suc-zero, eqb·suc-suc}
 use lib.ListN.{length}
 use Rattle.meaning.specs.Basics.{choose, both, isEmpty, isSome, ensure, _>>_, _>>=_}
-use Rattle.meaning.specs.Tags.{variablesTag, leftTag, rightTag, interfaceTag, testsTag, ruleTag, nodeTag, edgeTag}
-use Rattle.meaning.specs.Image.{Field, Read, Rule, RuleNode, limits, field, expect, leading, only, passesAll, operand, asPair, twoOperands, element, label, ruleNode, ruleEdge, ruleGraph, types, oneByte, test, rule, asSequence, asGuarded, asLoop, command, program}
+use Rattle.meaning.specs.Tags.{variablesTag, leftTag, rightTag, interfaceTag, testsTag, modeTag, ruleTag, nodeTag, edgeTag}
+use Rattle.meaning.specs.Image.{Field, Read, Rule, RuleNode, limits, field, expect, leading, only, passesAll, operand, asPair, twoOperands, element, label, ruleNode, ruleEdge, ruleGraph, types, oneByte, test, mode, rule, asSequence, asGuarded, asLoop, command, program}
 use Rattle.meaning.specs.declared.Operand.{Operand}
 use Rattle.meaning.specs.Laws.Tests.{both-no, both-yes, both-last}
 use Rattle.fields.specs.Image.{field-small, field-is, isSome-no, isSome-map, isSome-after, isSome-then, asSequence-ok, asGuarded-ok, asLoop-ok, ruleGraph-no, ruleGraph-ok, program-no-rules, program-no-field, program-ok}
@@ -37,8 +37,8 @@ both-assoc true b c = refl
 both-assoc false b c = refl
 
 -- the last of six, put first
-both-turned : (a b c d e f : Bool) → both (both (both (both (both (both true a) b) c) d) e) f ≡ both f (both a (both b (both c (both d e))))
-both-turned a b c d e f = both-comm _ f ∙ ap (both f) (simp both-assoc (both-yes true _ refl))
+both-turned : (a b c d e f g : Bool) → f ≡ g → both (both (both (both (both (both true a) b) c) d) e) f ≡ both g (both a (both b (both c (both d e))))
+both-turned a b c d e f g h = both-comm _ f ∙ ap₂ both h (simp both-assoc (both-yes true _ refl))
 
 -- A test of a field that is there.
 
@@ -201,7 +201,7 @@ module _ (depth : ℕ) (bs : List ℕ) where
   unfolding behind
   loop-fits = exact passesAll (command depth) 1 (limits .commands) (lit≤ tt) bs ∙ sized passesAll (command depth) (λ k. eqb k 1) (limits .commands) bs asLoop asLoop-ok
 
--- Rules: five fields.
+-- Rules: five fields, and a mode that may be missing.
 
 expecting : (tag : ℕ) (f : Field → Bool) (bs : List ℕ) → after (expect tag bs) f ≡ after (field bs) (λ d. both (eqb tag (d .tag)) (f d))
 unfolding expect after both _>>=_ _>>_ ensure
@@ -231,7 +231,7 @@ module _ (bs : List ℕ) where
       after (expect rightTag (l .rest)) λ r.
       after (expect interfaceTag (r .rest)) λ k.
       after (expect testsTag (k .rest)) λ t.
-      both (isEmpty (t .rest)) (both (isSome (types (v .payload))) (both (isSome (ruleGraph (l .payload))) (both (isSome (ruleGraph (r .payload))) (both (isSome (oneByte (k .payload))) (isSome (only passesAll test (limits .tests) (t .payload)))))))
+      both (isSome (only (eqb modeTag) (λ tag. mode) 1 (t .rest))) (both (isSome (types (v .payload))) (both (isSome (ruleGraph (l .payload))) (both (isSome (ruleGraph (r .payload))) (both (isSome (oneByte (k .payload))) (isSome (only passesAll test (limits .tests) (t .payload)))))))
 
   rule-parts : isSome (rule bs) ≡ parts
   unfolding rule
@@ -241,7 +241,7 @@ module _ (bs : List ℕ) where
       ∙ after-same _ _ (λ l. bind-after _ _
       ∙ after-same _ _ (λ r. bind-after _ _
       ∙ after-same _ _ (λ k. bind-after _ _
-      ∙ after-same _ _ (λ t. isSome-after _ _ _ (isSome-then _ _ _ (λ a. isSome-then _ _ _ (λ b. isSome-then _ _ _ (λ c. isSome-then _ _ _ (λ d. isSome-map _ _)))))) _) _) _) _) _
+      ∙ after-same _ _ (λ t. isSome-then _ _ _ (λ m. isSome-then _ _ _ (λ a. isSome-then _ _ _ (λ b. isSome-then _ _ _ (λ c. isSome-then _ _ _ (λ d. isSome-map _ _)))))) _) _) _) _) _
 
   pub rule-fits : fits Variables bs ≡ isSome (rule bs)
   unfolding behind
@@ -251,7 +251,7 @@ module _ (bs : List ℕ) where
       section _ leftTag ruleGraph _ (v .rest) _ (λ l.
       section _ rightTag ruleGraph _ (l .rest) _ (λ r.
       section _ interfaceTag oneByte _ (r .rest) _ (λ k.
-      section _ testsTag (only passesAll test (limits .tests)) isEmpty (k .rest) _ (λ t. both-turned _ _ _ _ _ _)))))
+      section _ testsTag (only passesAll test (limits .tests)) _ (k .rest) _ (λ t. both-turned _ _ _ _ _ _ _ (all-of (eqb modeTag) (λ tag. mode) 1 (t .rest)))))))
       ∙ sym rule-parts
 
 -- The whole image.

@@ -17,7 +17,7 @@ use Rattle.fields.specs.Fields.{fieldAt}
 use Rattle.fields.specs.Laws.{Lies}
 use Rattle.fields.proofs.Finding.{NoField, no-field, tail-part}
 use Rattle.image.specs.declared.Row.{Row}
-use Rattle.image.specs.declared.Row.the-variants.{Rules, Main, Variables, Left, Right, Interface, Conditions, Nodes, Edges, Tests, Elements, Operands, Sequence, Guarded, Loop, Nothing}
+use Rattle.image.specs.declared.Row.the-variants.{Rules, Main, Variables, Left, Right, Interface, Conditions, Modes, Nodes, Edges, Tests, Elements, Operands, Sequence, Guarded, Loop, Nothing}
 use Rattle.image.specs.Form.{read, tagOf, passing, passesOf, leastOf, mostOf, nextOf, belonging, met, behind, fits, rank}
 use Rattle.image.proofs.Insides.{is-empty}
 
@@ -125,6 +125,7 @@ follows Left bs = refl
 follows Right bs = refl
 follows Interface bs = refl
 follows Conditions bs = refl
+follows Modes bs = refl
 follows Nodes bs = refl
 follows Edges bs = refl
 follows Tests bs = refl
@@ -143,6 +144,7 @@ falls Left h = lit< tt
 falls Right h = lit< tt
 falls Interface h = lit< tt
 falls Conditions h = lit< tt
+falls Modes h = lit< tt
 falls Nodes h = lit< tt
 falls Edges h = lit< tt
 falls Tests h = lit< tt
@@ -163,6 +165,7 @@ done Left bs h = absurd (omega arith)
 done Right bs h = absurd (omega arith)
 done Interface bs h = absurd (omega arith)
 done Conditions bs h = absurd (omega arith)
+done Modes bs h = absurd (omega arith)
 done Nodes bs h = absurd (omega arith)
 done Edges bs h = absurd (omega arith)
 done Tests bs h = absurd (omega arith)

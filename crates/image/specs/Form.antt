@@ -8,13 +8,13 @@ use Prim.Native.Nat.{ℕ, zero, suc, _<_, _≤_}
 use lib.ListN.{length, getD, drop}
 use lib.Dec.{eqb, leb, ltb}
 use Rattle.meaning.specs.Basics.{both, isEmpty}
-use Rattle.meaning.specs.Tags.{ruleTag, variablesTag, leftTag, rightTag, interfaceTag, testsTag, nodeTag, edgeTag}
-use Rattle.meaning.specs.Image.{Read, RuleNode, RuleEdge, RuleGraph, Rule, Command, limits, leading, only, passesAll, oneByte, operand, element, ruleNode, ruleEdge, ruleGraph, test, types, rule, command}
+use Rattle.meaning.specs.Tags.{ruleTag, variablesTag, leftTag, rightTag, interfaceTag, testsTag, modeTag, nodeTag, edgeTag}
+use Rattle.meaning.specs.Image.{Read, RuleNode, RuleEdge, RuleGraph, Rule, Command, limits, leading, only, passesAll, oneByte, operand, element, ruleNode, ruleEdge, ruleGraph, test, types, mode, rule, command}
 use Rattle.meaning.specs.declared.Operand.{Operand}
 use Rattle.meaning.specs.declared.Element.{Element}
 use Rattle.meaning.specs.declared.Test.{Test}
 use Rattle.image.specs.declared.Row.{Row}
-use Rattle.image.specs.declared.Row.the-variants.{Rules, Main, Variables, Left, Right, Interface, Conditions, Nodes, Edges, Tests, Elements, Operands, Sequence, Guarded, Loop, Nothing}
+use Rattle.image.specs.declared.Row.the-variants.{Rules, Main, Variables, Left, Right, Interface, Conditions, Modes, Nodes, Edges, Tests, Elements, Operands, Sequence, Guarded, Loop, Nothing}
 use Rattle.image.specs.declared.Inside.{Inside}
 use Rattle.image.specs.declared.Inside.the-variants.{Known, From}
 
@@ -28,6 +28,7 @@ Value Left = RuleGraph
 Value Right = RuleGraph
 Value Interface = ℕ
 Value Conditions = List Test
+Value Modes = Bool
 Value Nodes = RuleNode
 Value Edges = RuleEdge
 Value Tests = Test
@@ -46,6 +47,7 @@ read Left tag bs = ruleGraph bs
 read Right tag bs = ruleGraph bs
 read Interface tag bs = oneByte bs
 read Conditions tag bs = only passesAll test (limits .tests) bs
+read Modes tag bs = mode bs
 read Nodes tag bs = ruleNode bs
 read Edges tag bs = ruleEdge bs
 read Tests tag bs = test tag bs
@@ -75,7 +77,8 @@ table Variables = takes variablesTag 1 1 Left 9
 table Left = takes leftTag 1 1 Right 8
 table Right = takes rightTag 1 1 Interface 7
 table Interface = takes interfaceTag 1 1 Conditions 6
-table Conditions = takes testsTag 1 1 Nothing 5
+table Conditions = takes testsTag 1 1 Modes 5
+table Modes = takes modeTag 0 1 Nothing 1
 table Nodes = takes nodeTag 0 (limits .nodes) Edges 4
 table Edges = takes edgeTag 0 (limits .edges) Nothing 3
 table Tests = takes 0 0 (limits .tests) Nothing 2
@@ -124,11 +127,12 @@ opens row later bs = met (leb (leastOf row)) later (leading (passesOf row) (read
 unfoldable pub behind : Row → List ℕ → Bool
 behind Rules = opens Main isEmpty
 behind Main = isEmpty
-behind Variables = opens Left (opens Right (opens Interface (opens Conditions isEmpty)))
-behind Left = opens Right (opens Interface (opens Conditions isEmpty))
-behind Right = opens Interface (opens Conditions isEmpty)
-behind Interface = opens Conditions isEmpty
-behind Conditions = isEmpty
+behind Variables = opens Left (opens Right (opens Interface (opens Conditions (opens Modes isEmpty))))
+behind Left = opens Right (opens Interface (opens Conditions (opens Modes isEmpty)))
+behind Right = opens Interface (opens Conditions (opens Modes isEmpty))
+behind Interface = opens Conditions (opens Modes isEmpty)
+behind Conditions = opens Modes isEmpty
+behind Modes = isEmpty
 behind Nodes = opens Edges isEmpty
 behind Edges = isEmpty
 behind Tests = isEmpty

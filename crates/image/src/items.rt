@@ -6,7 +6,7 @@ ghost use lib.ListN.{length, getD};
 ghost use lib.Dec.{eqb, leb};
 ghost use Rattle.meaning.specs.Basics.{both, either, isSome};
 ghost use Rattle.meaning.specs.Tags.{equalRelation, lessRelation, anyMark};
-ghost use Rattle.meaning.specs.Image.{flag, operand, element, ruleNode, ruleEdge, test, types, command, asRuleSet};
+ghost use Rattle.meaning.specs.Image.{flag, operand, element, ruleNode, ruleEdge, test, types, mode, command, asRuleSet};
 ghost use Rattle.image.specs.declared.Row.the-variants.{Nodes, Edges, Tests, Elements};
 ghost use Rattle.image.specs.Form.{read, rank, Tells};
 use crate::Inside;
@@ -102,6 +102,16 @@ fn flagged(p: &[u8]) -> bool
     p[0] <= 1
 }
 
+// A flag, and nothing behind it.
+fn mode_ok(p: &[u8]) -> bool
+    ensures { λ r. ⌜ r ≡ isSome (mode (now (p .entry))) ⌝ }
+{
+    if p.len() != 1 {
+        return false;
+    }
+    flagged(p)
+}
+
 // Whether the test is negated, then its condition.
 fn test(tag: u8, p: &[u8]) -> Inside
     ensures { λ r. ⌜ Tells (rank Tests) (isSome (test tag (now (p .entry)))) (now (p .entry)) r ⌝ }
@@ -192,6 +202,7 @@ pub fn inside(row: Row, tag: u8, p: &[u8]) -> Inside
         Row::Right => Inside::From(Row::Nodes, 0),
         Row::Interface => Inside::Known(p.len() == 1),
         Row::Conditions => Inside::From(Row::Tests, 0),
+        Row::Modes => Inside::Known(mode_ok(p)),
         Row::Nodes => node(p),
         Row::Edges => edge(p),
         Row::Tests => test(tag, p),

@@ -15,12 +15,13 @@ pub enum Row {
     // An image: its rules, then its main command.
     Rules,
     Main,
-    // A rule: its parts, a field each.
+    // A rule: its parts, a field each; a mode may be missing.
     Variables,
     Left,
     Right,
     Interface,
     Conditions,
+    Modes,
     // A graph: its nodes, then its edges.
     Nodes,
     Edges,

@@ -22,7 +22,7 @@ LegalRules rules = Every LegalRule rules
 
 pub legal-rule : (rules : List Rule) → LegalRules rules → (i : ℕ) → LegalRule (ruleAt rules i)
 unfolding ruleHolds clauses variablesExist endsExist testNodesExist interfaceFits leftPlain leftSimple operandsInt variablesOnLeft anyPlaced every all both concat
-legal-rule rules h i = Every-at LegalRule _ (record { nodes = tt; edges = tt; tests = tt; types = refl; holds = refl }) rules h i
+legal-rule rules h i = Every-at LegalRule _ (record { left = tt; nodes = tt; edges = tt; tests = tt; types = refl; holds = refl }) rules h i
 
 -- and sound
 pub legal-sound : (rules : List Rule) → LegalRules rules → (i : ℕ) → Sound (ruleAt rules i)

@@ -7,11 +7,12 @@ use mathlib.Core.Bool.{Bool, true, false}
 use mathlib.Core.Option.{Option, some}
 use native.Mathlib.Omega.{arith}
 use borrow.Author.Tests.{eqb-true, leb-true}
+use lib.Dec.{eqb}
 use lib.ListN.{length, getD, drop}
-use Rattle.meaning.specs.Tags.{interfaceTag, leftTag, rightTag, testsTag, variablesTag}
+use Rattle.meaning.specs.Tags.{interfaceTag, leftTag, modeTag, rightTag, testsTag, variablesTag}
 use Rattle.meaning.specs.Basics.{choose, every, _>>=_}
 use Rattle.meaning.specs.Numbers.{number, whole}
-use Rattle.meaning.specs.Image.{RuleNode, RuleEdge, RuleGraph, Rule, Program, limits, Field, Read, stated, field, expect, leading, only, passesAll, constant, oneByte, flag, operand, Pair, asPair, twoOperands, element, label, ruleNode, ruleEdge, ruleGraph, isType, types, relation, condition, test, rule, programBy, program}
+use Rattle.meaning.specs.Image.{RuleNode, RuleEdge, RuleGraph, Rule, Program, limits, Field, Read, stated, field, expect, leading, only, passesAll, constant, oneByte, flag, operand, Pair, asPair, twoOperands, element, label, ruleNode, ruleEdge, ruleGraph, isType, types, mode, relation, condition, test, rule, programBy, program}
 use Rattle.meaning.specs.References.{conditionOperands, ruleHolds, references}
 use Rattle.meaning.specs.Laws.Tests.{choose-either, both-true, some-inj, bind-some, ensure-some}
 use Rattle.meaning.specs.Laws.Every.{Every, Every-true, Every-with}
@@ -195,6 +196,7 @@ test-legal tag bs t h e =
 
 -- what the form gives of a legal rule
 pub record Formed (r : Rule) : Type 0 where
+  pub left : Every LegalRuleNode (r .left .nodes)
   pub nodes : Every LegalRuleNode (r .right .nodes)
   pub edges : Every LegalRuleEdge (r .right .edges)
   pub tests : Every LegalTest (r .tests)
@@ -212,7 +214,8 @@ unfolding rule
 rule-formed bs r h e =
     after (expect variablesTag bs) _ r e (λ v ev e. after (expect leftTag (v .rest)) _ r e (λ l el e.
     after (expect rightTag (l .rest)) _ r e (λ g eg e. after (expect interfaceTag (g .rest)) _ r e (λ k ek e.
-    after (expect testsTag (k .rest)) _ r e (λ t et e. after (types (v .payload)) _ r (ensure-some _ _ r e .1) (λ a ea e.
+    after (expect testsTag (k .rest)) _ r e (λ t et e. after (only (eqb modeTag) (λ tag. mode) 1 (t .rest)) _ r e (λ m em e.
+    after (types (v .payload)) _ r e (λ a ea e.
     after (ruleGraph (l .payload)) _ r e (λ b eb e. after (ruleGraph (g .payload)) _ r e (λ c ec e.
     after (oneByte (k .payload)) _ r e (λ i ei e. after (only passesAll test (limits .tests) (t .payload)) _ r e (λ s es e.
     let hv = expect-bytes variablesTag bs v h ev in
@@ -223,11 +226,12 @@ rule-formed bs r h e =
     let q = ruleGraph-legal (g .payload) c (hg .0) ec in
     rw (← (some-inj _ r e))
     (record {
+      left = ruleGraph-legal (l .payload) b (hl .0) eb .0;
       nodes = q .0;
       edges = q .1;
       tests = only-every passesAll test LegalTest test-legal (limits .tests) (t .payload) s (ht .0) es;
       types = types-hold (v .payload) a ea;
-    })))))))))))
+    }))))))))))))
 
 pub program-formed : (bs : List ℕ) (p : Program) → Bytes bs → program bs ≡ some p → Every Formed (p .rules)
 unfolding program programBy
@@ -243,5 +247,5 @@ pub program-legal : (bs : List ℕ) (p : Program) → Bytes bs → program bs �
 unfolding references
 program-legal bs p h e k =
     Every-with Formed (λ r. ruleHolds r ≡ true) LegalRule
-    (λ r f q. record { nodes = f .nodes; edges = f .edges; tests = f .tests; types = f .types; holds = q }) (p .rules) (program-formed bs p h e)
+    (λ r f q. record { left = f .left; nodes = f .nodes; edges = f .edges; tests = f .tests; types = f .types; holds = q }) (p .rules) (program-formed bs p h e)
     (Every-true ruleHolds _ (λ r q. q) (p .rules) (both-true _ _ k .0))

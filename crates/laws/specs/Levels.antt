@@ -67,7 +67,7 @@ module _ (h : Host) (r : Rule) (p : List ℕ) (size : length p ≡ leftNodes r +
       liveAt (h .nodes) (nodeSlot p i)
       ∷ absent (nodeSlot p i) (take i p)
       ∷ marksAgree (leftNode r i .mark) (nodeAt h (nodeSlot p i) .mark)
-      ∷ rootsAgree r (leftNode r i .root) (nodeAt h (nodeSlot p i) .root)
+      ∷ rootsAgree (r .preserving) (leftNode r i .root) (nodeAt h (nodeSlot p i) .root)
       ∷ labelAgrees r (assigned h r (take (suc i) p)) (leftNode r i .label) (nodeAt h (nodeSlot p i) .label)
       ∷ all (linked h r (take (suc i) p) i) (leftEdges r)
       ∷ canGo h r i (nodeSlot p i)

@@ -18,9 +18,9 @@ use Rattle.meaning.specs.Layout.{Slot, free, live, Node, Edge, Host, isNodeMark
 use Rattle.meaning.specs.Image.{RuleNode, RuleEdge, Rule, isType}
 use Rattle.meaning.specs.Tags.{anyMark}
 use Rattle.meaning.specs.References.{conditionOperands, anyKept, anyPlaced, ruleHolds}
-use Rattle.meaning.specs.Matching.{nodeIn, edgeIn, nodeAt, edgeAt, leftNodes, nodeSlot, Assignment, atomOf}
+use Rattle.meaning.specs.Matching.{nodeIn, edgeIn, nodeAt, edgeAt, leftNode, leftNodes, nodeSlot, Assignment, atomOf}
 use Rattle.meaning.specs.Assigned.{isVariable, share, spare, taken, Item, paired, hostLabels, placedItems, orElse, valueFrom, assigned}
-use Rattle.meaning.specs.Applying.{elementValue, labelValue, rightNode, rightNodes, rightEdge, Right, rightSide}
+use Rattle.meaning.specs.Applying.{elementValue, labelValue, rootTaken, rightNode, rightNodes, rightEdge, Right, rightSide}
 use Rattle.meaning.specs.Laws.Tests.{both-true, either-true, either-not, all-true, some-inj, bind-some, ensure-some, clauses-true}
 use Rattle.meaning.specs.Laws.Every.{Every, Every-true, Every-with, each-every}
 use Rattle.meaning.specs.Laws.Interface.{right-ends}
@@ -63,8 +63,9 @@ pub record LegalRuleEdge (e : RuleEdge) : Type 0 where
 abbrev pub LegalTest : Test → Type 0
 LegalTest t = Every LegalOperand (conditionOperands (t .condition))
 
--- the right side, the tests and the variable types have the form, and the references hold
+-- the nodes of both sides, the right edges, the tests and the variable types have the form, and the references hold
 pub record LegalRule (r : Rule) : Type 0 where
+  pub left : Every LegalRuleNode (r .left .nodes)
   pub nodes : Every LegalRuleNode (r .right .nodes)
   pub edges : Every LegalRuleEdge (r .right .edges)
   pub tests : Every LegalTest (r .tests)
@@ -155,11 +156,16 @@ map-words : (f : ℕ → List ℕ) → ((x : ℕ) → Words (f x)) → (l : List
 map-words f h [] = tt
 map-words f h (x ∷ l) = (h x, map-words f h l)
 
--- a free slot's node and edge have the mark none and no atom
+-- a free slot's node and edge have the mark none and no atom, and its node is no root
 nodeIn-mark : (L : Layout) (s : Slot Node) → OnLive (LegalNode L) s → isNodeMark (nodeIn s .mark) ≡ true
 unfolding nodeIn isNodeMark
 nodeIn-mark L free h = refl
 nodeIn-mark L (live n) h = h .mark
+
+nodeIn-root : (L : Layout) (s : Slot Node) → OnLive (LegalNode L) s → nodeIn s .root ≤ 1
+unfolding nodeIn
+nodeIn-root L free h = omega arith
+nodeIn-root L (live n) h = h .root
 
 nodeIn-words : (L : Layout) (s : Slot Node) → OnLive (LegalNode L) s → Words (nodeIn s .label)
 unfolding nodeIn
@@ -228,6 +234,17 @@ node-mark m k h l = at (eqb m anyMark) (either-true _ _ h)
     at false (inl q) = q
     at false (inr q) = let z : _≡_ {A = ℕ} 0 1 = cc in absurd (omega arith)
 
+-- a right node's root flag in the result is one of two flags
+pub choose-most : (b : Bool) (m k n : ℕ) → m ≤ n → k ≤ n → choose b m k ≤ n
+unfolding choose
+choose-most true m k n h l = h
+choose-most false m k n h l = l
+
+pub root-legal : (inside preserving : Bool) (left right host : ℕ) → right ≤ 1 → host ≤ 1
+    → choose inside (rootTaken preserving left right host) right ≤ 1
+unfolding rootTaken
+root-legal inside preserving left right host h k = choose-most inside _ _ 1 (choose-most _ host right 1 k h) h
+
 -- a right edge of the rule, between right nodes, that is not any
 record Sound (n : ℕ) (e : RuleEdge) : Type 0 where
   form : LegalRuleEdge e
@@ -245,7 +262,7 @@ module _ (L : Layout) (h : Host) (legal : LegalHost L h) where
         rw (some-inj a _ (sym (t .2)))
         (record {
           mark = node-mark (n .mark) (nodeAt h (nodeSlot p j) .mark) (k .mark) (nodeIn-mark L _ (legal .nodes (nodeSlot p j)));
-          root = k .root;
+          root = root-legal _ (r .preserving) (leftNode r j .root) _ _ (k .root) (nodeIn-root L _ (legal .nodes (nodeSlot p j)));
           size = u .0;
           words = u .1;
         })

@@ -1,19 +1,23 @@
 -- Laws of one right node or right edge: what is read of its bytes is what it comes to, and each item of the right side is one.
 -- Rests on Making, on values' Items and on laws' Values.
 use mathlib.Core.Path.{_≡_, refl, sym, _∙_, ap, subst}
+use mathlib.Core.Bool.{Bool, true, false}
 use mathlib.Core.Option.{some}
 use mathlib.Core.List.{List, [], _∷_, map}
 use Prim.Native.Nat.{ℕ, zero, suc, _<_, _≤_}
 use native.Mathlib.Omega.{arith}
+use borrow.Author.Tests.{ne-eqb}
+use lib.Dec.{eqb}
 use lib.ListN.{length, getD, take, length-map, length-take, List·getD-eq-default}
 use lib.Seq.{getD-take}
+use Rattle.meaning.specs.Basics.{choose, both}
 use Rattle.meaning.specs.Layout.{Node, Edge, free, live, ofNode, ofEdge, readNodes}
 use Rattle.meaning.specs.Tags.{anyMark, edgeTag, nodeTag}
 use Rattle.meaning.specs.Image.{ruleNode, ruleEdge, mostItems}
 use Rattle.meaning.specs.Matching.{nodeIn}
 use Rattle.meaning.specs.Assigned.{assigned}
-use Rattle.meaning.specs.Applying.{labelValue, Ledger, store, between}
-use Rattle.meaning.specs.Laws.Tests.{choose-eq, choose-ne, choose-false}
+use Rattle.meaning.specs.Applying.{labelValue, rootTaken, Ledger, store, between}
+use Rattle.meaning.specs.Laws.Tests.{choose-false, choose-le, both-false, both-last}
 use Rattle.meaning.specs.Laws.Every.{Every-in}
 use Rattle.laws.specs.Hosts.{LegalNode, LegalEdge}
 use Rattle.laws.specs.Values.{LegalValue}
@@ -33,8 +37,8 @@ use Rattle.making.specs.Making.{blankRule, blankRuleEdge, blankNode, bla
 
 -- What is in hand: the value v of the label, read from the bytes p.
 
-abbrev pub nodeInHand : List ℕ → Valued → ℕ → Node
-nodeInHand p v m = record { mark = m; root = getD p 1 0; label = atomsIn (v .label) }
+abbrev pub nodeInHand : Valued → ℕ → ℕ → Node
+nodeInHand v m t = record { mark = m; root = t; label = atomsIn (v .label) }
 
 abbrev pub edgeInHand : List ℕ → Valued → ℕ → ℕ → Edge
 edgeInHand p v a b = record { mark = getD p 0 0; source = a; target = b; label = atomsIn (v .label) }
@@ -42,21 +46,21 @@ edgeInHand p v a b = record { mark = getD p 0 0; source = a; target = b; label =
 module _ {L : Layout} {p lens atoms : List ℕ} (v : Valued)
     (f : For (graphItem nodeTag p) (λ i. valueIn v ≡ labelValue (L .atoms) (valuesOf lens atoms) (itemLabel i)))
     (w : NodeMade L p lens atoms)
-    (m : ℕ)
+    (m t : ℕ)
     (e : m ≡ w .node .mark)
+    (b : t ≡ w .node .root)
   where
-    node-is : nodeInHand p v m ≡ w .node
+    node-is : nodeInHand v m t ≡ w .node
     unfolding itemLabel
     node-is =
         let a : atomsIn (v .label) ≡ w .node .label = value-some v _ (f (node (w .rule)) (node-item p _ (w .is)) ∙ w .label) .1 in
-        let b : getD p 1 0 ≡ w .node .root = sym (w .root ∙ ruleNode-is p (w .rule) (w .is) .root) in
         λ i. record { mark = e i; root = b i; label = a i }
 
-    pub node-fine : LegalNode L (nodeInHand p v m)
+    pub node-fine : LegalNode L (nodeInHand v m t)
     node-fine = subst (LegalNode L) (sym node-is) (w .legal)
 
     pub node-stored : (x : ℕ) (g : Ledger) {nodes edges journal : List ℕ} {used : ℕ}
-        → Leads L (store (ofNode x (live (nodeInHand p v m))) g) nodes edges journal used
+        → Leads L (store (ofNode x (live (nodeInHand v m t))) g) nodes edges journal used
         → Leads L (store (ofNode x (live (w .node))) g) nodes edges journal used
     node-stored x g {nodes} {edges} {journal} {used} l =
         subst (λ (a : Node). Leads L (store (ofNode x (live a)) g) nodes edges journal used) node-is l
@@ -94,20 +98,39 @@ module _ {L : Layout} {p lens atoms places : List ℕ} (w : Joins L p lens atoms
       edge-stored x g {nodes} {edges} {journal} {used} l =
           subst (λ (c : Edge). Leads L (store (ofEdge x (live c)) g) nodes edges journal used) edge-is l
 
--- the mark that an interface node takes
-module _ {L : Layout} {nodes p lens atoms : List ℕ} {x : ℕ} (w : Takes L nodes p lens atoms x) where
-  rule-mark : w .made .rule .mark ≡ getD p 0 0
-  rule-mark = ruleNode-is p (w .made .rule) (w .made .is) .mark
+-- the mark and the root flag that an interface node takes, where its slot's bytes say what it was
+module _ {L : Layout} {nodes p lens atoms : List ℕ} {keeps : Bool} {x : ℕ} (w : Takes L nodes p keeps lens atoms x)
+    {before : Node}
+    (held : before ≡ nodeIn (getD (readNodes L nodes) x free))
+  where
+    pub taken-mark : {m a : ℕ} → m ≡ choose (eqb (getD p 0 0) anyMark) a (getD p 0 0) → a ≡ before .mark → m ≡ w .made .node .mark
+    taken-mark e h = e ∙ rw (h, held, ← (ruleNode-is p (w .made .rule) (w .made .is) .mark)) (sym (w .mark))
 
-  pub any-keeps : {m : ℕ} → getD p 0 0 ≡ anyMark → m ≡ nodeIn (getD (readNodes L nodes) x free) .mark → m ≡ w .made .node .mark
-  any-keeps h e = e ∙ sym (w .mark ∙ choose-eq (w .made .rule .mark) anyMark _ _ (rule-mark ∙ h))
+    pub taken-root : {t a : ℕ} → t ≡ choose keeps a (getD p 1 0) → a ≡ before .root → t ≡ w .made .node .root
+    taken-root e h = e ∙ rw (h, held, ← (ruleNode-is p (w .made .rule) (w .made .is) .root)) (sym (w .root))
 
-  pub other-takes : (getD p 0 0 ≡ anyMark → ⊥) → getD p 0 0 ≡ w .made .node .mark
-  other-takes h = sym (w .mark ∙ choose-ne (w .made .rule .mark) anyMark _ _ (λ q. h (sym rule-mark ∙ q)) ∙ rule-mark)
+-- and those that a new node has
+module _ {L : Layout} {p lens atoms : List ℕ} (w : Comes L p lens atoms) where
+  pub come-mark : getD p 0 0 ≡ w .made .node .mark
+  come-mark = sym (w .mark ∙ ruleNode-is p (w .made .rule) (w .made .is) .mark)
 
--- and the one that a new node has
-pub come-mark : {L : Layout} {p lens atoms : List ℕ} (w : Comes L p lens atoms) → getD p 0 0 ≡ w .made .node .mark
-come-mark {p} w = sym (w .mark ∙ ruleNode-is p (w .made .rule) (w .made .is) .mark)
+  pub come-root : getD p 1 0 ≡ w .made .node .root
+  come-root = sym (w .root ∙ ruleNode-is p (w .made .rule) (w .made .is) .root)
+
+-- Whether a root flag is kept.
+
+module _ (preserving : Bool) (left right host : ℕ) where
+  pub root-kept : preserving ≡ true → right ≡ 0 → choose (eqb left 0) host right ≡ rootTaken preserving left right host
+  unfolding rootTaken both
+  root-kept h k = rw (h, k) (ap (λ (b : Bool). choose b host 0) (both-last (eqb left 0)))
+
+  pub root-made : (right ≡ 0 → ⊥) → choose false host right ≡ rootTaken preserving left right host
+  unfolding rootTaken
+  root-made k = rw (ne-eqb right 0 k, both-false (eqb left 0), both-false preserving)
+
+  pub root-reflected : preserving ≡ false → choose false host right ≡ rootTaken preserving left right host
+  unfolding rootTaken both
+  root-reflected h = rw h
 
 -- Each item of the right side.
 
@@ -134,14 +157,17 @@ module _ {L : Layout} {bs lens atoms : List ℕ} {k : ℕ} (w : Made L bs lens a
               label-same (valuesOf lens atoms) (assigned (w .host) (w .tree) (w .slots)) (L .atoms) _
               (node-names (λ v. valuesOf lens atoms v ≡ assigned (w .host) (w .tree) (w .slots) v) (w .tree .right) (w .agree) j h blankRule)
               ∙ node-value .label;
-          root = node-value .root;
           legal = Every-in (LegalNode L) (w .right .nodes) (w .legal .nodes) j (omega (arith, w .nodesLong)) blankNode;
         }
 
-    -- one outside the interface comes with its mark
+    -- one outside the interface comes with its mark and root flag
     abbrev pub made-new : (p : List ℕ) → k ≤ j → ruleNode p ≡ some (getD (w .tree .right .nodes) j blankRule) → Comes L p lens atoms
     made-new p o e =
-        record { made = made-node p e; mark = node-value .mark ∙ choose-false _ _ _ (w .marked j o h) }
+        record {
+          made = made-node p e;
+          mark = node-value .mark ∙ choose-false _ _ _ (w .marked j o h);
+          root = node-value .root ∙ choose-le j (w .tree .interface) _ _ (omega (arith, w .interface));
+        }
 
     -- what a node of the interface becomes
     pub becomes-in : j < k → becomes (take k (w .right .nodes)) j ≡ live (getD (w .right .nodes) j blankNode)

@@ -1,5 +1,6 @@
 -- Laws of the loops of an application: what each step is handed, and what it leaves. Rests on Items and on ledger's Changes.
 use mathlib.Core.Path.{_≡_, refl, sym, _∙_, ap, subst}
+use mathlib.Core.Bool.{Bool}
 use mathlib.Core.Option.{some}
 use mathlib.Core.List.{List, [], _∷_, _++_, append-assoc, append-nil}
 use Prim.Native.Nat.{ℕ, suc, _+_, _/_, _<_, _≤_}
@@ -11,13 +12,15 @@ use Rattle.meaning.specs.Basics.{choose}
 use Rattle.meaning.specs.Layout.{Slot, Node, Edge, free, live, ofNode, ofEdge, put, isLive, nodeLength, recordLength, readNodes, readEdges}
 use Rattle.meaning.specs.Image.{RuleNode, RuleEdge, ruleNode, ruleEdge, ruleGraph, mostItems}
 use Rattle.meaning.specs.Tags.{anyMark}
-use Rattle.meaning.specs.Matching.{nodeIn, nodeSlot}
+use Rattle.meaning.specs.Matching.{nodeIn, nodeAt, nodeSlot}
 use Rattle.meaning.specs.Applying.{Ledger, store, stores, nodesChange, lowestFree, freeSlots, between, addEdges}
+use Rattle.meaning.specs.Laws.Tests.{choose-lt}
+use Rattle.fields.specs.Parsed.{ruleNode-is}
 use Rattle.meaning.specs.declared.Layout.{Layout}
 use Rattle.parts.specs.Series.{For}
 use Rattle.ledger.specs.Running.{ledgerOf, Held, Leads}
 use Rattle.ledger.specs.Changes.{Went, becomes, Changing, changing-none, changing-next, changing-more, coming, Coming, coming-none, coming-next, coming-more, come-none, Joining, joining-none, joining-next, joining-more}
-use Rattle.making.specs.Making.{blankRule, blankRuleEdge, blankNode, blankEdge, Takes, Comes, Joins, Changes, Alters, Grows, Grew, Edges}
+use Rattle.making.specs.Making.{blankRule, blankRuleEdge, blankNode, blankEdge, KeepsRoot, Takes, Comes, Joins, Changes, Alters, Grows, Grew, Edges}
 use Rattle.making.proofs.Items.{node-value, made-node, made-new, becomes-in, becomes-out, between-front, made-edge}
 
 -- Nodes change.
@@ -39,15 +42,22 @@ nodesChange-other (n ∷ ns) (y ∷ l) g x h =
 abbrev pub NodeAt : List ℕ → ℕ → List ℕ → Type 0
 NodeAt bs i p = For (ruleGraph bs) (λ g. i < length (g .nodes) → (d : RuleNode) → ruleNode p ≡ some (getD (g .nodes) i d))
 
-module _ {L : Layout} {nodes bs lens atoms : List ℕ} {k i x : ℕ} (w : Changes L nodes bs lens atoms k i x) where
+module _ {L : Layout} {nodes left bs lens atoms : List ℕ} {preserving : Bool} {k i x : ℕ} (w : Changes L nodes preserving left bs lens atoms k i x) where
   -- a node of the interface takes its right node's values
-  abbrev pub change-takes : (p : List ℕ) → i < k → NodeAt bs i p → Takes L nodes p lens atoms x
-  change-takes p h e =
+  abbrev pub change-takes : (p : List ℕ) (keeps : Bool) → i < k → NodeAt bs i p → KeepsRoot preserving left i p keeps
+      → Takes L nodes p keeps lens atoms x
+  change-takes p keeps h e t =
       let o : i < length (w .made .tree .right .nodes) = omega (arith, w .made .inside) in
+      let n : RuleNode = getD (w .made .tree .right .nodes) i blankRule in
+      let r = ruleNode-is p n (e (w .made .tree .right) (w .made .is) o blankRule) .root in
       record {
         made = made-node (w .made) i o p (e (w .made .tree .right) (w .made .is) o blankRule);
         alive = w .alive h;
-        mark = node-value (w .made) i o .mark ∙ ap (λ (m : ℕ). choose (eqb (getD (w .made .tree .right .nodes) i blankRule .mark) anyMark) m (getD (w .made .tree .right .nodes) i blankRule .mark)) (w .mark h);
+        mark = node-value (w .made) i o .mark ∙ ap (λ (m : Node). choose (eqb (n .mark) anyMark) (m .mark) (n .mark)) (w .same h);
+        root =
+            node-value (w .made) i o .root
+            ∙ choose-lt i (w .made .tree .interface) _ _ (omega (arith, w .made .interface))
+            ∙ rw (← (w .on .mode), ← (w .same h), r) (sym (t (w .made .tree .left) (w .on .is) (omega (arith, w .on .inside)) _ (nodeAt (w .made .host) (nodeSlot (w .made .slots) i) .root)));
       }
 
   module _ (g : Ledger) {nodes′ edges′ journal′ : List ℕ} {used : ℕ} where
@@ -63,18 +73,18 @@ module _ {L : Layout} {nodes bs lens atoms : List ℕ} {k i x : ℕ} (w : Change
         subst (λ (s : Slot Node). Leads L (store (ofNode x s) g) nodes′ edges′ journal′ used)
         (sym (becomes-out (w .made) i h)) l
 
-module _ (L : Layout) (nodes₀ edges journal₀ bs lens atoms at : List ℕ) (used k n : ℕ) where
+module _ (L : Layout) (nodes₀ edges journal₀ : List ℕ) (preserving : Bool) (left bs lens atoms at : List ℕ) (used k n : ℕ) where
   -- i of the nodes have changed
   abbrev pub Altering : ℕ → List ℕ → List ℕ → Type 0
   Altering i nodes journal =
-      (w : Alters L nodes₀ journal₀ bs lens atoms at used k n)
+      (w : Alters L nodes₀ journal₀ preserving left bs lens atoms at used k n)
       → Changing L nodes₀ edges journal₀ used at (take k (w .made .right .nodes)) i nodes journal
 
-module _ {L : Layout} {nodes₀ edges journal₀ bs lens atoms at : List ℕ} {used k n : ℕ} where
-  pub altering-none : Held L nodes₀ edges journal₀ used → Altering L nodes₀ edges journal₀ bs lens atoms at used k n 0 nodes₀ journal₀
+module _ {L : Layout} {nodes₀ edges journal₀ : List ℕ} {preserving : Bool} {left bs lens atoms at : List ℕ} {used k n : ℕ} where
+  pub altering-none : Held L nodes₀ edges journal₀ used → Altering L nodes₀ edges journal₀ preserving left bs lens atoms at used k n 0 nodes₀ journal₀
   altering-none h w = changing-none L nodes₀ edges journal₀ used at (take k (w .made .right .nodes)) h
 
-  module _ (i : ℕ) {nodes journal : List ℕ} (so-far : Altering L nodes₀ edges journal₀ bs lens atoms at used k n i nodes journal) (w : Alters L nodes₀ journal₀ bs lens atoms at used k n) (h : i < n) where
+  module _ (i : ℕ) {nodes journal : List ℕ} (so-far : Altering L nodes₀ edges journal₀ preserving left bs lens atoms at used k n i nodes journal) (w : Alters L nodes₀ journal₀ preserving left bs lens atoms at used k n) (h : i < n) where
     -- the next node's slot is as it was
     pub same : getD (readNodes L nodes) (getD at i 0) free ≡ getD (readNodes L nodes₀) (getD at i 0) free
     same =
@@ -85,29 +95,30 @@ module _ {L : Layout} {nodes₀ edges journal₀ bs lens atoms at : List ℕ} {u
         ∙ nodesChange-other (take k (w .made .right .nodes)) (take i at) (ledgerOf L nodes₀ edges journal₀ used) (getD at i 0)
         (λ j o q. w .apart j i (omega arith) h (sym (getD-take i at j 0 (omega arith)) ∙ q))
 
-    abbrev pub altering-changes : Changes L nodes bs lens atoms k i (getD at i 0)
+    abbrev pub altering-changes : Changes L nodes preserving left bs lens atoms k i (getD at i 0)
     altering-changes =
         record {
           made = w .made;
+          on = w .on;
           alive = λ o. ap isLive same ∙ w .alive i h;
-          mark = λ o.
-              ap (λ (t : List (Slot Node)). nodeIn (getD t (nodeSlot (w .made .slots) i) free) .mark) (w .host)
-              ∙ ap (λ (x : ℕ). nodeIn (getD (readNodes L nodes₀) x free) .mark) (w .slots i h)
-              ∙ ap (λ (s : Slot Node). nodeIn s .mark) (sym same);
+          same = λ o.
+              ap (λ (t : List (Slot Node)). nodeIn (getD t (nodeSlot (w .made .slots) i) free)) (w .host)
+              ∙ ap (λ (x : ℕ). nodeIn (getD (readNodes L nodes₀) x free)) (w .slots i h)
+              ∙ ap nodeIn (sym same);
         }
 
     pub altering-next : Held L nodes edges journal (used + i)
         × ((getD at i 0 < length nodes / nodeLength L) × (used + i < length journal / recordLength L))
-        × Changes L nodes bs lens atoms k i (getD at i 0)
+        × Changes L nodes preserving left bs lens atoms k i (getD at i 0)
     altering-next =
         let t = changing-next L nodes₀ edges journal₀ used at (take k (w .made .right .nodes)) i nodes journal (so-far w) n h (w .below) (w .records) in
         (t .0, t .1, altering-changes)
 
-  pub altering-more : (i : ℕ) {nodes journal : List ℕ} (so-far : Altering L nodes₀ edges journal₀ bs lens atoms at used k n i nodes journal) (h : i < n) {nodes′ journal′ : List ℕ}
-      → ((c : Changes L nodes bs lens atoms k i (getD at i 0))
+  pub altering-more : (i : ℕ) {nodes journal : List ℕ} (so-far : Altering L nodes₀ edges journal₀ preserving left bs lens atoms at used k n i nodes journal) (h : i < n) {nodes′ journal′ : List ℕ}
+      → ((c : Changes L nodes preserving left bs lens atoms k i (getD at i 0))
       → Leads L (store (ofNode (getD at i 0) (becomes (take k (c .made .right .nodes)) i)) (ledgerOf L nodes edges journal (used + i))) nodes′ edges journal′ (used + i + 1))
       → length nodes′ ≡ length nodes → length journal′ ≡ length journal
-      → Altering L nodes₀ edges journal₀ bs lens atoms at used k n (i + 1) nodes′ journal′
+      → Altering L nodes₀ edges journal₀ preserving left bs lens atoms at used k n (i + 1) nodes′ journal′
   altering-more i {nodes} {journal} so-far h {nodes′} {journal′} l a b w =
       let r = w .room in
       let f = w .few in

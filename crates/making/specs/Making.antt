@@ -1,7 +1,7 @@
 -- What a right node or a right edge is made of in lent bytes, and what each part of an application is handed.
 -- Rests on ledger's Running and Changes, on values' Values and on the meaning's Applying.
 use mathlib.Core.Path.{_≡_}
-use mathlib.Core.Bool.{true, false}
+use mathlib.Core.Bool.{Bool, true, false}
 use mathlib.Core.Option.{some}
 use mathlib.Core.List.{List, [], _++_}
 use Prim.Native.Nat.{ℕ, _+_, _/_, _<_, _≤_}
@@ -12,12 +12,13 @@ use Rattle.meaning.specs.Layout.{Node, Edge, Host, free, liveAt, nodeLength, re
 use Rattle.meaning.specs.Image.{RuleNode, RuleEdge, Rule, ruleNode, ruleEdge, ruleGraph, limits, mostItems}
 use Rattle.meaning.specs.Tags.{anyMark}
 use Rattle.meaning.specs.References.{names}
-use Rattle.meaning.specs.Matching.{nodeIn, nodeAt, nodeSlot}
+use Rattle.meaning.specs.Matching.{nodeIn, nodeAt, leftNodes, nodeSlot}
 use Rattle.meaning.specs.Assigned.{assigned}
-use Rattle.meaning.specs.Applying.{labelValue, Right, rightSide, freeSlots, addNodes, between}
+use Rattle.meaning.specs.Applying.{labelValue, rootTaken, Right, rightSide, freeSlots, addNodes, between}
 use Rattle.laws.specs.Hosts.{LegalNode, LegalEdge}
 use Rattle.laws.specs.Values.{LegalRight}
 use Rattle.meaning.specs.declared.Layout.{Layout}
+use Rattle.parts.specs.Series.{For}
 use Rattle.values.specs.Values.{valuesOf, Stored, Agree}
 use Rattle.ledger.specs.Running.{ledgerOf}
 use Rattle.ledger.specs.Changes.{Went, Below}
@@ -36,10 +37,25 @@ blankNode = record { mark = 0; root = 0; label = [] }
 abbrev pub blankEdge : Edge
 blankEdge = record { mark = 0; source = 0; target = 0; label = [] }
 
+-- Root flags.
+
+-- what decides whether interface node i, whose right node is p, keeps the host's
+abbrev pub KeepsRoot : Bool → List ℕ → ℕ → List ℕ → Bool → Type 0
+KeepsRoot preserving left i p keeps =
+    For (ruleGraph left)
+    (λ g. i < length (g .nodes) → (d : RuleNode) (host : ℕ)
+    → choose keeps host (getD p 1 0) ≡ rootTaken preserving (getD (g .nodes) i d .root) (getD p 1 0) host)
+
+-- the bytes are the rule's left graph, the mode is the rule's, and the first k nodes are the interface
+pub record OnLeft (preserving : Bool) (left : List ℕ) (k : ℕ) (r : Rule) : Type 0 where
+  pub is : ruleGraph left ≡ some (r .left)
+  pub mode : preserving ≡ r .preserving
+  pub inside : k ≤ leftNodes r
+
 module _ (L : Layout) where
   -- One right node, one right edge.
 
-  -- the bytes are a right node, and the node is what it comes to under the values in the arrays, but for its mark
+  -- the bytes are a right node, and the node is what it comes to under the values in the arrays, but for its mark and root flag
   pub record NodeMade (p lens atoms : List ℕ) : Type 0 where
     pub stored : Stored lens atoms
     pub few : L .atoms ≤ mostAtoms
@@ -47,19 +63,20 @@ module _ (L : Layout) where
     pub is : ruleNode p ≡ some rule
     pub node : Node
     pub label : labelValue (L .atoms) (valuesOf lens atoms) (rule .label) ≡ some (node .label)
-    pub root : node .root ≡ rule .root
     pub legal : LegalNode L node
 
-  -- the node in slot x takes its values: any keeps the mark
-  pub record Takes (nodes p lens atoms : List ℕ) (x : ℕ) : Type 0 where
+  -- the node in slot x takes its values: any keeps the mark, and it keeps the root flag or not
+  pub record Takes (nodes p : List ℕ) (keeps : Bool) (lens atoms : List ℕ) (x : ℕ) : Type 0 where
     pub made : NodeMade p lens atoms
     pub alive : liveAt (readNodes L nodes) x ≡ true
     pub mark : made .node .mark ≡ choose (eqb (made .rule .mark) anyMark) (nodeIn (getD (readNodes L nodes) x free) .mark) (made .rule .mark)
+    pub root : made .node .root ≡ choose keeps (nodeIn (getD (readNodes L nodes) x free) .root) (made .rule .root)
 
   -- a new node has them
   pub record Comes (p lens atoms : List ℕ) : Type 0 where
     pub made : NodeMade p lens atoms
     pub mark : made .node .mark ≡ made .rule .mark
+    pub root : made .node .root ≡ made .rule .root
 
   -- the bytes are a right edge, and the edge is what it comes to; its ends are still numbers of right nodes, whose slots
   -- are the places
@@ -94,18 +111,21 @@ module _ (L : Layout) where
     pub nodesLong : length (right .nodes) ≡ length (tree .right .nodes)
     pub edgesLong : length (right .edges) ≡ length (tree .right .edges)
     pub fewNodes : length (tree .right .nodes) ≤ limits .nodes
+    pub interface : k ≡ tree .interface
     pub inside : k ≤ length (tree .right .nodes)
     pub marked : (j : ℕ) → k ≤ j → j < length (tree .right .nodes) → eqb (getD (tree .right .nodes) j blankRule .mark) anyMark ≡ false
 
   -- left node i, in slot x, is to change
-  pub record Changes (nodes bs lens atoms : List ℕ) (k i x : ℕ) : Type 0 where
+  pub record Changes (nodes : List ℕ) (preserving : Bool) (left bs lens atoms : List ℕ) (k i x : ℕ) : Type 0 where
     pub made : Made bs lens atoms k
+    pub on : OnLeft preserving left k (made .tree)
     pub alive : i < k → liveAt (readNodes L nodes) x ≡ true
-    pub mark : i < k → nodeAt (made .host) (nodeSlot (made .slots) i) .mark ≡ nodeIn (getD (readNodes L nodes) x free) .mark
+    pub same : i < k → nodeAt (made .host) (nodeSlot (made .slots) i) ≡ nodeIn (getD (readNodes L nodes) x free)
 
   -- the n left nodes, in the slots, are to change
-  pub record Alters (nodes journal bs lens atoms at : List ℕ) (used k n : ℕ) : Type 0 where
+  pub record Alters (nodes journal : List ℕ) (preserving : Bool) (left bs lens atoms at : List ℕ) (used k n : ℕ) : Type 0 where
     pub made : Made bs lens atoms k
+    pub on : OnLeft preserving left k (made .tree)
     pub room : length at ≡ mostItems
     pub few : n ≤ mostItems
     pub records : used + n ≤ length journal / recordLength L

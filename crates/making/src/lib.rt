@@ -3,17 +3,40 @@
 ghost use mathlib.Core.Path.{_≡_};
 ghost use Prim.Native.Nat.{_+_, _/_, _<_};
 ghost use lib.ListN.{length, take, drop};
+ghost use Rattle.meaning.specs.Basics.{choose};
 ghost use Rattle.meaning.specs.Layout.{live, ofNode, ofEdge, nodeLength, recordLength, readNodes, readEdges};
 ghost use Rattle.meaning.specs.Applying.{store, stores, nodesChange, lowestFree, freeSlots, between, addEdges};
 ghost use Rattle.ledger.specs.Running.{ledgerOf, Held, Leads};
 ghost use Rattle.ledger.specs.Changes.{Went, becomes};
-ghost use Rattle.making.specs.Making.{Takes, Comes, Joins, Changes, Alters, Grows, Grew, Edges};
+ghost use Rattle.making.specs.Making.{KeepsRoot, Takes, Comes, Joins, Changes, Alters, Grows, Grew, Edges};
 use meaning::Layout;
 use meaning::Room;
 use meaning::tags::Mark;
 use meaning::tags::Tag;
 
-// The node in slot x takes the values of a right node; any keeps the mark.
+// One of two bytes.
+fn chosen(first: bool, a: u8, b: u8) -> u8
+    ensures { λ r. ⌜ r ≡ choose first a b ⌝ }
+{
+    if first {
+        return a;
+    }
+    b
+}
+
+// Whether interface node i, whose right node is p, keeps the host's root flag: it is no root on either side of a preserving rule.
+fn keeps_root(preserving: bool, left: &[u8], i: usize, p: &[u8]) -> bool
+    ensures { λ r. ⌜ KeepsRoot preserving (now (left .entry)) i (now (p .entry)) r ⌝ }
+{
+    if preserving {
+        if parts::byte_at(p, 1) == 0 {
+            return parts::byte_at(parts::node_part(left, i), 1) == 0;
+        }
+    }
+    false
+}
+
+// The node in slot x takes the values of a right node; any keeps the mark, and it may keep the root flag.
 fn take_values(
     l: Layout,
     nodes: &mut [u8],
@@ -21,25 +44,24 @@ fn take_values(
     journal: &mut [u8],
     used: usize,
     p: &[u8],
+    keeps: bool,
     lens: &[usize; Room::VARIABLES],
     atoms: &[u32; Room::ATOMS],
     x: usize,
 )
     requires { ⌜ Held l (now nodes) (now edges) (now journal) used ⌝ }
     requires { ⌜ (x < length (now nodes) / nodeLength l) × (used < length (now journal) / recordLength l) ⌝ }
-    requires { ⌜ Takes l (now nodes) (now p) (now lens) (now atoms) x ⌝ }
-    ensures { λ _. ⌜ ((w : Takes l (now (nodes .entry)) (now (p .entry)) (now (lens .entry)) (now (atoms .entry)) x) → Leads l (store (ofNode x (live (w .made .node))) (ledgerOf l (now (nodes .entry)) (now (edges .entry)) (now (journal .entry)) used)) (now (nodes .exit)) (now (edges .entry)) (now (journal .exit)) (used + 1)) ⌝ }
+    requires { ⌜ Takes l (now nodes) (now p) keeps (now lens) (now atoms) x ⌝ }
+    ensures { λ _. ⌜ ((w : Takes l (now (nodes .entry)) (now (p .entry)) keeps (now (lens .entry)) (now (atoms .entry)) x) → Leads l (store (ofNode x (live (w .made .node))) (ledgerOf l (now (nodes .entry)) (now (edges .entry)) (now (journal .entry)) used)) (now (nodes .exit)) (now (edges .entry)) (now (journal .exit)) (used + 1)) ⌝ }
 {
     let v = values::item_value(l.atoms, lens, atoms, Tag::NODE, p);
     let label = v.label;
     let len = label.len;
     let words = label.atoms;
-    if p[0] == Mark::ANY {
-        let mark = slots::held::mark(slots::slot(&nodes[..], l.node, x));
-        ledger::store_node(l, nodes, edges, journal, used, x, mark, p[1], &words[..len]);
-        return;
-    }
-    ledger::store_node(l, nodes, edges, journal, used, x, p[0], p[1], &words[..len]);
+    let before = slots::slot(&nodes[..], l.node, x);
+    let mark = chosen(p[0] == Mark::ANY, slots::held::mark(before), p[0]);
+    let root = chosen(keeps, slots::held::root(before), p[1]);
+    ledger::store_node(l, nodes, edges, journal, used, x, mark, root, &words[..len]);
 }
 
 // A right node comes, in the lowest free slot.
@@ -110,6 +132,8 @@ fn change_node(
     edges: &[u8],
     journal: &mut [u8],
     used: usize,
+    preserving: bool,
+    left: &[u8],
     right: &[u8],
     k: usize,
     lens: &[usize; Room::VARIABLES],
@@ -119,21 +143,13 @@ fn change_node(
 )
     requires { ⌜ Held l (now nodes) (now edges) (now journal) used ⌝ }
     requires { ⌜ (x < length (now nodes) / nodeLength l) × (used < length (now journal) / recordLength l) ⌝ }
-    requires { ⌜ Changes l (now nodes) (now right) (now lens) (now atoms) k i x ⌝ }
-    ensures { λ _. ⌜ ((w : Changes l (now (nodes .entry)) (now (right .entry)) (now (lens .entry)) (now (atoms .entry)) k i x) → Leads l (store (ofNode x (becomes (take k (w .made .right .nodes)) i)) (ledgerOf l (now (nodes .entry)) (now (edges .entry)) (now (journal .entry)) used)) (now (nodes .exit)) (now (edges .entry)) (now (journal .exit)) (used + 1)) ⌝ }
+    requires { ⌜ Changes l (now nodes) preserving (now left) (now right) (now lens) (now atoms) k i x ⌝ }
+    ensures { λ _. ⌜ ((w : Changes l (now (nodes .entry)) preserving (now (left .entry)) (now (right .entry)) (now (lens .entry)) (now (atoms .entry)) k i x) → Leads l (store (ofNode x (becomes (take k (w .made .right .nodes)) i)) (ledgerOf l (now (nodes .entry)) (now (edges .entry)) (now (journal .entry)) used)) (now (nodes .exit)) (now (edges .entry)) (now (journal .exit)) (used + 1)) ⌝ }
 {
     if i < k {
-        take_values(
-            l,
-            nodes,
-            edges,
-            journal,
-            used,
-            parts::node_part(right, i),
-            lens,
-            atoms,
-            x,
-        );
+        let p = parts::node_part(right, i);
+        let keeps = keeps_root(preserving, left, i, p);
+        take_values(l, nodes, edges, journal, used, p, keeps, lens, atoms, x);
         return;
     }
     ledger::free_node(l, nodes, edges, journal, used, x);
@@ -146,6 +162,8 @@ pub fn change_nodes(
     edges: &[u8],
     journal: &mut [u8],
     used: usize,
+    preserving: bool,
+    left: &[u8],
     right: &[u8],
     k: usize,
     lens: &[usize; Room::VARIABLES],
@@ -154,8 +172,8 @@ pub fn change_nodes(
     n: usize,
 )
     requires { ⌜ Held l (now nodes) (now edges) (now journal) used ⌝ }
-    requires { ⌜ Alters l (now nodes) (now journal) (now right) (now lens) (now atoms) (now slots) used k n ⌝ }
-    ensures { λ _. ⌜ ((w : Alters l (now (nodes .entry)) (now (journal .entry)) (now (right .entry)) (now (lens .entry)) (now (atoms .entry)) (now (slots .entry)) used k n) → Went l (stores (nodesChange (take k (w .made .right .nodes)) (take n (now (slots .entry)))) (ledgerOf l (now (nodes .entry)) (now (edges .entry)) (now (journal .entry)) used)) (now (nodes .entry)) (now (edges .entry)) (now (journal .entry)) (now (nodes .exit)) (now (edges .entry)) (now (journal .exit)) (used + n)) ⌝ }
+    requires { ⌜ Alters l (now nodes) (now journal) preserving (now left) (now right) (now lens) (now atoms) (now slots) used k n ⌝ }
+    ensures { λ _. ⌜ ((w : Alters l (now (nodes .entry)) (now (journal .entry)) preserving (now (left .entry)) (now (right .entry)) (now (lens .entry)) (now (atoms .entry)) (now (slots .entry)) used k n) → Went l (stores (nodesChange (take k (w .made .right .nodes)) (take n (now (slots .entry)))) (ledgerOf l (now (nodes .entry)) (now (edges .entry)) (now (journal .entry)) used)) (now (nodes .entry)) (now (edges .entry)) (now (journal .entry)) (now (nodes .exit)) (now (edges .entry)) (now (journal .exit)) (used + n)) ⌝ }
 {
     let mut i: usize = 0;
     while i < n {
@@ -165,6 +183,8 @@ pub fn change_nodes(
             edges,
             journal,
             used + i,
+            preserving,
+            left,
             right,
             k,
             lens,

@@ -1,16 +1,17 @@
 -- Applying a rule at a match: the values of the right side, the checks before any change, and the changes with one record each.
 -- Rests on Basics, Numbers, Tags, Layout, Image, Matching and Assigned, and on the code's Element and Stop.
+use mathlib.Core.Bool.{Bool}
 use mathlib.Core.Option.{Option, some, none}
 use mathlib.Core.List.{List, [], _∷_, _++_, map}
 use Prim.Native.Nat.{ℕ, zero, suc, _+_, _-_}
 use lib.ListN.{length, getD, take, drop}
-use lib.Dec.{eqb, leb}
-use Rattle.meaning.specs.Basics.{choose, concat, isSome, ensure, each, firstFailing, _>>_, _>>=_}
+use lib.Dec.{eqb, leb, ltb}
+use Rattle.meaning.specs.Basics.{choose, both, concat, isSome, ensure, each, firstFailing, _>>_, _>>=_}
 use Rattle.meaning.specs.Numbers.{sum, difference}
 use Rattle.meaning.specs.Layout.{Slot, free, live, Node, Edge, Host, Change, ofNode, ofEdge, put}
 use Rattle.meaning.specs.Image.{RuleNode, RuleEdge, Rule}
 use Rattle.meaning.specs.Tags.{anyMark}
-use Rattle.meaning.specs.Matching.{nodeAt, leftNodes, leftEdges, nodeSlot, Assignment, atomOf}
+use Rattle.meaning.specs.Matching.{nodeAt, leftNode, leftNodes, leftEdges, nodeSlot, Assignment, atomOf}
 use Rattle.meaning.specs.Assigned.{assigned}
 use Rattle.meaning.specs.declared.Element.{Element}
 use Rattle.meaning.specs.declared.Element.the-variants.{Constant, Variable, Sum, Difference}
@@ -31,17 +32,19 @@ labelValue most α l = do
   ensure (leb (length (concat parts)) most)
   some (concat parts)
 
--- the root flag that right node j of rule r takes, from its own and that of its slot in the host
-abbrev pub rootTaken : Rule → ℕ → ℕ → ℕ → ℕ
-rootTaken r j right host = right
+-- the root flag that an interface node takes: the right side's; one that is unrooted on both sides of a preserving rule keeps
+-- the host's
+unfoldable pub rootTaken : Bool → ℕ → ℕ → ℕ → ℕ
+rootTaken preserving left right host = choose (both preserving (both (eqb left 0) (eqb right 0))) host right
 
--- right node j takes the right side's mark, root and label; any keeps the mark of its slot in the match p
+-- right node j takes the right side's mark, root flag and label; any keeps the mark of its slot in the match p, and `rootTaken` says
+-- which flag a node of the interface takes
 unfoldable pub rightNode : ℕ → Rule → Assignment → Host → List ℕ → ℕ → RuleNode → Option Node
 rightNode most r α h p j n = do
   l ← labelValue most α (n .label)
   some (record {
     mark = choose (eqb (n .mark) anyMark) (nodeAt h (nodeSlot p j) .mark) (n .mark);
-    root = rootTaken r j (n .root) (nodeAt h (nodeSlot p j) .root);
+    root = choose (ltb j (r .interface)) (rootTaken (r .preserving) (leftNode r j .root) (n .root) (nodeAt h (nodeSlot p j) .root)) (n .root);
     label = l;
   })
 

@@ -1,7 +1,7 @@
 -- Commands: what each does to the host, the journal, the fuel and the steps, and what each end does to a sequence, a guard
 -- and a loop body. Rests on Basics, Layout, Image, Applying and, for the first match alone, FirstMatch, and on the code's Stop
 -- and End.
-use mathlib.Core.Bool.{Bool}
+use mathlib.Core.Bool.{Bool, false}
 use mathlib.Core.Option.{Option, some, none}
 use mathlib.Core.List.{List, [], _∷_}
 use Prim.Native.Nat.{ℕ, zero, suc}
@@ -61,7 +61,7 @@ orLater i r (some p) later = some (record { number = i; rule = r; slots = p })
 abbrev pub ruleAt : List Rule → ℕ → Rule
 ruleAt rules i =
     getD rules i
-    (record { variables = []; left = record { nodes = []; edges = [] }; right = record { nodes = []; edges = [] }; interface = 0; tests = [] })
+    (record { variables = []; left = record { nodes = []; edges = [] }; right = record { nodes = []; edges = [] }; interface = 0; tests = []; preserving = false })
 
 unfoldable pub firstRule : List Rule → Host → List ℕ → Option Chosen
 firstRule rules h [] = none

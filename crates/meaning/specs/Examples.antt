@@ -5,7 +5,7 @@ use mathlib.Core.List.{List, [], _∷_, _++_, map}
 use Prim.Native.Nat.{ℕ, _*_}
 use lib.ListN.{replicate}
 use Rattle.meaning.specs.Layout.{base, edgeLength, recordLength}
-use Rattle.meaning.specs.Tags.{ruleTag, variablesTag, leftTag, rightTag, interfaceTag, testsTag, constantTag, sumTag, inDegreeTag, outDegreeTag, loopTag, guardedTag}
+use Rattle.meaning.specs.Tags.{ruleTag, variablesTag, leftTag, rightTag, interfaceTag, testsTag, modeTag, nodeTag, constantTag, sumTag, inDegreeTag, outDegreeTag, loopTag, guardedTag}
 use Rattle.meaning.specs.Calls.{Returned, run, undo, reportOf, lending, lendingUndo}
 use Rattle.meaning.specs.ProvedSet.{Case, Expected, given, liveNode, freeNode, liveEdge, nodeRecord, edgeRecord, plainNode, redNode, fieldBytes, ruleField, nodeField, edgeField, variableField, ruleSetField, marksRed, skipField, breakField, noResult, results, onPlainNode}
 use Rattle.meaning.specs.Computing.{computing}
@@ -18,15 +18,45 @@ freeEdge = replicate (edgeLength base) 0
 abbrev deletesLooped : List ℕ
 deletesLooped = ruleField [] (nodeField 0 [] ++ edgeField 0 0) [] 0
 
--- M, under tests
-abbrev marksUnder : List ℕ → List ℕ
-marksUnder tests =
+-- a rule of left and right graph, interface and tests, and what stands behind them
+abbrev ruleWith : List ℕ → List ℕ → ℕ → List ℕ → List ℕ → List ℕ
+ruleWith left right k tests behind =
     fieldBytes ruleTag
     (fieldBytes variablesTag []
-    ++ fieldBytes leftTag (nodeField 0 [])
-    ++ fieldBytes rightTag (nodeField 1 [])
-    ++ fieldBytes interfaceTag (1 ∷ [])
-    ++ fieldBytes testsTag tests)
+    ++ fieldBytes leftTag left
+    ++ fieldBytes rightTag right
+    ++ fieldBytes interfaceTag (k ∷ [])
+    ++ fieldBytes testsTag tests
+    ++ behind)
+
+-- M, under tests
+abbrev marksUnder : List ℕ → List ℕ
+marksUnder tests = ruleWith (nodeField 0 []) (nodeField 1 []) 1 tests []
+
+-- M, with a mode or what else stands behind its tests
+abbrev marksWith : List ℕ → List ℕ
+marksWith behind = ruleWith (nodeField 0 []) (nodeField 1 []) 1 [] behind
+
+abbrev modeField : ℕ → List ℕ
+modeField mode = fieldBytes modeTag (mode ∷ [])
+
+abbrev modeBeforeTests : List ℕ
+modeBeforeTests =
+    fieldBytes ruleTag
+    (fieldBytes variablesTag []
+    ++ fieldBytes leftTag []
+    ++ fieldBytes rightTag []
+    ++ fieldBytes interfaceTag (0 ∷ [])
+    ++ modeField 0
+    ++ fieldBytes testsTag [])
+
+-- a rule that preserves roots
+abbrev preserving : List ℕ → List ℕ → ℕ → List ℕ
+preserving left right k = ruleWith left right k [] (modeField 1)
+
+-- an unmarked, unlabelled root of a rule
+abbrev rootField : List ℕ
+rootField = fieldBytes nodeTag (0 ∷ 1 ∷ [])
 
 -- the test that a degree of the node, the in-degree or the out-degree by its tag, is n
 abbrev degreeField : ℕ → ℕ → List ℕ
@@ -46,6 +76,10 @@ addsNode = ruleField [] [] (nodeField 0 []) 0
 -- a root without mark and label
 abbrev rootNode : List ℕ
 rootNode = liveNode 0 1 (0 ∷ [])
+
+abbrev onRoot : List ℕ → Expected → Case
+onRoot rule expected =
+    record { nodes = rootNode; edges = []; records = 8; image = rule ++ ruleSetField 0; fuel = 100; expected = expected }
 
 -- the largest atom
 abbrev largest : List ℕ
@@ -105,8 +139,22 @@ examples =
     ∷ onPlainNode 100 (addsNode ++ ruleSetField 0) (noResult 3 1 plainNode [])
     -- case 14: the largest atom and 1
     ∷ record { nodes = largest; edges = []; records = 8; image = adds ++ ruleSetField 0; fuel = 100; expected = noResult 6 1 largest [] }
-    -- case 15: M, and the node is a root
-    ∷ record { nodes = rootNode; edges = []; records = 8; image = marksRed ++ ruleSetField 0; fuel = 100; expected = noResult 1 1 rootNode [] }
+    -- case 15: M, and the node is a root; the same with its mode written out
+    ∷ onRoot marksRed (noResult 1 1 rootNode [])
+    ∷ onRoot (marksWith (modeField 0)) (noResult 1 1 rootNode [])
+    -- a preserving rule takes the root where its left node is none, and it stays a root
+    ∷ onRoot (marksWith (modeField 1)) (results 1 1 (liveNode 1 1 (0 ∷ [])) [] (nodeRecord 0 rootNode))
+    -- a left root still needs one, and a right node that is none makes it plain
+    ∷ onPlainNode 100 (preserving rootField (nodeField 0 []) 1 ++ ruleSetField 0) (noResult 1 1 plainNode [])
+    ∷ onRoot (preserving rootField (nodeField 0 []) 1) (results 1 1 plainNode [] (nodeRecord 0 rootNode))
+    -- a new node has the right side's flag, also where a node of its number goes
+    ∷ onRoot (preserving (nodeField 0 []) (nodeField 0 []) 0) (results 1 2 plainNode [] (nodeRecord 0 rootNode ++ nodeRecord 0 freeNode))
+    -- a mode is one byte of 0 or 1, and there is one at most, behind the tests
+    ∷ onPlainNode 100 (marksWith (modeField 2) ++ ruleSetField 0) (refuses 16)
+    ∷ onPlainNode 100 (marksWith (fieldBytes modeTag (1 ∷ 0 ∷ [])) ++ ruleSetField 0) (refuses 16)
+    ∷ onPlainNode 100 (marksWith (fieldBytes modeTag []) ++ ruleSetField 0) (refuses 16)
+    ∷ onPlainNode 100 (marksWith (modeField 0 ++ modeField 0) ++ ruleSetField 0) (refuses 16)
+    ∷ onPlainNode 100 (modeBeforeTests ++ ruleSetField 0) (refuses 16)
     ∷ []
 
 pub as-expected : map given examples ≡ map (λ c. c .expected) examples

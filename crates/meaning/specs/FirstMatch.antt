@@ -87,7 +87,7 @@ module _ (h : Host) (r : Rule) where
       (liveAt (h .nodes) c
       ∷ absent c p
       ∷ marksAgree (leftNode r i .mark) (nodeAt h c .mark)
-      ∷ rootsAgree r (leftNode r i .root) (nodeAt h c .root)
+      ∷ rootsAgree (r .preserving) (leftNode r i .root) (nodeAt h c .root)
       ∷ labelAgrees r (assigned h r (p ++ c ∷ [])) (leftNode r i .label) (nodeAt h c .label)
       ∷ all (linked (p ++ c ∷ []) i) (leftEdges r)
       ∷ canGo i c

@@ -1,7 +1,7 @@
 -- The program image: the tree that it stands for, and the reader of bytes, which succeeds exactly on what has the form
 -- of document 01 (answer 16). Rests on Basics, Numbers, Tags and, for marks, Layout, and on the code's Operand, Element,
 -- Condition and Test.
-use mathlib.Core.Bool.{Bool, true}
+use mathlib.Core.Bool.{Bool, true, false}
 use mathlib.Core.Option.{Option, some, none}
 use mathlib.Core.List.{List, [], _∷_}
 use Prim.Native.Nat.{ℕ, zero, suc, _+_, _-_}
@@ -10,7 +10,7 @@ use lib.Dec.{eqb, leb}
 use Rattle.meaning.specs.Basics.{choose, both, either, every, isEmpty, ensure, _>>_, _>>=_}
 use Rattle.meaning.specs.Numbers.{number}
 use Rattle.meaning.specs.Layout.{isNodeMark, isEdgeMark}
-use Rattle.meaning.specs.Tags.{ruleTag, variablesTag, leftTag, rightTag, interfaceTag, testsTag, nodeTag, edgeTag, constantTag, variableTag, sumTag, differenceTag, edgeTestTag, inDegreeTag, outDegreeTag, relationTag, ruleSetTag, sequenceTag, loopTag, skipTag, failTag, breakTag, guardedTag, intType, listType, equalRelation, lessRelation, anyMark}
+use Rattle.meaning.specs.Tags.{ruleTag, variablesTag, leftTag, rightTag, interfaceTag, testsTag, modeTag, nodeTag, edgeTag, constantTag, variableTag, sumTag, differenceTag, edgeTestTag, inDegreeTag, outDegreeTag, relationTag, ruleSetTag, sequenceTag, loopTag, skipTag, failTag, breakTag, guardedTag, intType, listType, equalRelation, lessRelation, anyMark}
 use Rattle.meaning.specs.declared.Operand.{Operand}
 use Rattle.meaning.specs.declared.Operand.the-variants.{Constant as constantOperand, Variable as variableOperand}
 use Rattle.meaning.specs.declared.Element.{Element}
@@ -36,13 +36,15 @@ pub record RuleGraph : Type 0 where
   pub nodes : List RuleNode
   pub edges : List RuleEdge
 
--- variables: their types, 1 int, 2 list; nodes 0 to interface - 1 are the same on both sides
+-- variables: their types, 1 int, 2 list; nodes 0 to interface - 1 are the same on both sides; a rule that is not preserving
+-- reflects roots
 pub record Rule : Type 0 where
   pub variables : List ℕ
   pub left : RuleGraph
   pub right : RuleGraph
   pub interface : ℕ
   pub tests : List Test
+  pub preserving : Bool
 
 mutual
   -- `guarded keep` is try where a successful guard's changes are kept, and if where they are not
@@ -241,7 +243,7 @@ test tag bs = do
   c ← condition tag (drop 1 bs)
   some (record { negated = negated; condition = c })
 
--- Rules: exactly 0x11 to 0x15.
+-- Rules: exactly 0x11 to 0x15, and behind them at most one 0x16.
 
 unfoldable pub isType : ℕ → Bool
 isType t = either (eqb t intType) (eqb t listType)
@@ -252,6 +254,17 @@ types bs = do
   ensure (every isType bs)
   some bs
 
+-- a flag and nothing behind it: 1 for preserving
+unfoldable pub mode : List ℕ → Option Bool
+mode bs = do
+  ensure (eqb (length bs) 1)
+  flag bs
+
+-- what the modes say that a rule has; without one it is not preserving
+unfoldable pub preserves : List Bool → Bool
+preserves [] = false
+preserves (b ∷ l) = b
+
 unfoldable pub rule : List ℕ → Option Rule
 rule bs = do
   v ← expect variablesTag bs
@@ -259,13 +272,21 @@ rule bs = do
   r ← expect rightTag (l .rest)
   k ← expect interfaceTag (r .rest)
   t ← expect testsTag (k .rest)
-  ensure (isEmpty (t .rest))
+  modes ← only (eqb modeTag) (λ tag. mode) 1 (t .rest)
   variables ← types (v .payload)
   left ← ruleGraph (l .payload)
   right ← ruleGraph (r .payload)
   interface ← oneByte (k .payload)
   tests ← only passesAll test (limits .tests) (t .payload)
-  some (record { variables = variables; left = left; right = right; interface = interface; tests = tests })
+  some
+      (record {
+        variables = variables;
+        left = left;
+        right = right;
+        interface = interface;
+        tests = tests;
+        preserving = preserves modes;
+      })
 
 -- Commands, nested at most n deep.
 

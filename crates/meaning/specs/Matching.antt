@@ -122,9 +122,9 @@ module _ (h : Host) where
 abbrev pub MarksAgree : ℕ → ℕ → Type 0
 MarksAgree left mark = (left ≡ anyMark) ⊎ (left ≡ mark)
 
--- a left node's root flag agrees with a host node's, in rule r
-abbrev pub rootsAgree : Rule → ℕ → ℕ → Bool
-rootsAgree r left host = eqb left host
+-- a left node's root flag agrees with a host node's: they are equal, or the rule is preserving and the left node no root
+unfoldable pub rootsAgree : Bool → ℕ → ℕ → Bool
+rootsAgree preserving left host = either (both preserving (eqb left 0)) (eqb left host)
 
 -- every host edge touching the image of a left node outside the interface is the image of a left edge
 abbrev pub DanglingCondition : Host → Rule → List ℕ → Type 0
@@ -144,8 +144,8 @@ pub record Match (h : Host) (r : Rule) (p : List ℕ) : Type 0 where
   -- 1. marks agree
   pub nodeMarks : (i : ℕ) → i < leftNodes r → MarksAgree (leftNode r i .mark) (nodeAt h (nodeSlot p i) .mark)
   pub edgeMarks : (k : ℕ) → k < leftEdges r → MarksAgree (leftEdge r k .mark) (edgeAt h (edgeSlot r p k) .mark)
-  -- 2. root flags are equal both ways
-  pub roots : (i : ℕ) → i < leftNodes r → rootsAgree r (leftNode r i .root) (nodeAt h (nodeSlot p i) .root) ≡ true
+  -- 2. root flags are equal both ways; in a preserving rule an unrooted left node takes either
+  pub roots : (i : ℕ) → i < leftNodes r → rootsAgree (r .preserving) (leftNode r i .root) (nodeAt h (nodeSlot p i) .root) ≡ true
   -- 3. sources and targets correspond
   pub sources : (k : ℕ) → k < leftEdges r → edgeAt h (edgeSlot r p k) .source ≡ nodeSlot p (leftEdge r k .source)
   pub targets : (k : ℕ) → k < leftEdges r → edgeAt h (edgeSlot r p k) .target ≡ nodeSlot p (leftEdge r k .target)

@@ -2,7 +2,7 @@
 -- match, leaves both ends of every live edge live. It needs the dangling condition: a case shows where it would fail without.
 -- Rests on Layout, References, Matching and Applying, on Laws/Attached, and for the case on ProvedSet and Computing.
 use mathlib.Core.Path.{_≡_, refl}
-use mathlib.Core.Bool.{true}
+use mathlib.Core.Bool.{true, false}
 use mathlib.Core.List.{List, [], _∷_}
 use mathlib.Core.Logic.{inr}
 use Prim.Native.Nat.{ℕ, zero, suc, _<_}
@@ -58,6 +58,7 @@ onPlain right k =
       right = record { nodes = right; edges = [] };
       interface = k;
       tests = [];
+      preserving = false;
     }
 
 abbrev deletesNode : Rule

@@ -22,6 +22,9 @@ interfaceTag = 0x14
 abbrev pub testsTag : ℕ
 testsTag = 0x15
 
+abbrev pub modeTag : ℕ
+modeTag = 0x16
+
 -- The items of a graph.
 
 abbrev pub nodeTag : ℕ

@@ -17,6 +17,8 @@ impl Tag {
 
     pub const TESTS: u8 = 0x15;
 
+    pub const MODE: u8 = 0x16;
+
     // The items of a graph.
     pub const NODE: u8 = 0x20;
 

@@ -51,7 +51,7 @@ module _ (nodes edges image : List ℕ) where
 
     module _ (i : ℕ) (few : For (program image) (λ p. i < length (p .rules))) (part : List ℕ) (read : For (program image) (λ p. i < length (p .rules) → (d : Rule) → rule part ≡ some (getD (p .rules) i d))) where
       none-left : Rule
-      none-left = record { variables = []; left = record { nodes = []; edges = [] }; right = record { nodes = []; edges = [] }; interface = 0; tests = [] }
+      none-left = record { variables = []; left = record { nodes = []; edges = [] }; right = record { nodes = []; edges = [] }; interface = 0; tests = []; preserving = false }
 
       pub is-rule : IsRule part
       unfolding references

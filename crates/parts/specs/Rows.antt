@@ -1,4 +1,4 @@
--- What stands in an image as rows of fields: a graph's items, an image's rules and main command, a rule's five parts.
+-- What stands in an image as rows of fields: a graph's items, an image's rules and main command, a rule's parts.
 -- Rests on the meaning's Image and on Series.
 use mathlib.Core.Path.{_≡_, refl, sym, _∙_, ap}
 use mathlib.Core.Bool.{Bool, true, false}
@@ -6,20 +6,20 @@ use mathlib.Core.Option.{Option, some, none}
 use mathlib.Core.List.{List, [], _∷_, _++_, map}
 use Prim.Native.Nat.{ℕ, suc, _+_, _-_, _<_, _≤_}
 use native.Mathlib.Omega.{arith}
-use native.Mathlib.Decide.{ℕ-discrete}
+use native.Mathlib.Decide.{decLt, ℕ-discrete}
 use borrow.Author.Tests.{eqb-true}
-use lib.Dec.{eqb, lit<}
+use lib.Dec.{eqb}
 use lib.ListN.{length, getD, drop, length-append, length-map, List·getD-map, List·getD-append, List·getD-eq-default}
 use lib.Seq.{getD-append-add, getD-at}
-use Rattle.meaning.specs.Tags.{edgeTag, interfaceTag, leftTag, nodeTag, rightTag, ruleTag, testsTag, variablesTag}
+use Rattle.meaning.specs.Tags.{edgeTag, interfaceTag, leftTag, modeTag, nodeTag, rightTag, ruleTag, testsTag, variablesTag}
 use Rattle.meaning.specs.Basics.{choose, _>>=_}
-use Rattle.meaning.specs.Image.{RuleNode, RuleEdge, RuleGraph, Rule, Command, Program, Field, field, expect, only, passesAll, oneByte, label, ruleNode, ruleEdge, ruleGraph, test, types, rule, command, program}
+use Rattle.meaning.specs.Image.{RuleNode, RuleEdge, RuleGraph, Rule, Command, Program, Field, field, expect, only, passesAll, oneByte, label, ruleNode, ruleEdge, ruleGraph, test, types, mode, preserves, rule, command, program}
 use Rattle.meaning.specs.Laws.Tests.{choose-true, choose-eq, choose-ne, some-inj, bind-some, ensure-some}
 use Rattle.fields.specs.Image.{field-is, bind-yes}
-use Rattle.fields.specs.Parsed.{oneByte-is, ruleNode-is, ruleEdge-is, ruleGraph-is, types-is, rule-is, no-rule, command-tag, program-is}
+use Rattle.fields.specs.Parsed.{oneByte-is, ruleNode-is, ruleEdge-is, ruleGraph-is, types-is, mode-is, rule-is, no-rule, command-tag, program-is}
 use Rattle.meaning.specs.declared.Element.{Element}
 use Rattle.fields.specs.Laws.{Lies}
-use Rattle.parts.specs.Series.{Series, For, series-none, series-some, series-there, leading-series, only-series, series-append, series-map, nthPart, nthTag, nth-item}
+use Rattle.parts.specs.Series.{Series, For, series-none, series-some, series-there, leading-series, only-series, series-append, series-map, nthPart, nthTag, nth-item, nth-beyond}
 
 -- Tags, and how many at the front are of one kind.
 
@@ -403,13 +403,14 @@ main-command bs p e =
 abbrev anything : ℕ → List ℕ → Option (List ℕ)
 anything tag bs = some bs
 
--- the five parts, each where the field of its number lies
+-- the parts, each where the field of its number lies; without a mode the part of its number is empty
 pub record Parted (bs : List ℕ) (x : Rule) : Type 0 where
   pub variables : types (nthPart 0 bs) ≡ some (x .variables)
   pub left : ruleGraph (nthPart 1 bs) ≡ some (x .left)
   pub right : ruleGraph (nthPart 2 bs) ≡ some (x .right)
   pub interface : oneByte (nthPart 3 bs) ≡ some (x .interface)
   pub tests : only passesAll test 4 (nthPart 4 bs) ≡ some (x .tests)
+  pub preserving : x .preserving ≡ eqb (getD (nthPart 5 bs) 0 0) 1
 
 expected : (tag : ℕ) (bs : List ℕ) (d : Field) → expect tag bs ≡ some d → field bs ≡ some d
 unfolding expect
@@ -417,26 +418,42 @@ expected tag bs d e =
     let t = bind-some (field bs) _ d e in
     t .1 ∙ ensure-some (eqb (t .0 .tag) tag) _ d (t .2) .1
 
-five : (bs : List ℕ) (a b c d e : Field) → field bs ≡ some a → field (a .rest) ≡ some b → field (b .rest) ≡ some c → field (c .rest) ≡ some d → field (d .rest) ≡ some e → e .rest ≡ []
-    → Series anything (a .payload ∷ b .payload ∷ c .payload ∷ d .payload ∷ e .payload ∷ []) [] bs
+-- five fields, and more behind them
+five : (bs : List ℕ) (a b c d e : Field) (more : List (List ℕ)) → field bs ≡ some a → field (a .rest) ≡ some b → field (b .rest) ≡ some c → field (c .rest) ≡ some d → field (d .rest) ≡ some e
+    → Series anything more [] (e .rest) → Series anything (a .payload ∷ b .payload ∷ c .payload ∷ d .payload ∷ e .payload ∷ more) [] bs
 unfolding Series
-five bs a b c d e ha hb hc hd he h =
+five bs a b c d e more ha hb hc hd he h =
     record { whole = a; there = ha; read = refl; more = record { whole = b; there = hb; read = refl; more = record { whole = c; there = hc; read = refl; more = record { whole = d; there = hd; read = refl; more = record { whole = e; there = he; read = refl; more = h } } } } }
 
-nth-payload : (bs : List ℕ) (l : List (List ℕ)) (n : ℕ) → Series anything l [] bs → n < length l → nthPart n bs ≡ getD l n []
-nth-payload bs l n r h = some-inj _ _ (nth-item bs anything l n [] r h)
+-- the modes behind them, and what the first byte of the first says
+modes-behind : (modes : List Bool) (bs : List ℕ) → Series (λ tag. mode) modes [] bs
+    → (more : List (List ℕ)) × Series anything more [] bs × (preserves modes ≡ eqb (getD (getD more 0 []) 0 0) 1)
+unfolding Series preserves
+modes-behind [] bs r = ([], r, refl)
+modes-behind (b ∷ l) bs r =
+    let t = modes-behind l (r .whole .rest) (r .more) in
+    (r .whole .payload ∷ t .0, record { whole = r .whole; there = r .there; read = refl; more = t .1 }, mode-is (r .whole .payload) b (r .read))
+
+nth-payload : (bs : List ℕ) (l : List (List ℕ)) (n : ℕ) → Series anything l [] bs → nthPart n bs ≡ getD l n []
+nth-payload bs l n r = at (decLt n (length l))
+  where
+    at : Dec (n < length l) → nthPart n bs ≡ getD l n []
+    at (yes h) = some-inj _ _ (nth-item bs anything l n [] r h)
+    at (no h) = nth-beyond bs anything l n r (omega arith) ∙ sym (List·getD-eq-default l [] (omega arith))
 
 pub rule-parted : (bs : List ℕ) (x : Rule) → rule bs ≡ some x → Parted bs x
 rule-parted bs x e =
     let i = rule-is bs x e in
-    let l = i .v .payload ∷ i .l .payload ∷ i .r .payload ∷ i .k .payload ∷ i .t .payload ∷ [] in
-    let row : Series anything l [] bs = five bs (i .v) (i .l) (i .r) (i .k) (i .t) (expected variablesTag bs (i .v) (i .at-v)) (expected leftTag (i .v .rest) (i .l) (i .at-l)) (expected rightTag (i .l .rest) (i .r) (i .at-r)) (expected interfaceTag (i .r .rest) (i .k) (i .at-k)) (expected testsTag (i .k .rest) (i .t) (i .at-t)) (i .last) in
+    let m = modes-behind (i .modes) (i .t .rest) (only-series (eqb modeTag) (λ tag. mode) (λ tag. mode) (λ tag q a p e. e) 1 (i .t .rest) (i .modes) (i .at-modes)) in
+    let l = i .v .payload ∷ i .l .payload ∷ i .r .payload ∷ i .k .payload ∷ i .t .payload ∷ m .0 in
+    let row : Series anything l [] bs = five bs (i .v) (i .l) (i .r) (i .k) (i .t) (m .0) (expected variablesTag bs (i .v) (i .at-v)) (expected leftTag (i .v .rest) (i .l) (i .at-l)) (expected rightTag (i .l .rest) (i .r) (i .at-r)) (expected interfaceTag (i .r .rest) (i .k) (i .at-k)) (expected testsTag (i .k .rest) (i .t) (i .at-t)) (m .1) in
     record {
-      variables = ap types (nth-payload bs l 0 row (lit< tt)) ∙ i .variables;
-      left = ap ruleGraph (nth-payload bs l 1 row (lit< tt)) ∙ i .left;
-      right = ap ruleGraph (nth-payload bs l 2 row (lit< tt)) ∙ i .right;
-      interface = ap oneByte (nth-payload bs l 3 row (lit< tt)) ∙ i .interface;
-      tests = ap (only passesAll test 4) (nth-payload bs l 4 row (lit< tt)) ∙ i .tests;
+      variables = ap types (nth-payload bs l 0 row) ∙ i .variables;
+      left = ap ruleGraph (nth-payload bs l 1 row) ∙ i .left;
+      right = ap ruleGraph (nth-payload bs l 2 row) ∙ i .right;
+      interface = ap oneByte (nth-payload bs l 3 row) ∙ i .interface;
+      tests = ap (only passesAll test 4) (nth-payload bs l 4 row) ∙ i .tests;
+      preserving = i .preserving ∙ m .2 ∙ ap (λ (q : List ℕ). eqb (getD q 0 0) 1) (sym (nth-payload bs l 5 row));
     }
 
 pub variables-are : (bs part : List ℕ) → part ≡ nthPart 0 bs → For (rule bs) (λ x. part ≡ x .variables)
@@ -445,6 +462,9 @@ variables-are bs part h x e = h ∙ sym (types-is (nthPart 0 bs) (x .variables) 
 pub interface-is : (bs part : List ℕ) (k : ℕ) → part ≡ nthPart 3 bs → k ≡ getD part 0 0 → For (rule bs) (λ x. k ≡ x .interface)
 interface-is bs part k h q x e =
     q ∙ ap (λ (l : List ℕ). getD l 0 0) h ∙ sym (oneByte-is (nthPart 3 bs) (x .interface) (rule-parted bs x e .interface) .1)
+
+pub mode-said : (bs part : List ℕ) (m : ℕ) → part ≡ nthPart 5 bs → m ≡ getD part 0 0 → For (rule bs) (λ x. x .preserving ≡ eqb m 1)
+mode-said bs part m h q x e = rule-parted bs x e .preserving ∙ ap (λ (n : ℕ). eqb n 1) (sym (q ∙ ap (λ (l : List ℕ). getD l 0 0) h))
 
 pub main-is : (bs part : List ℕ) (tag : ℕ) (p : Program) → program bs ≡ some p → tag ≡ nthTag (length (p .rules)) bs → part ≡ nthPart (length (p .rules)) bs → command 16 tag part ≡ some (p .main)
 main-is bs part tag p e h k = rw (h, k) (main-command bs p e)

@@ -12,7 +12,7 @@ use Rattle.meaning.specs.Image.{field, leading, only, Read, Field as Whole}
 use Rattle.meaning.specs.Laws.Tests.{both-yes, both-no, bind-some, ensure-some, choose-true, choose-false, some-inj, empty-true}
 use Rattle.fields.specs.Image.{field-is}
 use Rattle.fields.specs.Fields.{fieldAt, onward, nthField}
-use Rattle.fields.specs.Laws.{Lies, found-field, at-field}
+use Rattle.fields.specs.Laws.{Lies, found-field, at-field, at-end}
 use Rattle.fields.specs.declared.Found.{Found}
 use Rattle.fields.specs.declared.Found.the-variants.{Field, Short, End}
 
@@ -243,6 +243,22 @@ module _ (bs : List ℕ) where
   nth-series item (a ∷ l) at (suc n) d r h =
       let t = row-field item a l at r in
       rw (t .3) (nth-series item l (t .2) n d (t .5) (omega arith))
+
+  -- behind the last of a row there is none
+  beyond : {A : Type 0} (item : ℕ → List ℕ → Option A) (l : List A) (at n : ℕ) → Series item l [] (drop at bs) → length l ≤ n → nthField n bs at ≡ End
+  unfolding Series nthField onward
+  beyond item [] at n r h = at-last n (sym (at-end bs at (omega (arith, length-drop at bs, ap length r))))
+    where
+      at-last : (n : ℕ) → fieldAt bs at ≡ End → nthField n bs at ≡ End
+      at-last zero e = e
+      at-last (suc n) e = rw e
+  beyond item (a ∷ l) at zero r h = absurd (omega arith)
+  beyond item (a ∷ l) at (suc n) r h =
+      let t = row-field item a l at r in
+      rw (t .3) (beyond item l (t .2) n (t .5) (omega arith))
+
+  pub nth-beyond : {A : Type 0} (item : ℕ → List ℕ → Option A) (l : List A) (n : ℕ) → Series item l [] bs → length l ≤ n → nthPart n bs ≡ []
+  nth-beyond item l n r h = part-end bs _ (beyond item l 0 n r h)
 
   -- the item of a number is read from the field of that number
   pub nth-item : {A : Type 0} (item : ℕ → List ℕ → Option A) (l : List A) (n : ℕ) (d : A) → Series item l [] bs → n < length l → item (nthTag n bs) (nthPart n bs) ≡ some (getD l n d)

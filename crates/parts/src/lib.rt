@@ -223,6 +223,13 @@ pub fn tests_part(p: &[u8]) -> &[u8]
     nth_part(p, 4)
 }
 
+// The mode: 1 if the rule preserves roots; 0 if it has none.
+pub fn mode_of(p: &[u8]) -> usize
+    ensures { λ r. ⌜ For (rule (now (p .entry))) (λ x. x .preserving ≡ eqb r 1) ⌝ }
+{
+    number_at(nth_part(p, 5), 0)
+}
+
 // How many elements a label has, or tests a rule.
 
 pub fn element_count(p: &[u8]) -> usize

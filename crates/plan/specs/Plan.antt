@@ -7,6 +7,7 @@ use mathlib.Core.Option.{Option, some}
 use mathlib.Core.Bool.{true, false}
 use mathlib.Core.List.{List, [], _∷_}
 use Prim.Native.Nat.{ℕ, suc, _+_, _-_, _<_, _≤_}
+use lib.Dec.{eqb}
 use lib.ListN.{length, getD, take, drop}
 use Rattle.meaning.specs.Basics.{choose}
 use Rattle.meaning.specs.Image.{RuleNode, RuleEdge, RuleGraph, Rule, only, passesAll, ruleNode, ruleEdge, types, test, rule, limits}
@@ -24,7 +25,7 @@ use Rattle.plan.specs.declared.Side.the-variants.{Source, Target}
 
 -- how many numbers a plan has
 abbrev pub planLength : ℕ
-planLength = 102
+planLength = 103
 
 -- places of the numbers: of left nodes, left edges, the interface and tests, how many
 abbrev pub nodesAt : ℕ
@@ -67,26 +68,30 @@ typesStartAt = 40
 abbrev pub typesEndAt : ℕ
 typesEndAt = 41
 
+-- the mode: 1 if the rule preserves roots
+abbrev pub modeAt : ℕ
+modeAt = 42
+
 -- how many elements each left label has, and how many of them are list variables
 abbrev pub elementsAt : ℕ
-elementsAt = 42
+elementsAt = 43
 
 abbrev pub listsAt : ℕ
-listsAt = 54
+listsAt = 55
 
 -- the sort of each left label, and the constant that it is
 abbrev pub sortAt : ℕ
-sortAt = 66
+sortAt = 67
 
 abbrev pub constantAt : ℕ
-constantAt = 78
+constantAt = 79
 
 -- how many elements of one atom, and how many lists, each variable's first occurrence is behind
 abbrev pub singlesAt : ℕ
-singlesAt = 90
+singlesAt = 91
 
 abbrev pub beforeAt : ℕ
-beforeAt = 96
+beforeAt = 97
 
 -- the sorts: its length alone decides, it is one constant; any other number is any other label
 abbrev pub lengthSort : ℕ
@@ -140,6 +145,7 @@ pub record Laid (bs : List ℕ) (r : Rule) (plan : List ℕ) : Type 0 where
   pub holds : ruleHolds r ≡ true
   pub items : Items bs (r .left) plan
   pub interface : getD plan interfaceAt 0 ≡ r .interface
+  pub mode : r .preserving ≡ eqb (getD plan modeAt 0) 1
   pub fewVariables : length (r .variables) ≤ limits .variables
   pub types : Placed types bs (getD plan typesStartAt 0) (getD plan typesEndAt 0) (r .variables)
   pub fewTests : length (r .tests) ≤ limits .tests

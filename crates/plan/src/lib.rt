@@ -49,21 +49,24 @@ impl At {
 
     pub const TYPES_END: usize = 41;
 
+    // The mode: 1 if the rule preserves roots.
+    pub const MODE: usize = 42;
+
     // Of each left label: elements, list variables among them, sort, and the constant that it is.
-    pub const ELEMENTS: usize = 42;
+    pub const ELEMENTS: usize = 43;
 
-    pub const LISTS: usize = 54;
+    pub const LISTS: usize = 55;
 
-    pub const SORT: usize = 66;
+    pub const SORT: usize = 67;
 
-    pub const CONSTANT: usize = 78;
+    pub const CONSTANT: usize = 79;
 
     // Behind how many elements of one atom, and how many lists, each variable's first occurrence stands.
-    pub const SINGLES: usize = 90;
+    pub const SINGLES: usize = 91;
 
-    pub const BEFORE: usize = 96;
+    pub const BEFORE: usize = 97;
 
-    pub const LENGTH: usize = 102;
+    pub const LENGTH: usize = 103;
 }
 
 // The sorts of labels: one whose elements are compared, one whose length alone decides, and one constant.

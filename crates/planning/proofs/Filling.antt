@@ -7,6 +7,7 @@ use mathlib.Core.List.{List, [], _∷_, map}
 use Prim.Native.Nat.{ℕ, zero, suc, _+_, _-_, _<_, _≤_, min}
 use native.Mathlib.Omega.{arith}
 use native.Mathlib.Decide.{ℕ-discrete, decLt}
+use lib.Dec.{eqb}
 use lib.ListN.{length, getD, set, take, drop, length-append, length-drop, length-map, length-set, List·getD-append}
 use lib.Seq.{getD-append-add}
 use Rattle.meaning.specs.Tags.{nodeTag}
@@ -18,7 +19,7 @@ use Rattle.fields.specs.Laws.{Lies}
 use Rattle.parts.specs.Series.{Series, nthPart, series-none, series-some, series-there}
 use Rattle.parts.specs.Rows.{Item, node as nodeItem, edge as edgeItem, items as itemsOf, graphItem, item-is, graph-series, rule-parted}
 use Rattle.parts.proofs.Loops.{part-in}
-use Rattle.plan.specs.Plan.{Placed, nodeOf, edgeOf, Items, Laid, IsRule, Part, endAt, planLength, startAt, interfaceAt, testsEndAt, testsStartAt, typesEndAt, typesStartAt}
+use Rattle.plan.specs.Plan.{Placed, nodeOf, edgeOf, Items, Laid, IsRule, Part, endAt, planLength, startAt, interfaceAt, modeAt, testsEndAt, testsStartAt, typesEndAt, typesStartAt}
 use Rattle.plan.specs.Places.{drop-head, inner, part-length, part-byte}
 use Rattle.planning.proofs.Stores.{other, stored, items-kept}
 
@@ -246,9 +247,9 @@ module _ {bs : List ℕ} {r : Rule} (e : rule bs ≡ some r) where
       let z : start + 0 ≡ start = omega arith in
       (omega (arith, p .inside), ap (λ (x : ℕ). getD bs x 0) (sym z) ∙ sym (part-byte bs start end (p .ordered) (p .inside) 0 (omega arith)) ∙ ap (λ (x : List ℕ). getD x 0 0) (p .is) ∙ sym (b .1))
 
-  pub laid : {plan : List ℕ} {byte s3 e3 s4 e4 s0 e0 : ℕ} → ruleHolds r ≡ true → Items bs (r .left) plan → Part bs 3 s3 e3 → byte ≡ getD bs s3 0 → Part bs 4 s4 e4 → Part bs 0 s0 e0
-      → Laid bs r (set (set (set (set (set plan interfaceAt byte) testsStartAt s4) testsEndAt e4) typesStartAt s0) typesEndAt e0)
-  laid {plan} {byte} {s3} {e3} {s4} {e4} {s0} {e0} holds l p3 b p4 p0 =
+  pub laid : {plan : List ℕ} {byte s3 e3 s4 e4 s0 e0 : ℕ} → ruleHolds r ≡ true → Items bs (r .left) plan → Part bs 3 s3 e3 → byte ≡ getD bs s3 0 → Part bs 4 s4 e4 → Part bs 0 s0 e0 → (mode : ℕ) → r .preserving ≡ eqb mode 1
+      → Laid bs r (set (set (set (set (set (set plan interfaceAt byte) testsStartAt s4) testsEndAt e4) typesStartAt s0) typesEndAt e0) modeAt mode)
+  laid {plan} {byte} {s3} {e3} {s4} {e4} {s0} {e0} holds l p3 b p4 p0 mode m =
       let a : List ℕ = set plan interfaceAt byte in
       let c : List ℕ = set a testsStartAt s4 in
       let d : List ℕ = set c testsEndAt e4 in
@@ -256,16 +257,19 @@ module _ {bs : List ℕ} {r : Rule} (e : rule bs ≡ some r) where
       let la = items-kept plan 2 byte (λ h. omega arith) l in
       let lc = items-kept a testsStartAt s4 (λ h. omega arith) la in
       let ld = items-kept c testsEndAt e4 (λ h. omega arith) lc in
+      let g : List ℕ = set f typesEndAt e0 in
       let lf = items-kept d typesStartAt s0 (λ h. omega arith) ld in
+      let lg = items-kept f typesEndAt e0 (λ h. omega arith) lf in
       let q = rule-parted bs r e in
       let few = rule-few bs r e in
       record {
         is = e;
         holds = holds;
-        items = items-kept f typesEndAt e0 (λ h. omega arith) lf;
-        interface = other f typesEndAt e0 interfaceAt (λ y. omega arith) ∙ other d typesStartAt s0 interfaceAt (λ y. omega arith) ∙ other c testsEndAt e4 interfaceAt (λ y. omega arith) ∙ other a testsStartAt s4 interfaceAt (λ y. omega arith) ∙ stored plan interfaceAt byte (l .size) (omega arith) ∙ b ∙ interface-byte p3 .1;
+        items = items-kept g modeAt mode (λ h. omega arith) lg;
+        interface = other g modeAt mode interfaceAt (λ y. omega arith) ∙ other f typesEndAt e0 interfaceAt (λ y. omega arith) ∙ other d typesStartAt s0 interfaceAt (λ y. omega arith) ∙ other c testsEndAt e4 interfaceAt (λ y. omega arith) ∙ other a testsStartAt s4 interfaceAt (λ y. omega arith) ∙ stored plan interfaceAt byte (l .size) (omega arith) ∙ b ∙ interface-byte p3 .1;
+        mode = m ∙ ap (λ (x : ℕ). eqb x 1) (sym (stored g modeAt mode (lg .size) (omega arith)));
         fewVariables = few .variables;
-        types = rw (other f typesEndAt e0 typesStartAt (λ y. omega arith) ∙ stored d typesStartAt s0 (ld .size) (omega arith), stored f typesEndAt e0 (lf .size) (omega arith)) (part-placed p0 (q .variables));
+        types = rw (other g modeAt mode typesStartAt (λ y. omega arith) ∙ other f typesEndAt e0 typesStartAt (λ y. omega arith) ∙ stored d typesStartAt s0 (ld .size) (omega arith), other g modeAt mode typesEndAt (λ y. omega arith) ∙ stored f typesEndAt e0 (lf .size) (omega arith)) (part-placed p0 (q .variables));
         fewTests = few .tests;
-        tests = rw (other f typesEndAt e0 testsStartAt (λ y. omega arith) ∙ other d typesStartAt s0 testsStartAt (λ y. omega arith) ∙ other c testsEndAt e4 testsStartAt (λ y. omega arith) ∙ stored a testsStartAt s4 (la .size) (omega arith), other f typesEndAt e0 testsEndAt (λ y. omega arith) ∙ other d typesStartAt s0 testsEndAt (λ y. omega arith) ∙ stored c testsEndAt e4 (lc .size) (omega arith)) (part-placed p4 (q .tests));
+        tests = rw (other g modeAt mode testsStartAt (λ y. omega arith) ∙ other f typesEndAt e0 testsStartAt (λ y. omega arith) ∙ other d typesStartAt s0 testsStartAt (λ y. omega arith) ∙ other c testsEndAt e4 testsStartAt (λ y. omega arith) ∙ stored a testsStartAt s4 (la .size) (omega arith), other g modeAt mode testsEndAt (λ y. omega arith) ∙ other f typesEndAt e0 testsEndAt (λ y. omega arith) ∙ other d typesStartAt s0 testsEndAt (λ y. omega arith) ∙ stored c testsEndAt e4 (lc .size) (omega arith)) (part-placed p4 (q .tests));
       }

@@ -4,11 +4,12 @@ use mathlib.Core.List.{List}
 use Prim.Native.Nat.{ℕ, _+_, _-_, _<_, _≤_}
 use native.Mathlib.Omega.{arith}
 use native.Mathlib.Decide.{ℕ-discrete}
+use lib.Dec.{eqb}
 use lib.ListN.{length, getD, set, length-set}
 use lib.Seq.{getD-set-same, getD-set-other}
 use Rattle.meaning.specs.Image.{RuleGraph, Rule, limits}
 use Rattle.fields.specs.Parsed.{types-is}
-use Rattle.plan.specs.Plan.{Items, Laid, FirstAt, Labelled, constantAt, elementsAt, listsAt, planLength, sortAt, typesEndAt, typesStartAt, beforeAt, endAt, firstAt, singlesAt, startAt, decidesAt, edgesAt, interfaceAt, nodesAt, testsAt, testsEndAt, testsStartAt}
+use Rattle.plan.specs.Plan.{Items, Laid, FirstAt, Labelled, constantAt, elementsAt, listsAt, planLength, sortAt, typesEndAt, typesStartAt, beforeAt, endAt, firstAt, singlesAt, startAt, decidesAt, edgesAt, interfaceAt, modeAt, nodesAt, testsAt, testsEndAt, testsStartAt}
 use Rattle.planning.specs.Planning.{Named, AllLabelled}
 use Rattle.plan.specs.Places.{part-length}
 
@@ -47,6 +48,7 @@ module _ {plan after : List ℕ} (size : length after ≡ length plan) where
         holds = l .holds;
         items = items-same (λ x h k. same x (λ e. let a = k (omega arith) in omega arith) (λ q. omega arith) (omega arith)) (l .items);
         interface = same interfaceAt (λ e. omega arith) (λ h. omega arith) (omega arith) ∙ l .interface;
+        mode = l .mode ∙ ap (λ (m : ℕ). eqb m 1) (sym (same modeAt (λ e. omega arith) (λ h. omega arith) (omega arith)));
         fewVariables = l .fewVariables;
         types = rw (same typesStartAt (λ e. omega arith) (λ h. omega arith) (omega arith), same typesEndAt (λ e. omega arith) (λ h. omega arith) (omega arith)) (l .types);
         fewTests = l .fewTests;

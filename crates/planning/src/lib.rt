@@ -322,6 +322,7 @@ pub fn make(rule: &[u8], plan: &mut [usize; At::LENGTH])
     plan[At::TESTS_END] = tests.end;
     plan[At::TYPES_START] = types.start;
     plan[At::TYPES_END] = types.end;
+    plan[At::MODE] = parts::mode_of(rule);
     plan_variables(rule, plan);
     plan_labels(rule, plan);
     plan_tests(rule, plan);

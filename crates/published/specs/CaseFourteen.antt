@@ -3,7 +3,7 @@
 -- node labelled 2147483648. Rests on OneCall.
 use Prim.Native.Nat.{ℕ, zero, suc, _*_, _<_}
 use mathlib.Core.Path.{_≡_, refl, sym, _∙_, ap}
-use mathlib.Core.Bool.{true}
+use mathlib.Core.Bool.{true, false}
 use mathlib.Core.Option.{some, none}
 use mathlib.Core.List.{List, [], _∷_, _++_, append-nil}
 use native.Mathlib.Omega.{arith}
@@ -59,6 +59,7 @@ rule =
       right = record { nodes = record { mark = noneMark; root = 0; label = Sum (variableOperand 0) (constantOperand 1) ∷ [] } ∷ []; edges = [] };
       interface = 1;
       tests = [];
+      preserving = false;
     }
 
 abbrev tree : Program

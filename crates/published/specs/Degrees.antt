@@ -70,7 +70,7 @@ module _ (r : Rule) (holds : ruleHolds r ≡ true) (G : Graph) (m : Matches r G)
 -- r with other tests
 abbrev withTests : Rule → List Test → Rule
 withTests r t =
-    record { variables = r .variables; left = r .left; right = r .right; interface = r .interface; tests = t }
+    record { variables = r .variables; left = r .left; right = r .right; interface = r .interface; tests = t; preserving = r .preserving }
 
 -- a match of r, if these are true there
 retested : (r : Rule) (t : List Test) (G : Graph) (m : Matches r G) → True G (m .g .node) (m .α .of) t → Matches (withTests r t) G

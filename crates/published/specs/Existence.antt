@@ -23,7 +23,7 @@ use Rattle.meaning.specs.declared.Element.{Element}
 use Rattle.meaning.specs.declared.Element.the-variants.{Constant, Variable, Sum, Difference}
 use Rattle.published.specs.Integers.{atom}
 use Rattle.published.specs.Graphs.{NodeLabel, Graph}
-use Rattle.published.specs.RuleApplication.{nodeOf, edgeOf, Premorphism, integer, Instance, StaysNode, StaysEdge, Union, markFrom, placed, Constructed, Matches, Applies, Applied}
+use Rattle.published.specs.RuleApplication.{nodeOf, edgeOf, Premorphism, integer, Instance, StaysNode, StaysEdge, Union, markFrom, rootFrom, placed, Constructed, Matches, Applies, Applied}
 use Rattle.published.specs.OneResult.{value-of}
 use Rattle.published.specs.Semantics.{⟦_⟧, call, graph, fails, [call₁], [call₂], last, next}
 use Rattle.published.specs.Endings.{result-stays, failure-stays}
@@ -149,15 +149,24 @@ module _ (r : Rule) (holds : ruleHolds r ≡ true) (G : Graph) (m : Matches r G)
 
   -- Labels.
 
-  abbrev nodeInstance : RuleNode → ℕ → NodeLabel
-  nodeInstance n mark = record { mark = mark; root = n .root; list = instanceOf α (n .label) }
+  abbrev nodeInstance : RuleNode → ℕ → ℕ → NodeLabel
+  nodeInstance n mark root = record { mark = mark; root = root; list = instanceOf α (n .label) }
+
+  -- of node i of the interface, from the label that it had
+  abbrev interfaceInstance : ℕ → NodeLabel → NodeLabel
+  interfaceInstance i before =
+      nodeInstance (nodeOf (r .right) i) (markFrom (before .mark) (nodeOf (r .right) i .mark))
+      (rootFrom (r .preserving) (nodeOf (r .left) i .root) (before .root) (nodeOf (r .right) i .root))
+
+  abbrev newInstance : ℕ → NodeLabel
+  newInstance j = nodeInstance (nodeOf (r .right) j) (nodeOf (r .right) j .mark) (nodeOf (r .right) j .root)
 
   -- of a node that stays: of the interface, or another
   abbrev Taken : ℕ → Type 0
   Taken v = ((i : ℕ) × (i < r .interface) × (g .node i ≡ v)) ⊎ ((i : ℕ) → i < r .interface → g .node i ≡ v → ⊥)
 
   keptBy : (v : ℕ) → Taken v → NodeLabel
-  keptBy v (inl t) = nodeInstance (nodeOf (r .right) (t .0)) (markFrom (G .nodeLabel v .mark) (nodeOf (r .right) (t .0) .mark))
+  keptBy v (inl t) = interfaceInstance (t .0) (G .nodeLabel v)
   keptBy v (inr f) = G .nodeLabel v
 
   keptLabel : ℕ → NodeLabel
@@ -171,17 +180,15 @@ module _ (r : Rule) (holds : ruleHolds r ≡ true) (G : Graph) (m : Matches r G)
       at (inl t) = absurd (n (t .0) (t .1) (t .2))
       at (inr f) = refl
 
-  kept-interface : (i : ℕ) → i < r .interface
-      → keptLabel (g .node i) ≡ nodeInstance (nodeOf (r .right) i) (markFrom (G .nodeLabel (g .node i) .mark) (nodeOf (r .right) i .mark))
+  kept-interface : (i : ℕ) → i < r .interface → keptLabel (g .node i) ≡ interfaceInstance i (G .nodeLabel (g .node i))
   unfolding keptLabel keptBy
   kept-interface i k = at (value-of (g .node) (r .interface) (g .node i))
     where
-      at : (t : Taken (g .node i))
-          → keptBy (g .node i) t ≡ nodeInstance (nodeOf (r .right) i) (markFrom (G .nodeLabel (g .node i) .mark) (nodeOf (r .right) i .mark))
+      at : (t : Taken (g .node i)) → keptBy (g .node i) t ≡ interfaceInstance i (G .nodeLabel (g .node i))
       at (inl t) =
           let l = interface-left r holds in
           let e = m .injective .nodes (t .0) i (omega (arith, t .1)) (omega arith) (t .2) in
-          ap (λ (j : ℕ). nodeInstance (nodeOf (r .right) j) (markFrom (G .nodeLabel (g .node i) .mark) (nodeOf (r .right) j .mark))) e
+          ap (λ (j : ℕ). interfaceInstance j (G .nodeLabel (g .node i))) e
       at (inr f) = absurd (f i k refl)
 
   -- The result.
@@ -196,7 +203,7 @@ module _ (r : Rule) (holds : ruleHolds r ≡ true) (G : Graph) (m : Matches r G)
         isEdge = split staysEdge (λ k. ltb k (length (r .right .edges)));
         source = split (λ e. keep (G .source e)) (λ k. rightEnd (edgeOf (r .right) k .source));
         target = split (λ e. keep (G .target e)) (λ k. rightEnd (edgeOf (r .right) k .target));
-        nodeLabel = split keptLabel (λ j. nodeInstance (nodeOf (r .right) j) (nodeOf (r .right) j .mark));
+        nodeLabel = split keptLabel newInstance;
         edgeLabel = split (G .edgeLabel) (λ k. record { mark = edgeOf (r .right) k .mark; list = instanceOf α (edgeOf (r .right) k .label) });
       }
 
@@ -220,10 +227,10 @@ module _ (r : Rule) (holds : ruleHolds r ≡ true) (G : Graph) (m : Matches r G)
         newTargets = λ k l. split-new _ _ k;
         keptLabels = λ v s n. split-keep _ _ v ∙ kept-other v n;
         interfaceLabels = λ i k.
-            rw (split-keep keptLabel (λ j. nodeInstance (nodeOf (r .right) j) (nodeOf (r .right) j .mark)) (g .node i), kept-interface i k)
+            rw (split-keep keptLabel newInstance (g .node i), kept-interface i k)
             (record { list = instance-is α (nodeOf (r .right) i .label); root = refl; mark = refl });
         newLabels = λ j k l.
-            rw (split-new keptLabel (λ j. nodeInstance (nodeOf (r .right) j) (nodeOf (r .right) j .mark)) j)
+            rw (split-new keptLabel newInstance j)
             (record { list = instance-is α (nodeOf (r .right) j .label); root = refl; mark = refl });
         keptEdgeLabels = λ e s. split-keep _ _ e;
         newEdgeLabels = λ k l.

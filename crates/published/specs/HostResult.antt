@@ -3,7 +3,7 @@
 use Prim.Native.Nat.{ℕ, zero, suc, _+_, _<_, _≤_, max}
 use mathlib.Core.Path.{_≡_, refl, ap}
 use mathlib.Core.Logic.{_⊎_, inl, inr}
-use mathlib.Core.Bool.{true, false}
+use mathlib.Core.Bool.{Bool, true, false}
 use native.Mathlib.Omega.{arith}
 use native.Mathlib.Decide.{decLt}
 use lib.Dec.{eqb}
@@ -15,9 +15,9 @@ use Rattle.meaning.specs.References.{ruleHolds}
 use Rattle.meaning.specs.Laws.Tests.{choose-lt, choose-le, either-not}
 use Rattle.meaning.specs.Laws.Every.{Every-at}
 use Rattle.meaning.specs.Laws.Interface.{interface-left}
-use Rattle.laws.specs.Values.{LegalRule, right-marked, new-marked, node-mark}
+use Rattle.laws.specs.Values.{LegalRule, right-marked, new-marked, node-mark, choose-most}
 use Rattle.published.specs.Graphs.{NodeLabel, EdgeLabel, Graph, Node, Edge, HostGraph}
-use Rattle.published.specs.RuleApplication.{nodeOf, edgeOf, StaysNode, StaysEdge, NodeInstance, placed, Constructed, Matches, Applies}
+use Rattle.published.specs.RuleApplication.{nodeOf, edgeOf, StaysNode, StaysEdge, NodeInstance, rootFrom, placed, Constructed, Matches, Applies}
 use Rattle.published.specs.Application.Values.{node-formed, edge-formed}
 use Rattle.published.specs.Isomorphism.{interface-stays}
 use Rattle.published.specs.OneResult.{on-union, value-of, source-stays, target-stays, right-end}
@@ -47,6 +47,10 @@ top-lt f (suc n) x h = at (decLt x n) (top-lt f n x)
     at : Dec (x < n) → (x < n → f x < top f n) → f x < max (suc (f n)) (top f n)
     at (yes k) ih = let l = ih k in omega arith
     at (no k) ih = let e : x ≡ n = omega arith in let q = ap f e in omega arith
+
+root-most : (preserving : Bool) (left before right : ℕ) → right ≤ 1 → before ≤ 1 → rootFrom preserving left before right ≤ 1
+root-most false left before right h k = h
+root-most true left before right h k = choose-most _ before right 1 k h
 
 module _ (r : Rule) (rule : LegalRule r) (G : Graph) (host : HostGraph G) (m : Matches r G) (H : Graph)
     (c : Constructed r G (m .g) (m .α .of) H)
@@ -88,18 +92,20 @@ module _ (r : Rule) (rule : LegalRule r) (G : Graph) (host : HostGraph G) (m : M
 
     -- Labels.
 
-    node-host : (j mark : ℕ) (l : NodeLabel) → isNodeMark mark ≡ true → NodeInstance (m .α .of) (nodeOf (r .right) j) mark l → HostNodeLabel l
-    node-host j mark l h i =
+    node-host : (j mark root : ℕ) (l : NodeLabel) → isNodeMark mark ≡ true → root ≤ 1 → NodeInstance (m .α .of) (nodeOf (r .right) j) mark root l
+        → HostNodeLabel l
+    node-host j mark root l h t i =
         record {
           mark = rw (i .mark) h;
-          root = rw (i .root) (node-formed r rule j .root);
+          root = rw (i .root) t;
         }
 
     node-label : (v : ℕ) → Node H v → HostNodeLabel (H .nodeLabel v)
     node-label =
         on-nodes (λ v. HostNodeLabel (H .nodeLabel v)) (λ v s. kept v s (value-of (m .g .node) (r .interface) v))
         (λ j n.
-        node-host j _ _ (either-not _ _ (node-formed r rule j .mark) (new-marked r holds j (n .0) (n .1) _)) (c .newLabels j (n .0) (n .1)))
+        node-host j _ _ _ (either-not _ _ (node-formed r rule j .mark) (new-marked r holds j (n .0) (n .1) _)) (node-formed r rule j .root)
+        (c .newLabels j (n .0) (n .1)))
       where
         kept : (v : ℕ) → StaysNode r G (m .g) v
             → ((i : ℕ) × (i < r .interface) × (m .g .node i ≡ v)) ⊎ ((i : ℕ) → i < r .interface → m .g .node i ≡ v → ⊥)
@@ -107,8 +113,9 @@ module _ (r : Rule) (rule : LegalRule r) (G : Graph) (host : HostGraph G) (m : M
         kept v s (inl t) =
             let a = interface-left r holds in
             rw (← (t .2))
-            (node-host (t .0) _ _
+            (node-host (t .0) _ _ _
             (node-mark _ _ (node-formed r rule (t .0) .mark) (host .nodeMarks _ (m .g .nodes (t .0) (omega (arith, t .1)))))
+            (root-most (r .preserving) _ _ _ (node-formed r rule (t .0) .root) (host .roots _ (m .g .nodes (t .0) (omega (arith, t .1)))))
             (c .interfaceLabels (t .0) (t .1)))
         kept v s (inr f) =
             rw (c .keptLabels v s f)

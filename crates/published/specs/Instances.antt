@@ -1,5 +1,6 @@
 -- Programs that can come to one thing only, from the bytes of their images, each on the graphs that have an invariant of its own; why
--- an invariant is needed; and a program whose rules match where those of another do. Rests on OnlyOutcome and Degrees.
+-- an invariant is needed; a program whose rules match where those of another do; and a rule in both modes. Rests on OnlyOutcome and
+-- Degrees.
 pub mod RedRoot
 pub mod TwoRoots
 pub mod Walk
@@ -12,3 +13,4 @@ pub mod Chains
 pub mod IsTree
 pub mod OneEdgeMore
 pub mod TransitiveClosure
+pub mod BothModes

@@ -34,8 +34,8 @@ module _ (α : ℕ → List ℕ) where
       let q = instance-one l (e .1) (f .1) (e .3) (f .3) in
       e .4 ∙ rw (p, q) (sym (f .4))
 
-  node-one : (n : RuleNode) (m : ℕ) (a b : NodeLabel) → NodeInstance α n m a → NodeInstance α n m b → a ≡ b
-  node-one n m a b e f =
+  node-one : (n : RuleNode) (m t : ℕ) (a b : NodeLabel) → NodeInstance α n m t a → NodeInstance α n m t b → a ≡ b
+  node-one n m t a b e f =
       let p = e .mark ∙ sym (f .mark) in
       let q = e .root ∙ sym (f .root) in
       let s = instance-one (n .label) (a .list) (b .list) (e .list) (f .list) in
@@ -213,13 +213,13 @@ module _ (r : Rule) (holds : ruleHolds r ≡ true) (G : Graph) (host : HostGraph
       where
         at : ((i : ℕ) × (i < r .interface) × (g .node i ≡ v)) ⊎ ((i : ℕ) → i < r .interface → g .node i ≡ v → ⊥)
             → H′ .nodeLabel (c′ .keepNode v) ≡ H .nodeLabel (c .keepNode v)
-        at (inl t) = rw (← (t .2)) (node-one (m .α .of) _ _ _ _ (c′ .interfaceLabels (t .0) (t .1)) (c .interfaceLabels (t .0) (t .1)))
+        at (inl t) = rw (← (t .2)) (node-one (m .α .of) _ _ _ _ _ (c′ .interfaceLabels (t .0) (t .1)) (c .interfaceLabels (t .0) (t .1)))
         at (inr f) = c′ .keptLabels v s f ∙ sym (c .keptLabels v s f)
 
     labels-over : (v : ℕ) → Node H v → H′ .nodeLabel (node v) ≡ H .nodeLabel v
     labels-over =
         on-nodes (λ v. H′ .nodeLabel (node v) ≡ H .nodeLabel v) (λ v s. rw (node-kept v s) (kept-label v s))
-        (λ j n. rw (node-new j n) (node-one (m .α .of) _ _ _ _ (c′ .newLabels j (n .0) (n .1)) (c .newLabels j (n .0) (n .1))))
+        (λ j n. rw (node-new j n) (node-one (m .α .of) _ _ _ _ _ (c′ .newLabels j (n .0) (n .1)) (c .newLabels j (n .0) (n .1))))
 
     edge-labels-over : (e : ℕ) → Edge H e → H′ .edgeLabel (edge e) ≡ H .edgeLabel e
     edge-labels-over =

@@ -3,7 +3,8 @@
 -- A rule ⟨L ← K → R, c⟩ is a Rule: L is r .left, R is r .right, the nodes of K are the numbers below r .interface, and c asks
 -- for all of r .tests. Nodes and edges of L and R are named by their numbers.
 -- As in document 000, integers have no bound and labels no greatest length, so that every sum and difference has a value and
--- every label an instance; and roots go with roots, other nodes with other nodes (its 2.3: morphisms reflect rootedness).
+-- every label an instance. A rule that is not preserving has its morphisms, which reflect rootedness (its 2.3); one that is has
+-- those of GP 2 before that mode (document 003's 3.3), which preserve it.
 -- What differs, as document 01 decides:
 -- the mark any (magenta in document 000's 2.1) goes with every mark, none included, and on the right keeps the mark; document
 -- 000 has it match arbitrary marks, and does not speak of items without one.
@@ -19,7 +20,7 @@ use lib.ListN.{length, getD}
 use lib.Dec.{eqb, ltb}
 use lib.IntN.{ℤ, _+ℤ_, _-ℤ_}
 use lib.Signed.{ltZ}
-use Rattle.meaning.specs.Basics.{choose}
+use Rattle.meaning.specs.Basics.{choose, both}
 use Rattle.meaning.specs.Image.{RuleNode, RuleEdge, RuleGraph, Rule}
 use Rattle.meaning.specs.Tags.{anyMark}
 use Rattle.meaning.specs.References.{isInt}
@@ -82,16 +83,22 @@ module _ (α : ℕ → List ℕ) where
   Instance [] l = l ≡ []
   Instance (x ∷ xs) l = (a b : List ℕ) × Evaluates x a × Instance xs b × (l ≡ a ++ b)
 
+-- The root flags of a node of L and of the node that it goes to. Reflecting (document 000's 2.3): a root goes to a root, any other
+-- node to one that is none. Preserving (document 003's 3.3): a root goes to a root.
+abbrev pub RootsGo : Bool → ℕ → ℕ → Type 0
+RootsGo false left host = left ≡ host
+RootsGo true left host = left ≡ 1 → host ≡ 1
+
 -- Definition 2.6: g and α are compatible if the label of g(u) is the instance of the label of u, for all nodes and edges u of
--- L: its list, its mark unless that is any, and whether it is a root.
-pub record Compatible (L : RuleGraph) (G : Graph) (g : Premorphism L G) (α : ℕ → List ℕ) : Type 0 where
+-- L: its list, its mark unless that is any, and whether it is a root, as the rule's mode asks.
+pub record Compatible (preserving : Bool) (L : RuleGraph) (G : Graph) (g : Premorphism L G) (α : ℕ → List ℕ) : Type 0 where
   pub nodes : (i : ℕ) → i < length (L .nodes) → Instance α (nodeOf L i .label) (G .nodeLabel (g .node i) .list)
   pub edges : (k : ℕ) → k < length (L .edges) → Instance α (edgeOf L k .label) (G .edgeLabel (g .edge k) .list)
   pub nodeMarks : (i : ℕ) → i < length (L .nodes) → (nodeOf L i .mark ≡ anyMark → ⊥)
       → nodeOf L i .mark ≡ G .nodeLabel (g .node i) .mark
   pub edgeMarks : (k : ℕ) → k < length (L .edges) → (edgeOf L k .mark ≡ anyMark → ⊥)
       → edgeOf L k .mark ≡ G .edgeLabel (g .edge k) .mark
-  pub roots : (i : ℕ) → i < length (L .nodes) → nodeOf L i .root ≡ G .nodeLabel (g .node i) .root
+  pub roots : (i : ℕ) → i < length (L .nodes) → RootsGo preserving (nodeOf L i .root) (G .nodeLabel (g .node i) .root)
 
 -- Step 2 of Definition 2.7, the dangling condition: an edge of G that is incident to a node of g(V_L − V_K) is in g(E_L).
 
@@ -160,10 +167,10 @@ pub record Union (A B C : ℕ → Type 0) (f h : ℕ → ℕ) : Type 0 where
   pub apart : (x y : ℕ) → A x → B y → f x ≡ h y → ⊥
   pub all : (z : ℕ) → C z → ((x : ℕ) × A x × (f x ≡ z)) ⊎ ((x : ℕ) × B x × (h x ≡ z))
 
--- the label l is the instance of a right node's label, with the mark m
-pub record NodeInstance (α : ℕ → List ℕ) (n : RuleNode) (m : ℕ) (l : NodeLabel) : Type 0 where
+-- the label l is the instance of a right node's label, with the mark m and the root flag t
+pub record NodeInstance (α : ℕ → List ℕ) (n : RuleNode) (m t : ℕ) (l : NodeLabel) : Type 0 where
   pub list : Instance α (n .label) (l .list)
-  pub root : l .root ≡ n .root
+  pub root : l .root ≡ t
   pub mark : l .mark ≡ m
 
 -- the label l is the instance of a right edge's label
@@ -174,6 +181,12 @@ pub record EdgeInstance (α : ℕ → List ℕ) (e : RuleEdge) (l : EdgeLabel) :
 -- the mark of a right node, where any is the mark that the node has in G
 abbrev pub markFrom : ℕ → ℕ → ℕ
 markFrom before mark = choose (eqb mark anyMark) before mark
+
+-- the root flag of a node of K in H: that of R; a node that is a root neither in L nor in R is left as it was in G by a
+-- preserving rule, where it may have been one
+abbrev pub rootFrom : Bool → ℕ → ℕ → ℕ → ℕ
+rootFrom false left before right = right
+rootFrom true left before right = choose (both (eqb left 0) (eqb right 0)) before right
 
 -- a right node in H: a node of K is the node of D that g takes it to, any other is new
 abbrev pub placed : Rule → (ℕ → ℕ) → (ℕ → ℕ) → (ℕ → ℕ) → ℕ → ℕ
@@ -199,9 +212,11 @@ pub record Constructed (r : Rule) (G : Graph) (g : Premorphism (r .left) G) (α 
   pub keptLabels : (v : ℕ) → StaysNode r G g v → ((i : ℕ) → i < r .interface → g .node i ≡ v → ⊥)
       → H .nodeLabel (keepNode v) ≡ G .nodeLabel v
   pub interfaceLabels : (i : ℕ) → i < r .interface
-      → NodeInstance α (nodeOf (r .right) i) (markFrom (G .nodeLabel (g .node i) .mark) (nodeOf (r .right) i .mark)) (H .nodeLabel (keepNode (g .node i)))
+      → NodeInstance α (nodeOf (r .right) i) (markFrom (G .nodeLabel (g .node i) .mark) (nodeOf (r .right) i .mark))
+      (rootFrom (r .preserving) (nodeOf (r .left) i .root) (G .nodeLabel (g .node i) .root) (nodeOf (r .right) i .root))
+      (H .nodeLabel (keepNode (g .node i)))
   pub newLabels : (j : ℕ) → r .interface ≤ j → j < length (r .right .nodes)
-      → NodeInstance α (nodeOf (r .right) j) (nodeOf (r .right) j .mark) (H .nodeLabel (newNode j))
+      → NodeInstance α (nodeOf (r .right) j) (nodeOf (r .right) j .mark) (nodeOf (r .right) j .root) (H .nodeLabel (newNode j))
   -- (e) the edges of D keep their labels; those of R have the instances of theirs
   pub keptEdgeLabels : (e : ℕ) → StaysEdge r G g e → H .edgeLabel (keepEdge e) ≡ G .edgeLabel e
   pub newEdgeLabels : (k : ℕ) → k < length (r .right .edges) → EdgeInstance α (edgeOf (r .right) k) (H .edgeLabel (newEdge k))
@@ -212,7 +227,7 @@ pub record Matches (r : Rule) (G : Graph) : Type 0 where
   pub g : Premorphism (r .left) G
   pub injective : Injective (r .left) G g
   pub α : Assignment r
-  pub compatible : Compatible (r .left) G g (α .of)
+  pub compatible : Compatible (r .preserving) (r .left) G g (α .of)
   -- 2. the dangling condition
   pub dangling : Dangling r G g
   -- 3. the condition is true

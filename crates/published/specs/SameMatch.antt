@@ -114,8 +114,8 @@ module _ (α β : ℕ → List ℕ) where
   instance-same [] a e i = i
   instance-same (x ∷ l) a e i = (i .0, i .1, evaluates-same x (i .0) (e .0) (i .2), instance-same l (i .1) (e .1) (i .3), i .4)
 
-  node-same : (n : RuleNode) (k : ℕ) (l : NodeLabel) → Same (n .label) → NodeInstance α n k l → NodeInstance β n k l
-  node-same n k l e i = record { list = instance-same (n .label) (l .list) e (i .list); root = i .root; mark = i .mark }
+  node-same : (n : RuleNode) (k t : ℕ) (l : NodeLabel) → Same (n .label) → NodeInstance α n k t l → NodeInstance β n k t l
+  node-same n k t l e i = record { list = instance-same (n .label) (l .list) e (i .list); root = i .root; mark = i .mark }
 
   edge-same : (n : RuleEdge) (l : EdgeLabel) → Same (n .label) → EdgeInstance α n l → EdgeInstance β n l
   edge-same n l e i = record { list = instance-same (n .label) (l .list) e (i .list); mark = i .mark }
@@ -204,9 +204,9 @@ module _ (r : Rule) (sound : Sound r) (G : Graph) (m n : Matches r G) (agree : A
         keptLabels = λ v s f. c .keptLabels v (back v s) (λ i k e. f i k (sym (agree .nodes i (inside i k)) ∙ e));
         interfaceLabels = λ i k.
             rw (← (agree .nodes i (inside i k)))
-            (node-same (m .α .of) (n .α .of) _ _ _ (alike (nodeOf (r .right) i .label) (right-node r (sound .holds) i)) (c .interfaceLabels i k));
+            (node-same (m .α .of) (n .α .of) _ _ _ _ (alike (nodeOf (r .right) i .label) (right-node r (sound .holds) i)) (c .interfaceLabels i k));
         newLabels = λ j k l.
-            node-same (m .α .of) (n .α .of) _ _ _ (alike (nodeOf (r .right) j .label) (right-node r (sound .holds) j)) (c .newLabels j k l);
+            node-same (m .α .of) (n .α .of) _ _ _ _ (alike (nodeOf (r .right) j .label) (right-node r (sound .holds) j)) (c .newLabels j k l);
         keptEdgeLabels = λ e s. c .keptEdgeLabels e (edge-back e s);
         newEdgeLabels = λ k l.
             edge-same (m .α .of) (n .α .of) _ _ (alike (edgeOf (r .right) k .label) (right-edge r (sound .holds) k)) (c .newEdgeLabels k l);

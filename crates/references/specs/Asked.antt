@@ -42,7 +42,7 @@ elementAsked (Lacks u) ts e = absent u (elementNames e)
 abbrev pub typed : List ℕ → Rule
 typed ts =
     let none : RuleGraph = record { nodes = []; edges = [] } in
-    record { variables = ts; left = none; right = none; interface = 0; tests = [] }
+    record { variables = ts; left = none; right = none; interface = 0; tests = []; preserving = false }
 
 abbrev pub listsIn : List ℕ → List Element → ℕ
 listsIn ts l = lists (typed ts) l

@@ -1,4 +1,4 @@
--- What the bytes of a live node's slot say of its mark. Rests on the meaning's Layout and Matching, on its laws of slots, and on
+-- What the bytes of a live node's slot say of the node. Rests on the meaning's Layout and Matching, on its laws of slots, and on
 -- laws' Pieces and Layout.
 use Prim.Native.Nat.{ℕ, _/_, _<_}
 use mathlib.Core.Path.{_≡_, sym, _∙_, ap}
@@ -7,7 +7,7 @@ use mathlib.Core.Bool.{true}
 use native.Mathlib.Omega.{arith}
 use native.Mathlib.Decide.{ℕ-discrete}
 use lib.ListN.{length, getD}
-use Rattle.meaning.specs.Layout.{Node, free, live, isLive, liveAt, Sized, statePlace, markPlace, nodeLength, cut, readNode, readNodes}
+use Rattle.meaning.specs.Layout.{free, live, isLive, liveAt, Sized, statePlace, nodeLength, cut, readNode, readNodes}
 use Rattle.meaning.specs.Matching.{nodeIn}
 use Rattle.meaning.specs.Laws.Slots.{liveAt-lt}
 use Rattle.laws.specs.Pieces.{getD-map, length-pieces, length-read}
@@ -18,9 +18,9 @@ module _ {L : Layout} (sized : Sized L) (bs : List ℕ) (i : ℕ) (alive : liveA
   there : i < length bs / nodeLength L
   there = omega (arith, liveAt-lt (readNodes L bs) i alive, length-read (nodeLength L) readNode bs)
 
-  pub node-mark : (b : List ℕ) → b ≡ getD (cut (L .node) bs) i [] → getD b markPlace 0 ≡ nodeIn (getD (readNodes L bs) i free) .mark
+  pub node-held : (b : List ℕ) → b ≡ getD (cut (L .node) bs) i [] → nodeOf b ≡ nodeIn (getD (readNodes L bs) i free)
   unfolding isLive nodeIn
-  node-mark b e = sym (ap (λ (n : Node). n .mark) (ap nodeIn (is ∙ at (ℕ-discrete (getD b statePlace 0) 0))))
+  node-held b e = sym (ap nodeIn (is ∙ at (ℕ-discrete (getD b statePlace 0) 0)))
     where
       is : getD (readNodes L bs) i free ≡ readNode b
       is =

@@ -5,14 +5,14 @@ use mathlib.Core.Option.{some}
 use mathlib.Core.List.{List}
 use Prim.Native.Nat.{ℕ, _+_, _<_}
 use native.Mathlib.Omega.{arith}
-use lib.Dec.{eqb}
+use lib.Dec.{eqb, ltb}
 use lib.ListN.{length, getD}
 use Rattle.meaning.specs.Basics.{choose, each}
 use Rattle.meaning.specs.Layout.{Node, Edge, Host}
 use Rattle.meaning.specs.Image.{RuleNode, RuleEdge, Rule, ruleNode, ruleEdge}
 use Rattle.meaning.specs.Tags.{anyMark, edgeTag, nodeTag}
 use Rattle.meaning.specs.References.{names}
-use Rattle.meaning.specs.Matching.{nodeAt, nodeSlot, Assignment}
+use Rattle.meaning.specs.Matching.{nodeAt, leftNode, nodeSlot, Assignment}
 use Rattle.meaning.specs.Assigned.{assigned}
 use Rattle.meaning.specs.Applying.{labelValue, rootTaken, rightNode, rightNodes, rightEdge, Right, rightSide}
 use Rattle.meaning.specs.Laws.Tests.{some-inj, bind-some}
@@ -30,7 +30,7 @@ use Rattle.values.specs.declared.Valued.{Valued}
 -- the value of right node j, and of a right edge
 pub record NodeValue (most : ℕ) (r : Rule) (α : Assignment) (h : Host) (p : List ℕ) (j : ℕ) (n : RuleNode) (a : Node) : Type 0 where
   pub mark : a .mark ≡ choose (eqb (n .mark) anyMark) (nodeAt h (nodeSlot p j) .mark) (n .mark)
-  pub root : a .root ≡ rootTaken r j (n .root) (nodeAt h (nodeSlot p j) .root)
+  pub root : a .root ≡ choose (ltb j (r .interface)) (rootTaken (r .preserving) (leftNode r j .root) (n .root) (nodeAt h (nodeSlot p j) .root)) (n .root)
   pub label : labelValue most α (n .label) ≡ some (a .label)
 
 pub record EdgeValue (most : ℕ) (α : Assignment) (e : RuleEdge) (a : Edge) : Type 0 where

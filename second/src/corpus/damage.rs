@@ -1,6 +1,7 @@
 //! Damaged images: a legal draft with one thing wrong, sometimes two, so that the order of the answers shows.
 
 use super::broken_inputs::*;
+use super::broken_modes::break_mode;
 use super::broken_programs::*;
 use super::drafts::Draft;
 use super::LAYOUT;
@@ -14,6 +15,7 @@ enum Kind {
     References,
     Placement,
     Layout,
+    Mode,
     Guarded,
     Bytes,
     Length,
@@ -25,12 +27,13 @@ enum Kind {
 }
 
 /// Each kind with its weight.
-const KINDS: [(Kind, usize); 12] = [
+const KINDS: [(Kind, usize); 13] = [
     (Kind::Form, 14),
     (Kind::References, 24),
     (Kind::Placement, 10),
     (Kind::Layout, 16),
-    (Kind::Guarded, 10),
+    (Kind::Mode, 13),
+    (Kind::Guarded, 13),
     (Kind::Bytes, 11),
     (Kind::Length, 1),
     (Kind::Nodes, 6),
@@ -54,6 +57,7 @@ pub fn damaged(random: &mut Random, mut draft: Draft) -> Vec<u8> {
     for kind in &kinds {
         match kind {
             Kind::Layout => break_layout(random, &draft.host, &mut input),
+            Kind::Mode => break_mode(random, &draft.program.rules, &mut input.program),
             Kind::Guarded => break_guarded(random, &mut input.program),
             Kind::Bytes => mangle(random, &mut input.program),
             Kind::Length => make_too_long(random, &mut input.program),

@@ -1,8 +1,10 @@
-//! The images at the front of every corpus: the cases of document 01, corners that random images meet seldom, an
+//! The images at the front of every corpus: the cases of document 01, corners that random images meet seldom, modes of rules, an
 //! image for each clause that can refuse, the accepted ones that stand beside them, and some refused twice over.
 
 use super::cases::cases;
 use super::corners::corners;
+use super::mode_programs::mode_programs;
+use super::modes::modes;
 use crate::encode::{runner_input, RunnerInput};
 use crate::refusals::{of_run, of_runner, run_refused_for};
 use std::sync::OnceLock;
@@ -19,6 +21,8 @@ pub fn fixed_images() -> &'static [Vec<u8>] {
 fn cases_and_refusals() -> Vec<Vec<u8>> {
     let mut inputs = cases();
     inputs.extend(corners());
+    inputs.extend(modes());
+    inputs.extend(mode_programs());
     let calls = of_run();
     inputs.extend(calls.iter().filter_map(|it| it.accepted.runner_input()));
     inputs.extend(calls.iter().filter_map(|it| it.refused.runner_input()));

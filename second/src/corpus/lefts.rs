@@ -41,8 +41,9 @@ struct Part {
 }
 
 impl Left {
-    /// A left side of at most `most` nodes.
-    pub fn draw(random: &mut Random, host: &Host, most: usize) -> Left {
+    /// A left side of at most `most` nodes. Many nodes of a preserving rule that stand for roots are unrooted.
+    pub fn draw(random: &mut Random, host: &Host, most: usize, mode: Option<Mode>) -> Left {
+        let preserving = mode == Some(Mode::Preserving);
         let part = part(random, host, most);
         let mut left = Left {
             interface: part.kept.len(),
@@ -55,7 +56,7 @@ impl Left {
             let label = left.generalised(random, &node.label);
             left.graph.nodes.push(RuleNode {
                 mark: mark_or_any(random, node.mark),
-                root: node.root,
+                root: node.root && !(preserving && random.chance(60)),
                 label,
             });
         }

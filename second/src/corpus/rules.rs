@@ -55,13 +55,15 @@ fn most_left_nodes(nodes: usize) -> usize {
 /// A rule that fits the host, and the host after it, if it can be applied where it was taken from. Now and then
 /// it declares a variable that it doesn't use.
 fn draw(random: &mut Random, palette: &Palette, host: &Host, most: usize) -> (Drawn, Option<Host>) {
-    let mut left = Left::draw(random, host, most);
+    let mode = draw_mode(random);
+    let mut left = Left::draw(random, host, most, mode);
     let special = random.weighted(&[82, 8, 10]);
-    let drawn = match special {
+    let mut drawn = match special {
         1 if count_down(&mut left).is_some() => counting_rule(&left),
         2 if !left.nodes.is_empty() => lengthening_rule(random, palette, host, &left),
         _ => ordinary_rule(random, palette, host, &left),
     };
+    drawn.rule.mode = mode;
     let after = applied(host, &left, &drawn.rule);
     let mut drawn = spoilt(random, palette, drawn);
     if left.values.len() < limit::VARIABLES && random.chance(4) {
@@ -69,6 +71,15 @@ fn draw(random: &mut Random, palette: &Palette, host: &Host, most: usize) -> (Dr
         drawn.rule.variables.push(unused);
     }
     (drawn, after)
+}
+
+/// No mode mostly, else preserving more often than not.
+pub fn draw_mode(random: &mut Random) -> Option<Mode> {
+    match random.weighted(&[72, 6, 22]) {
+        0 => None,
+        1 => Some(Mode::Reflecting),
+        _ => Some(Mode::Preserving),
+    }
 }
 
 fn ordinary_rule(random: &mut Random, palette: &Palette, host: &Host, left: &Left) -> Drawn {
@@ -93,6 +104,7 @@ fn rule(left: &Left, right: RuleGraph, tests: Vec<Test>) -> Rule {
         right,
         interface: left.interface as u8,
         tests,
+        mode: None,
     }
 }
 
@@ -211,11 +223,13 @@ fn put_nodes(after: &mut Host, host: &Host, left: &Left, rule: &Rule) -> Option<
         } else {
             node.mark
         };
-        after.nodes[slot] = Some(Node {
-            mark,
-            root: node.root,
-            label,
-        });
+        let unrooted = !node.root && kept.is_some() && !rule.left.nodes[index].root;
+        let root = if rule.is_preserving() && unrooted {
+            host.node(slot).root
+        } else {
+            node.root
+        };
+        after.nodes[slot] = Some(Node { mark, root, label });
         slots.push(slot);
     }
     Some(slots)

@@ -93,6 +93,9 @@ fn named(exercised: &Exercised) -> Vec<(String, u64)> {
         ("negated tests", e.negated_tests),
         ("marks any matched", e.any_marks_matched),
         ("roots matched", e.roots_matched),
+        ("unrooted on roots matched", e.unrooted_on_roots),
+        ("roots deleted unrooted", e.unrooted_roots_deleted),
+        ("root flags kept", e.root_flags_kept),
         ("constants evaluated", e.elements.constant),
         ("int variables evaluated", e.elements.int_variable),
         ("list variables evaluated", e.elements.list_variable),
@@ -104,16 +107,17 @@ fn named(exercised: &Exercised) -> Vec<(String, u64)> {
         .to_vec();
     named.extend(named_tests("true", &e.tests_true));
     named.extend(named_tests("false", &e.tests_false));
+    named.extend(named_numbers("matches, mode", &e.modes_matched));
     named.extend(named_numbers("loop, in-degree", &e.in_degree_at_loops));
     named.extend(named_numbers("loop, in-degree not", &e.not_in_degree_at_loops));
     named
 }
 
-/// Counts of what is asked about each number from 0 on.
-fn named_numbers(asked: &str, counts: &[u64]) -> Vec<(String, u64)> {
+/// Counts by a number from 0 on.
+fn named_numbers(counted: &str, counts: &[u64]) -> Vec<(String, u64)> {
     let named = counts.iter().enumerate();
     named
-        .map(|(number, count)| (format!("{asked} {number}"), *count))
+        .map(|(number, count)| (format!("{counted} {number}"), *count))
         .collect()
 }
 

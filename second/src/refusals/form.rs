@@ -1,7 +1,7 @@
 //! The refusals 16 of an image and a rule as wholes, and the list of all of them.
 
 use super::programs::{images, rule, Images};
-use super::{form_of_commands, form_of_graphs, form_of_tests};
+use super::{form_of_commands, form_of_graphs, form_of_mode, form_of_tests};
 use crate::encode::{self, field};
 use crate::tree::{Command, Rule, VariableType};
 
@@ -9,6 +9,7 @@ use crate::tree::{Command, Rule, VariableType};
 pub(super) fn images_of_form() -> Vec<Images> {
     let mut images = form_of_image();
     images.extend(form_of_rule());
+    images.extend(form_of_mode::images_of_mode());
     images.extend(form_of_types());
     images.extend(form_of_interface());
     images.extend(form_of_graphs::images_of_graphs());
@@ -48,7 +49,7 @@ fn form_of_image() -> Vec<Images> {
     ]
 }
 
-/// The payloads of a rule's five fields.
+/// The payloads of a rule's first five fields.
 #[derive(Clone)]
 pub(super) struct Parts {
     pub(super) types: Vec<u8>,
@@ -73,7 +74,7 @@ impl Parts {
         }
     }
 
-    fn fields(&self) -> Vec<Vec<u8>> {
+    pub(super) fn fields(&self) -> Vec<Vec<u8>> {
         vec![
             field(0x11, &self.types),
             field(0x12, &self.left),
@@ -88,7 +89,7 @@ impl Parts {
     }
 }
 
-fn image_of_fields(fields: &[Vec<u8>]) -> Vec<u8> {
+pub(super) fn image_of_fields(fields: &[Vec<u8>]) -> Vec<u8> {
     let rule = field(0x10, &fields.concat());
     [rule, encode::command(&Command::Skip)].concat()
 }
@@ -123,9 +124,6 @@ fn form_of_rule() -> Vec<Images> {
         let swapped = format!("rule with field {tag:#x} behind the next");
         list.push(refused_fields(swapped, &|f| f.swap(number, number + 1)));
     }
-    list.push(refused_fields("rule with a sixth field".into(), &|f| {
-        f.push(field(0x16, &[]))
-    }));
     list.push(refused_fields(
         "rule with a byte behind its fields".into(),
         &|f| f.push(vec![0]),

@@ -4,7 +4,7 @@
 use std::fmt::Write;
 
 use crate::calls;
-use crate::corpus;
+use crate::corpus::{self, draw_mode};
 use crate::decode;
 use crate::encode;
 use crate::exercised::Exercised;
@@ -144,7 +144,7 @@ fn full_pairs(index: u64) -> Pairs {
     let mut rules = Vec::new();
     while rules.len() < RULES {
         let rule = rule_of(&mut random, &host);
-        let placements = rule.left.nodes.iter().map(|left| candidates(left, &host)).product::<usize>();
+        let placements = rule.left.nodes.iter().map(|left| candidates(&rule, left, &host)).product::<usize>();
         if placements <= MOST_PLACEMENTS {
             rules.push(rule);
         }
@@ -154,13 +154,14 @@ fn full_pairs(index: u64) -> Pairs {
 }
 
 /// How many nodes agree with a left node by mark, root and a constant at the front.
-fn candidates(left: &RuleNode, host: &Host) -> usize {
+fn candidates(rule: &Rule, left: &RuleNode, host: &Host) -> usize {
     let agrees = |node: &&Node| {
         let first = match left.label.first() {
             Some(Element::Constant(value)) => node.label.atoms().first() == Some(value),
             _ => true,
         };
-        first && left.root == node.root && (left.mark == mark::ANY || left.mark == node.mark)
+        let rooted = left.root == node.root || (rule.is_preserving() && node.root);
+        first && rooted && (left.mark == mark::ANY || left.mark == node.mark)
     };
     host.live_nodes().map(|(_, node)| node).filter(agrees).count()
 }
@@ -200,12 +201,13 @@ fn full_host(random: &mut Random, gaps: bool) -> Host {
 /// A rule whose left side is a part of the host, mostly; now and then an item is changed so that it fits elsewhere or nowhere.
 fn rule_of(random: &mut Random, host: &Host) -> Rule {
     let slots = walk(random, host);
-    let mut rule = Rule::default();
+    let mut rule = Rule { mode: draw_mode(random), ..Rule::default() };
     for slot in &slots {
         let node = host.node(*slot).expect("a walk goes over live nodes");
         let mark = if random.chance(15) { mark::ANY } else { node.mark };
         let label = label_of(random, &mut rule.variables, node.label.atoms());
-        rule.left.nodes.push(RuleNode { mark, root: node.root, label });
+        let root = node.root && !(rule.is_preserving() && random.chance(60));
+        rule.left.nodes.push(RuleNode { mark, root, label });
     }
     let place = |end: u16| slots.iter().position(|slot| *slot == usize::from(end));
     for (_, edge) in host.live_edges() {

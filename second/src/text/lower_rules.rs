@@ -79,6 +79,7 @@ pub fn rules(text: &RuleText) -> Result<Vec<Rule>, Problem> {
         right,
         interface: text.interface.len() as u8,
         tests,
+        mode: text.mode,
     };
     directed_copies(text, rule)
 }

@@ -41,7 +41,7 @@ pub use assemble::{assemble, assemble_program, read_graph, runner_input, Assembl
 pub use complaint::{Complaint, Place};
 pub use dot::drawing;
 pub use host_graph::{HostEdge, HostGraph, HostNode};
-pub use image::Fault;
+pub use image::{grouped, Fault};
 pub use print_host::host_graph_text;
 pub use print_program::program_text;
 pub use renew::renew;

@@ -6,7 +6,7 @@ use super::lexer::Token;
 use super::parse_conditions::condition;
 use super::parse_labels::{edge_label, node_label};
 use super::syntax::*;
-use crate::tree::VariableType;
+use crate::tree::{Mode, VariableType};
 
 /// Words that name no rule and no variable.
 const RESERVED: [&str; 25] = [
@@ -54,6 +54,7 @@ pub fn rule(cursor: &mut Cursor) -> Result<RuleText, Problem> {
     } else {
         None
     };
+    let mode = mode(cursor)?;
     Ok(RuleText {
         name,
         variables,
@@ -61,6 +62,7 @@ pub fn rule(cursor: &mut Cursor) -> Result<RuleText, Problem> {
         right,
         interface,
         condition,
+        mode,
     })
 }
 
@@ -150,6 +152,30 @@ fn interface(cursor: &mut Cursor) -> Result<Vec<Name>, Problem> {
         "behind the interface's nodes, or `,` between two of them",
     )?;
     Ok(nodes)
+}
+
+/// `roots = preserving` or `roots = reflecting`, where it stands: the last clause of a rule. The word alone may name a rule.
+fn mode(cursor: &mut Cursor) -> Result<Option<Mode>, Problem> {
+    if !cursor.at_word_then_symbol("roots", "=") {
+        return Ok(None);
+    }
+    cursor.advance();
+    cursor.advance();
+    let mode = match cursor.peek() {
+        Token::Word(word) if word == "preserving" => Mode::Preserving,
+        Token::Word(word) if word == "reflecting" => Mode::Reflecting,
+        _ => return Err(cursor.unexpected("`preserving` or `reflecting` behind `roots =`")),
+    };
+    cursor.advance();
+    if cursor.at_word_then_symbol("roots", "=") {
+        let message = "a second `roots = ..`, expected one in a rule";
+        return Err(cursor.problem_here(message));
+    }
+    if cursor.at_word("where") {
+        let message = "`where` behind `roots = ..`, expected the condition before it";
+        return Err(cursor.problem_here(message));
+    }
+    Ok(Some(mode))
 }
 
 /// `[ nodes | edges ]`.

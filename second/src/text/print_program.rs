@@ -27,6 +27,11 @@ fn rule_text(number: usize, rule: &Rule) -> String {
         let tests: Vec<String> = rule.tests.iter().map(|test| printer.test(test)).collect();
         text.push_str(&format!("where {}\n", tests.join(" and ")));
     }
+    text.push_str(match rule.mode {
+        None => "",
+        Some(Mode::Reflecting) => "roots = reflecting\n",
+        Some(Mode::Preserving) => "roots = preserving\n",
+    });
     text
 }
 

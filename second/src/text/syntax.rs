@@ -1,7 +1,7 @@
 //! What a source text says, as it was written: names are not looked up and limits are not checked yet.
 
 use super::complaint::Place;
-use crate::tree::VariableType;
+use crate::tree::{Mode, VariableType};
 
 #[derive(Clone, Debug, PartialEq, Eq)]
 pub struct Name {
@@ -65,6 +65,8 @@ pub struct RuleText {
     pub right: GraphText,
     pub interface: Vec<Name>,
     pub condition: Option<ConditionText>,
+    /// What stands behind `roots =`.
+    pub mode: Option<Mode>,
 }
 
 #[derive(Clone, Debug)]

@@ -25,7 +25,7 @@ fn rules_that_hold(host: &Host) -> [bool; 6] {
     let values = vec![Some(&[4][..])];
     [
         matching::marks_agree(&rule, host, &placement),
-        matching::root_flags_are_equal(&rule, host, &placement),
+        matching::root_flags_agree(&rule, host, &placement),
         matching::sources_and_targets_correspond(&rule, host, &placement),
         matching::labels_agree(&rule, host, &placement) == Some(values.clone()),
         matching::dangling_condition(&rule, host, &placement),

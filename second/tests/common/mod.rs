@@ -106,7 +106,7 @@ fn host(random: &mut Random) -> Host {
 fn host_node(random: &mut Random) -> Node {
     Node {
         mark: random.pick(&[0, 0, 0, 0, 1, 2, 3, 4]),
-        root: random.chance(15),
+        root: random.chance(40),
         label: host_label(random),
     }
 }
@@ -133,14 +133,18 @@ fn atom(random: &mut Random) -> i32 {
 /// A rule under construction, with the values that its variables have in the sampled graph.
 struct Sampling<'a> {
     random: &'a mut Random,
+    mode: Option<Mode>,
     types: Vec<VariableType>,
     values: Vec<Vec<i32>>,
 }
 
 fn rule(random: &mut Random, host: &Host) -> Rule {
     let (nodes, edges) = sampled_slots(random, host);
+    let (reflecting, preserving) = (Some(Mode::Reflecting), Some(Mode::Preserving));
+    let mode = random.pick(&[None, None, None, reflecting, preserving, preserving]);
     let mut sampling = Sampling {
         random,
+        mode,
         types: vec![],
         values: vec![],
     };
@@ -157,6 +161,7 @@ fn rule(random: &mut Random, host: &Host) -> Rule {
         right,
         interface: interface as u8,
         tests,
+        mode,
     }
 }
 
@@ -182,7 +187,7 @@ impl Sampling<'_> {
             let node = host.node(*slot).expect("a live node");
             graph.nodes.push(RuleNode {
                 mark: self.left_mark(node.mark),
-                root: node.root != self.random.chance(3),
+                root: self.left_root(node.root),
                 label: self.left_label(node.label.atoms()),
             });
         }
@@ -197,6 +202,14 @@ impl Sampling<'_> {
             });
         }
         graph
+    }
+
+    /// The host's flag mostly; that of a root in a preserving rule seldom.
+    fn left_root(&mut self, host: bool) -> bool {
+        match host && self.mode == Some(Mode::Preserving) {
+            true => self.random.chance(20),
+            false => host != self.random.chance(3),
+        }
     }
 
     fn left_mark(&mut self, host: u8) -> u8 {

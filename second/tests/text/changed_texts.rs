@@ -14,8 +14,9 @@ a(x, y: list; i, j: int)
 [ (2, i+j:(j-1):7 # green) (n1, x # any) (new(R), empty) | (e1(B), 2, n1, y) ]
 interface = {2, n1}
 where not edge(n1, 2) and indeg(2) > 1 and (i <= j)
+roots = preserving
 b() [ | ] => [ | ] interface = {}
-c() [ | ] => [ | ] interface = {}
+c() [ | ] => [ | ] interface = {} roots = reflecting
 host fuel 10 nodes 4 [ (1(R), 5:-6 # red) () | (1, 1, 1, empty) ]
 ";
 

@@ -124,6 +124,7 @@ fn rule(random: &mut Random, items: usize) -> Rule {
         right,
         interface: interface as u8,
         tests,
+        mode: random.pick(&[None, Some(Mode::Reflecting), Some(Mode::Preserving)]),
     }
 }
 

@@ -1,5 +1,5 @@
 -- `next_like` meets its contract. The loop's invariant: it has not gone past the end, and none of the slots passed fits.
-use mathlib.Core.Path.{_≡_}
+use mathlib.Core.Path.{_≡_, sym}
 use mathlib.Core.Bool.{false}
 use mathlib.Core.List.{List}
 use Prim.Native.Nat.{ℕ, _-_, _<_, _≤_}
@@ -13,13 +13,13 @@ use Rattle.fitting.proofs.next_like.Statement.{statement}
 use Rattle.fitting.proofs.next_like.Tie as tie
 
 abbrev Inv-loop : tie.InvT-loop
-Inv-loop l nodes edges rule plan i c n mark root x₀ x =
+Inv-loop l nodes edges rule plan i c n mark root preserving x₀ x =
     (c ≤ x)
     × (c ≤ n → x ≤ n)
     × ((w : Known rule plan) (y : ℕ) → c ≤ y → y < x → (p : List ℕ) → nodeFits (hostOf l nodes edges) (w .rule) p i y ≡ false)
 
 abbrev μ-loop : tie.MeasureT-loop
-μ-loop l nodes edges rule plan i c n mark root x₀ x = n - x
+μ-loop l nodes edges rule plan i c n mark root preserving x₀ x = n - x
 
 mark-requires : tie.Need-mark-requires Inv-loop μ-loop
 mark-requires c κs =
@@ -31,17 +31,20 @@ root-requires c κs =
     let w = c .before .before .before .before .pre .1 .0 in
     record { tree = w .rule; laid = w .planned .laid; there = left-node w (c .before .before .before .before .pre .1 .1 .0) }
 
+element-copy-out-preserving : tie.Need-element-copy-out-preserving Inv-loop μ-loop
+element-copy-out-preserving c = search needs
+
 loop-holds : tie.Need-loop-holds Inv-loop μ-loop
 loop-holds c = (omega arith, λ k. omega arith, λ w y j k. absurd (omega arith))
 
 node-like-requires : tie.Need-node-like-requires Inv-loop μ-loop
 node-like-requires c κs = (
-  c .before .before .before .before .before .before .before .pre .0,
+  c .before .before .before .before .before .before .before .before .pre .0,
   (
-    c .before .before .before .before .before .before .before .pre .1 .0,
+    c .before .before .before .before .before .before .before .before .pre .1 .0,
     (
-      (c .before .before .before .before .before .before .before .pre .1 .1 .0, omega (arith, c .before .before .before .before .before .before .before .pre .1 .1 .1, c .loop-test .taken)),
-      λ w. (c .before .before .before .mark .ensures (w .rule) (w .planned .laid) .node (left-node w (c .before .before .before .before .before .before .before .pre .1 .1 .0)), c .before .before .root .ensures (w .rule) (w .planned .laid)),
+      (c .before .before .before .before .before .before .before .before .pre .1 .1 .0, omega (arith, c .before .before .before .before .before .before .before .before .pre .1 .1 .1, c .loop-test .taken)),
+      λ w. (c .before .before .before .before .mark .ensures (w .rule) (w .planned .laid) .node (left-node w (c .before .before .before .before .before .before .before .before .pre .1 .1 .0)), c .before .before .before .root .ensures (w .rule) (w .planned .laid), sym (w .planned .laid .mode)),
     ),
   ),
 )
@@ -87,6 +90,7 @@ next-like-spec =
     μ-loop
     mark-requires
     root-requires
+    element-copy-out-preserving
     loop-holds
     node-like-requires
     returns

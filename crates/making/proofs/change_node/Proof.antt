@@ -8,8 +8,11 @@ use Rattle.making.proofs.change_node.Tie as tie
 node-part-requires : tie.Need-node-part-requires
 node-part-requires c κs = search needs
 
+keeps-root-requires : tie.Need-keeps-root-requires
+keeps-root-requires c κs = search needs
+
 take-values-requires : tie.Need-take-values-requires
-take-values-requires c κs = (c .before .before .before .before .before .before .before .before .pre .0, (c .before .before .before .before .before .before .before .before .pre .1 .0, change-takes (c .before .before .before .before .before .before .before .before .pre .1 .1) _ (c .before .before .before .if1 .taken) (c .node-part .ensures)))
+take-values-requires c κs = (c .before .before .before .before .before .before .before .before .before .before .pre .0, (c .before .before .before .before .before .before .before .before .before .before .pre .1 .0, change-takes (c .before .before .before .before .before .before .before .before .before .before .pre .1 .1) _ _ (c .before .before .before .before .if1 .taken) (c .before .before .before .node-part .ensures) (c .before .before .keeps-root .ensures)))
 
 same-length : tie.Need-same-length
 same-length c = search needs
@@ -18,7 +21,7 @@ same-length-2 : tie.Need-same-length-2
 same-length-2 c = search needs
 
 returns : tie.Need-returns
-returns c = λ w. change-taken w _ (c .before .before .before .before .before .before .before .before .if1 .taken) (c .before .before .before .before .take-values .ensures (change-takes w _ (c .before .before .before .before .before .before .before .before .if1 .taken) (c .before .before .before .before .before .node-part .ensures)))
+returns c = λ w. change-taken w _ (c .before .before .before .before .before .before .before .before .before .if1 .taken) (c .before .before .before .before .take-values .ensures (change-takes w _ _ (c .before .before .before .before .before .before .before .before .before .if1 .taken) (c .before .before .before .before .before .before .before .before .node-part .ensures) (c .before .before .before .before .before .before .before .keeps-root .ensures)))
 
 free-node-requires : tie.Need-free-node-requires
 free-node-requires c κs = search needs
@@ -37,6 +40,7 @@ change-node-spec =
     tie.close
     (tie.spec
     node-part-requires
+    keeps-root-requires
     take-values-requires
     same-length
     same-length-2

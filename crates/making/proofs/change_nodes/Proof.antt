@@ -11,25 +11,25 @@ use Rattle.making.proofs.change_nodes.Statement.{statement}
 use Rattle.making.proofs.change_nodes.Tie as tie
 
 abbrev Inv-loop : tie.InvT-loop
-Inv-loop l nodes₀ edges journal₀ used right k lens atoms slots n i₀ nodes journal i = (i ≤ n) × Altering l nodes₀ edges journal₀ right lens atoms slots used k n i nodes journal
+Inv-loop l nodes₀ edges journal₀ used preserving left right k lens atoms slots n i₀ nodes journal i = (i ≤ n) × Altering l nodes₀ edges journal₀ preserving left right lens atoms slots used k n i nodes journal
 
 abbrev μ-loop : tie.MeasureT-loop
-μ-loop l nodes₀ edges journal₀ used right k lens atoms slots n i₀ nodes journal i = n - i
+μ-loop l nodes₀ edges journal₀ used preserving left right k lens atoms slots n i₀ nodes journal i = n - i
 
 loop-holds : tie.Need-loop-holds Inv-loop μ-loop
-loop-holds c = (omega arith, altering-none (c .before .before .before .before .pre .0))
+loop-holds c = (omega arith, altering-none (c .before .before .before .before .before .pre .0))
 
 add-change-node : tie.Need-add-change-node Inv-loop μ-loop
-add-change-node c = let a = c .before .before .before .before .before .before .before .before .args in omega (arith, quotient-le (a .used + a .n) (length (a .journal .now)) (recordLength (a .l)) (c .before .before .before .before .before .before .before .before .pre .1 .records), c .before .before .loop-test .taken)
+add-change-node c = let a = c .before .before .before .before .before .before .before .before .before .args in omega (arith, quotient-le (a .used + a .n) (length (a .journal .now)) (recordLength (a .l)) (c .before .before .before .before .before .before .before .before .before .pre .1 .records), c .before .before .loop-test .taken)
 
 mul-change-node : tie.Need-mul-change-node Inv-loop μ-loop
 mul-change-node c = search needs
 
 element-copy-out-change-node : tie.Need-element-copy-out-change-node Inv-loop μ-loop
-element-copy-out-change-node c = omega (arith, c .before .before .before .before .before .before .before .before .pre .1 .few, c .before .before .loop-test .taken)
+element-copy-out-change-node c = omega (arith, c .before .before .before .before .before .before .before .before .before .pre .1 .few, c .before .before .loop-test .taken)
 
 change-node-requires : tie.Need-change-node-requires Inv-loop μ-loop
-change-node-requires c κs = let t = altering-next (c .before .before .before .before .loop .i) (c .before .before .before .before .loop .inv .1) (c .before .before .before .before .before .before .before .before .before .pre .1) (c .before .before .before .loop-test .taken) in (t .0, (t .1, t .2))
+change-node-requires c κs = let t = altering-next (c .before .before .before .before .loop .i) (c .before .before .before .before .loop .inv .1) (c .before .before .before .before .before .before .before .before .before .before .pre .1) (c .before .before .before .loop-test .taken) in (t .0, (t .1, t .2))
 
 add-i : tie.Need-add-i Inv-loop μ-loop
 add-i c = search needs
@@ -41,13 +41,13 @@ loop-again : tie.Need-loop-again Inv-loop μ-loop
 loop-again c = (omega (arith, c .before .before .before .before .before .before .before .before .loop-test .taken), altering-more (c .before .before .before .before .before .before .before .before .before .loop .i) (c .before .before .before .before .before .before .before .before .before .loop .inv .1) (c .before .before .before .before .before .before .before .before .loop-test .taken) (c .before .before .before .before .change-node .ensures) (c .before .before .before .before .change-node .kept .1 .0) (c .before .before .before .before .change-node .kept .1 .1 .1 .0))
 
 same-length : tie.Need-same-length Inv-loop μ-loop
-same-length c = c .before .loop .inv .1 (c .before .before .before .before .before .before .pre .1) .nodesLong
+same-length c = c .before .loop .inv .1 (c .before .before .before .before .before .before .before .pre .1) .nodesLong
 
 same-length-2 : tie.Need-same-length-2 Inv-loop μ-loop
-same-length-2 c = c .before .loop .inv .1 (c .before .before .before .before .before .before .pre .1) .journalLong
+same-length-2 c = c .before .loop .inv .1 (c .before .before .before .before .before .before .before .pre .1) .journalLong
 
 returns : tie.Need-returns Inv-loop μ-loop
-returns c = let e : c .before .loop .i ≡ c .before .before .before .before .before .before .args .n = omega (arith, c .loop-test .left, c .before .loop .inv .0) in λ w. rw e at (c .before .loop .inv .1 w)
+returns c = let e : c .before .loop .i ≡ c .before .before .before .before .before .before .before .args .n = omega (arith, c .loop-test .left, c .before .loop .inv .0) in λ w. rw e at (c .before .loop .inv .1 w)
 
 pub change-nodes-spec : {M : Type 1} → statement M
 change-nodes-spec =

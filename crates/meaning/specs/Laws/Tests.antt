@@ -95,6 +95,11 @@ exists-true f (suc n) e = at (f n) refl e (exists-true f n)
     at true q e r = (n, omega arith, q)
     at false q e r = let t = r e in (t .0, omega (arith, t .1), t .2)
 
+pub either-last : (a : Bool) → a ≡ either a false
+unfolding either
+either-last true = refl
+either-last false = refl
+
 pub either-true : (a b : Bool) → either a b ≡ true → (a ≡ true) ⊎ (b ≡ true)
 unfolding either
 either-true true b e = inl refl

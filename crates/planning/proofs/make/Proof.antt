@@ -40,17 +40,23 @@ element-write-plan-4 c = search needs
 element-write-plan-5 : tie.Need-element-write-plan-5
 element-write-plan-5 c = search needs
 
+mode-of-requires : tie.Need-mode-of-requires
+mode-of-requires c κs = search needs
+
+element-write-plan-6 : tie.Need-element-write-plan-6
+element-write-plan-6 c = search needs
+
 plan-variables-requires : tie.Need-plan-variables-requires
-plan-variables-requires c κs = record { tree = c .before .before .before .before .before .before .before .before .before .before .pre .0 .tree; laid = laid (c .before .before .before .before .before .before .before .before .before .before .pre .0 .is) (c .before .before .before .before .before .before .before .before .before .before .pre .0 .holds) (c .before .before .before .items .ensures _ (left-graph (c .before .before .before .before .before .before .before .before .before .before .pre .0 .is) (c .before .before .before .before .before .before .before .place2 .ensures))) (c .before .before .before .before .before .before .place3 .ensures) (c .before .wide .ensures .0) (c .before .before .before .before .before .place4 .ensures) (c .before .before .before .before .before .before .before .before .place .ensures) }
+plan-variables-requires c κs = record { tree = c .before .before .before .before .before .before .before .before .before .before .before .pre .0 .tree; laid = laid (c .before .before .before .before .before .before .before .before .before .before .before .pre .0 .is) (c .before .before .before .before .before .before .before .before .before .before .before .pre .0 .holds) (c .before .before .before .before .items .ensures _ (left-graph (c .before .before .before .before .before .before .before .before .before .before .before .pre .0 .is) (c .before .before .before .before .before .before .before .before .place2 .ensures))) (c .before .before .before .before .before .before .before .place3 .ensures) (c .before .before .wide .ensures .0) (c .before .before .before .before .before .before .place4 .ensures) (c .before .before .before .before .before .before .before .before .before .place .ensures) _ (c .before .mode-of .ensures _ (c .before .before .before .before .before .before .before .before .before .before .before .pre .0 .is)) }
 
 plan-labels-requires : tie.Need-plan-labels-requires
-plan-labels-requires c κs = record { tree = c .before .before .before .before .before .before .before .before .before .before .before .before .pre .0 .tree; named = c .before .plan-variables .ensures _ (laid (c .before .before .before .before .before .before .before .before .before .before .before .before .pre .0 .is) (c .before .before .before .before .before .before .before .before .before .before .before .before .pre .0 .holds) (c .before .before .before .before .before .items .ensures _ (left-graph (c .before .before .before .before .before .before .before .before .before .before .before .before .pre .0 .is) (c .before .before .before .before .before .before .before .before .before .place2 .ensures))) (c .before .before .before .before .before .before .before .before .place3 .ensures) (c .before .before .before .wide .ensures .0) (c .before .before .before .before .before .before .before .place4 .ensures) (c .before .before .before .before .before .before .before .before .before .before .place .ensures)) }
+plan-labels-requires c κs = record { tree = c .before .before .before .before .before .before .before .before .before .before .before .before .before .pre .0 .tree; named = c .before .plan-variables .ensures _ (laid (c .before .before .before .before .before .before .before .before .before .before .before .before .before .pre .0 .is) (c .before .before .before .before .before .before .before .before .before .before .before .before .before .pre .0 .holds) (c .before .before .before .before .before .before .items .ensures _ (left-graph (c .before .before .before .before .before .before .before .before .before .before .before .before .before .pre .0 .is) (c .before .before .before .before .before .before .before .before .before .before .place2 .ensures))) (c .before .before .before .before .before .before .before .before .before .place3 .ensures) (c .before .before .before .before .wide .ensures .0) (c .before .before .before .before .before .before .before .before .place4 .ensures) (c .before .before .before .before .before .before .before .before .before .before .before .place .ensures) _ (c .before .before .before .mode-of .ensures _ (c .before .before .before .before .before .before .before .before .before .before .before .before .before .pre .0 .is))) }
 
 plan-tests-requires : tie.Need-plan-tests-requires
-plan-tests-requires c κs = record { tree = c .before .before .before .before .before .before .before .before .before .before .before .before .before .before .pre .0 .tree; labelled = c .before .plan-labels .ensures _ (c .before .before .before .plan-variables .ensures _ (laid (c .before .before .before .before .before .before .before .before .before .before .before .before .before .before .pre .0 .is) (c .before .before .before .before .before .before .before .before .before .before .before .before .before .before .pre .0 .holds) (c .before .before .before .before .before .before .before .items .ensures _ (left-graph (c .before .before .before .before .before .before .before .before .before .before .before .before .before .before .pre .0 .is) (c .before .before .before .before .before .before .before .before .before .before .before .place2 .ensures))) (c .before .before .before .before .before .before .before .before .before .before .place3 .ensures) (c .before .before .before .before .before .wide .ensures .0) (c .before .before .before .before .before .before .before .before .before .place4 .ensures) (c .before .before .before .before .before .before .before .before .before .before .before .before .place .ensures))) }
+plan-tests-requires c κs = record { tree = c .before .before .before .before .before .before .before .before .before .before .before .before .before .before .before .pre .0 .tree; labelled = c .before .plan-labels .ensures _ (c .before .before .before .plan-variables .ensures _ (laid (c .before .before .before .before .before .before .before .before .before .before .before .before .before .before .before .pre .0 .is) (c .before .before .before .before .before .before .before .before .before .before .before .before .before .before .before .pre .0 .holds) (c .before .before .before .before .before .before .before .before .items .ensures _ (left-graph (c .before .before .before .before .before .before .before .before .before .before .before .before .before .before .before .pre .0 .is) (c .before .before .before .before .before .before .before .before .before .before .before .before .place2 .ensures))) (c .before .before .before .before .before .before .before .before .before .before .before .place3 .ensures) (c .before .before .before .before .before .before .wide .ensures .0) (c .before .before .before .before .before .before .before .before .before .before .place4 .ensures) (c .before .before .before .before .before .before .before .before .before .before .before .before .before .place .ensures) _ (c .before .before .before .before .before .mode-of .ensures _ (c .before .before .before .before .before .before .before .before .before .before .before .before .before .before .before .pre .0 .is)))) }
 
 returns : tie.Need-returns
-returns c = λ r e. c .plan-tests .ensures r (c .before .before .plan-labels .ensures r (c .before .before .before .before .plan-variables .ensures r (laid e (holds-of (c .before .before .before .before .before .before .before .before .before .before .before .before .before .before .before .pre .0) e) (c .before .before .before .before .before .before .before .before .items .ensures _ (left-graph e (c .before .before .before .before .before .before .before .before .before .before .before .before .place2 .ensures))) (c .before .before .before .before .before .before .before .before .before .before .before .place3 .ensures) (c .before .before .before .before .before .before .wide .ensures .0) (c .before .before .before .before .before .before .before .before .before .before .place4 .ensures) (c .before .before .before .before .before .before .before .before .before .before .before .before .before .place .ensures))))
+returns c = λ r e. c .plan-tests .ensures r (c .before .before .plan-labels .ensures r (c .before .before .before .before .plan-variables .ensures r (laid e (holds-of (c .before .before .before .before .before .before .before .before .before .before .before .before .before .before .before .before .pre .0) e) (c .before .before .before .before .before .before .before .before .before .items .ensures _ (left-graph e (c .before .before .before .before .before .before .before .before .before .before .before .before .before .place2 .ensures))) (c .before .before .before .before .before .before .before .before .before .before .before .before .place3 .ensures) (c .before .before .before .before .before .before .before .wide .ensures .0) (c .before .before .before .before .before .before .before .before .before .before .before .place4 .ensures) (c .before .before .before .before .before .before .before .before .before .before .before .before .before .before .place .ensures) _ (c .before .before .before .before .before .before .mode-of .ensures r e))))
 
 pub make-spec : {M : Type 1} → statement M
 make-spec =
@@ -68,6 +74,8 @@ make-spec =
     element-write-plan-3
     element-write-plan-4
     element-write-plan-5
+    mode-of-requires
+    element-write-plan-6
     plan-variables-requires
     plan-labels-requires
     plan-tests-requires

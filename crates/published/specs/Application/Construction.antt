@@ -3,7 +3,7 @@
 use Prim.Native.Nat.{ℕ, zero, suc, _+_, _-_, _<_, _≤_}
 use mathlib.Core.Path.{_≡_, refl, sym, _∙_, ap}
 use mathlib.Core.Logic.{_⊎_, inl, inr}
-use mathlib.Core.Bool.{true}
+use mathlib.Core.Bool.{Bool, true, false}
 use mathlib.Core.Option.{some}
 use mathlib.Core.List.{List, [], _∷_, _++_, map}
 use native.Mathlib.Omega.{arith}
@@ -14,9 +14,10 @@ use lib.Seq.{getD-take, getD-drop, getD-append-add, length-take-le}
 use Rattle.meaning.specs.Layout.{Slot, free, live, Node, Edge, Host, isLive, liveAt}
 use Rattle.meaning.specs.Image.{Rule}
 use Rattle.meaning.specs.Tags.{anyMark}
-use Rattle.meaning.specs.Matching.{nodeIn, edgeIn, nodeAt, leftNodes, leftEdges, nodeSlot, edgeSlot, Match}
+use Rattle.meaning.specs.Basics.{choose, both}
+use Rattle.meaning.specs.Matching.{nodeIn, edgeIn, nodeAt, leftNode, leftNodes, leftEdges, nodeSlot, edgeSlot, Match}
 use Rattle.meaning.specs.Assigned.{assigned}
-use Rattle.meaning.specs.Applying.{Right, rightSide, Ledger, stores, freeSlots, edgesGo, between, changed, applied, apply}
+use Rattle.meaning.specs.Applying.{rootTaken, Right, rightSide, Ledger, stores, freeSlots, edgesGo, between, changed, applied, apply}
 use Rattle.meaning.specs.Laws.Tests.{choose-lt, choose-le, choose-false}
 use Rattle.laws.specs.Pieces.{getD-map}
 use Rattle.laws.specs.FirstMatch.{node-inside, edge-inside}
@@ -26,7 +27,7 @@ use Rattle.laws.specs.Layout.{Words}
 use Rattle.meaning.specs.Laws.Interface.{interface-left, interface-right}
 use Rattle.laws.specs.Values.{LegalRule, new-marked}
 use Rattle.published.specs.Graphs.{graphOf}
-use Rattle.published.specs.RuleApplication.{nodeOf, edgeOf, Premorphism, StaysNode, StaysEdge, Union, placed, Constructed}
+use Rattle.published.specs.RuleApplication.{nodeOf, edgeOf, Premorphism, StaysNode, StaysEdge, Union, rootFrom, placed, Constructed}
 use Rattle.published.specs.Application.Matching.{premorphism}
 use Rattle.published.specs.Application.Tables.{overwritten, filled, places, overwritten-other, overwritten-at, not-free, filled-live, filled-at, places-free, places-apart, filled-back, find, edgesGo-is, slotAfter, nodesChange-is, addNodes-is, addNodes-places, addEdges-is}
 use Rattle.published.specs.Application.Values.{noNode, noEdge, node-value, edge-value-at}
@@ -121,6 +122,12 @@ slot-gone zero ns i h = refl
 slot-gone (suc k) [] i h = refl
 slot-gone (suc k) (n ∷ ns) zero h = absurd (omega arith)
 slot-gone (suc k) (n ∷ ns) (suc i) h = slot-gone k ns i (omega arith)
+
+-- the root flag that an interface node takes is the published one
+root-from : (preserving : Bool) (left right host : ℕ) → rootTaken preserving left right host ≡ rootFrom preserving left host right
+unfolding rootTaken both choose
+root-from true left right host = refl
+root-from false left right host = refl
 
 module _ (most : ℕ) (r : Rule) (rule : LegalRule r) (p : List ℕ) (h : Host) (m : Match h r p)
     (words : (v : ℕ) → Words (assigned h r p v)) (right : Right) (values : rightSide most h r p ≡ some right)
@@ -389,11 +396,13 @@ module _ (most : ℕ) (r : Rule) (rule : LegalRule r) (p : List ℕ) (h : Host) 
           interfaceLabels = λ i k.
               let a = interface-left r (rule .holds) in
               let b = interface-right r (rule .holds) in
-              rw (nodes-at (nodeSlot p i) (stays i k), mid-interface i k) (node-value most h r rule p words right values i (omega arith));
+              let v = node-value most h r rule p words right values i (omega arith) in
+              let t = choose-lt i (r .interface) _ _ k ∙ root-from (r .preserving) (leftNode r i .root) (nodeOf (r .right) i .root) (nodeAt h (nodeSlot p i) .root) in
+              rw (nodes-at (nodeSlot p i) (stays i k), mid-interface i k) (record { list = v .list; root = v .root ∙ t; mark = v .mark });
           newLabels = λ j k l.
               let v = node-value most h r rule p words right values j l in
               let e = choose-false (eqb (nodeOf (r .right) j .mark) anyMark) (nodeAt h (nodeSlot p j) .mark) (nodeOf (r .right) j .mark) (new-marked r (rule .holds) j k l _) in
-              rw (new-at j k l) (record { list = v .list; root = v .root; mark = v .mark ∙ e });
+              rw (new-at j k l) (record { list = v .list; root = v .root ∙ choose-le j (r .interface) _ _ k; mark = v .mark ∙ e });
           keptEdgeLabels = λ e s. rw (edges-at e s);
           newEdgeLabels = λ k l. rw (new-edge-at k l) (edge-value-at most h r rule p words right values k l .label);
         }

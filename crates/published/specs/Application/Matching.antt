@@ -1,10 +1,10 @@
 -- Matches in a host's graph: a match of meaning's is a published match, and a published match gives a match of meaning's.
 -- It holds of a legal rule and a legal host: their atoms are words, and so are those of each test's operands.
 -- Rests on Application/Conditions and SameMatch.
-use Prim.Native.Nat.{ℕ, zero, suc, _+_, _-_, _<_}
+use Prim.Native.Nat.{ℕ, zero, suc, _+_, _-_, _<_, _≤_}
 use mathlib.Core.Path.{_≡_, refl, sym, _∙_, ap}
 use mathlib.Core.Logic.{_⊎_, inl, inr, _↔_}
-use mathlib.Core.Bool.{true, false}
+use mathlib.Core.Bool.{Bool, true, false}
 use mathlib.Core.List.{List, [], _∷_, _++_}
 use native.Mathlib.Omega.{arith}
 use native.Mathlib.Decide.{decLt, ℕ-discrete}
@@ -12,13 +12,13 @@ use borrow.Author.Tests.{ltb-true, eqb-true, eq-eqb}
 use lib.Dec.{eqb}
 use lib.ListN.{length, getD, length-append, List·getD-append}
 use lib.Seq.{getD-append-add}
-use Rattle.meaning.specs.Basics.{every, either, absent, concat}
+use Rattle.meaning.specs.Basics.{every, both, either, absent, concat}
 use Rattle.meaning.specs.Numbers.{whole}
 use Rattle.meaning.specs.Layout.{Slot, free, live, Node, Edge, Host, isLive}
 use Rattle.meaning.specs.Image.{Rule}
 use Rattle.meaning.specs.Tags.{anyMark}
 use Rattle.meaning.specs.References.{operandNames, conditionOperands, labels, names, conditionNodes, isPlain, testNodesExist, ruleHolds}
-use Rattle.meaning.specs.Matching.{nodeIn, edgeIn, Assignment, atomsOf, instance, atomOf, edgeAt, leftNode, leftEdge, leftNodes, leftEdges, nodeSlot, edgeSlot, testHolds, MarksAgree, Match}
+use Rattle.meaning.specs.Matching.{nodeIn, edgeIn, Assignment, atomsOf, instance, atomOf, edgeAt, leftNode, leftEdge, leftNodes, leftEdges, nodeSlot, edgeSlot, testHolds, MarksAgree, rootsAgree, Match}
 use Rattle.meaning.specs.Assigned.{isVariable, assigned}
 use Rattle.meaning.specs.FirstMatch.{has, firstWith}
 use Rattle.meaning.specs.Laws.Tests.{either-true, clauses-true}
@@ -35,8 +35,9 @@ use Rattle.meaning.specs.declared.Layout.{Layout}
 use Rattle.meaning.specs.declared.Element.{Element}
 use Rattle.meaning.specs.declared.Element.the-variants.{Constant, Variable, Sum, Difference}
 use Rattle.published.specs.Graphs.{Graph, graphOf}
-use Rattle.published.specs.RuleApplication.{Premorphism, Constructed, Matches, Applies}
+use Rattle.published.specs.RuleApplication.{Premorphism, RootsGo, Constructed, Matches, Applies}
 use Rattle.published.specs.SameMatch.{constructed-same}
+use Rattle.published.specs.Application.Values.{left-formed}
 use Rattle.published.specs.Application.Conditions.{atom-word, plain-instance, instance-plain, test-holds}
 
 -- What the references say.
@@ -139,6 +140,24 @@ module _ (L : Layout) where
   edge-words free a l = let z : _≡_ {A = ℕ} 0 1 = cc in absurd (omega arith)
   edge-words (live e) a l = a .words
 
+-- Root flags agree where the published ones go together.
+
+roots-agree : (preserving : Bool) (left host : ℕ) → left ≤ 1 → RootsGo preserving left host → rootsAgree preserving left host ≡ true
+unfolding rootsAgree both either
+roots-agree false left host h e = eq-eqb left host e
+roots-agree true zero host h e = refl
+roots-agree true (suc zero) host h e = rw (e refl)
+roots-agree true (suc (suc n)) host h e = absurd (omega arith)
+
+roots-go : (preserving : Bool) (left host : ℕ) → rootsAgree preserving left host ≡ true → RootsGo preserving left host
+unfolding rootsAgree both either
+roots-go false left host e = eqb-true left host e
+roots-go true left host e = λ q. at q (either-true _ _ e)
+  where
+    at : left ≡ 1 → (eqb left 0 ≡ true) ⊎ (eqb left host ≡ true) → host ≡ 1
+    at q (inl z) = absurd (omega (arith, eqb-true left 0 z))
+    at q (inr s) = sym (eqb-true left host s) ∙ q
+
 module _ (h : Host) (r : Rule) (rule : LegalRule r) (L : Layout) (legal : LegalHost L h) where
   abbrev holds : ruleHolds r ≡ true
   holds = rule .holds
@@ -219,7 +238,7 @@ module _ (h : Host) (r : Rule) (rule : LegalRule r) (L : Layout) (legal : LegalH
               omega (arith, m .injective .edges i j (omega arith) l (sym (edge i (omega arith)) ∙ e ∙ edge j l));
           nodeMarks = λ i k. rw (node i k) (marks _ _ (m .compatible .nodeMarks i k));
           edgeMarks = λ k j. rw (edge k j) (marks _ _ (m .compatible .edgeMarks k j));
-          roots = λ i k. rw (node i k) (eq-eqb _ _ (m .compatible .roots i k));
+          roots = λ i k. rw (node i k) (roots-agree (r .preserving) _ _ (left-formed r rule i .root) (m .compatible .roots i k));
           sources = λ k j. let t = ends r holds k j in rw (edge k j, node (leftEdge r k .source) (t .0)) (m .g .sources k j);
           targets = λ k j. let t = ends r holds k j in rw (edge k j, node (leftEdge r k .target) (t .1)) (m .g .targets k j);
           assignment = m .α .of;
@@ -269,7 +288,7 @@ module _ (h : Host) (r : Rule) (rule : LegalRule r) (L : Layout) (legal : LegalH
             edges = λ k j. rw (labels-are .edges k j) (plain-instance (assigned h r p) (leftEdge r k .label) (edge-plain r holds k j));
             nodeMarks = λ i k. unmarked _ _ (m .nodeMarks i k);
             edgeMarks = λ k j. unmarked _ _ (m .edgeMarks k j);
-            roots = λ i k. eqb-true _ _ (m .roots i k);
+            roots = λ i k. roots-go (r .preserving) _ _ (m .roots i k);
           };
           dangling = m .dangling;
           condition =

@@ -5,16 +5,16 @@ use mathlib.Core.Path.{_≡_, refl, sym, _∙_, ap}
 use mathlib.Core.Option.{Option, some}
 use mathlib.Core.List.{List, [], _∷_}
 use native.Mathlib.Omega.{arith}
-use lib.Dec.{leb}
+use lib.Dec.{leb, ltb}
 use lib.ListN.{length, getD}
-use Rattle.meaning.specs.Basics.{either, concat, each, _>>=_}
+use Rattle.meaning.specs.Basics.{choose, either, concat, each, _>>=_}
 use Rattle.meaning.specs.Numbers.{whole, sum, difference}
 use Rattle.meaning.specs.Layout.{Node, Edge, Host, isNodeMark, isEdgeMark}
 use Rattle.meaning.specs.Image.{RuleNode, RuleEdge, Rule}
 use Rattle.meaning.specs.References.{operandNames}
-use Rattle.meaning.specs.Matching.{nodeAt, nodeSlot, Assignment, atomOf}
+use Rattle.meaning.specs.Matching.{nodeAt, leftNode, nodeSlot, Assignment, atomOf}
 use Rattle.meaning.specs.Assigned.{assigned}
-use Rattle.meaning.specs.Applying.{elementValue, labelValue, rightNode, rightNodes, rightEdge, Right, rightSide}
+use Rattle.meaning.specs.Applying.{elementValue, labelValue, rootTaken, rightNode, rightNodes, rightEdge, Right, rightSide}
 use Rattle.meaning.specs.Laws.Tests.{some-inj, bind-some, ensure-some}
 use Rattle.meaning.specs.Laws.Every.{Every, Every-all, Every-at}
 use Rattle.meaning.specs.Laws.Applying.{each-at, nodes-at}
@@ -82,7 +82,9 @@ noEdge = record { mark = 0; source = 0; target = 0; label = [] }
 
 module _ (most : ℕ) (r : Rule) (α : Assignment) (words : (v : ℕ) → Words (α v)) (h : Host) (p : List ℕ) where
   node-instance : (j : ℕ) (n : RuleNode) (a : Node) → LegalRuleNode n → rightNode most r α h p j n ≡ some a
-      → NodeInstance α n (markFrom (nodeAt h (nodeSlot p j) .mark) (n .mark)) (nodeLabelOf a)
+      → NodeInstance α n (markFrom (nodeAt h (nodeSlot p j) .mark) (n .mark))
+      (choose (ltb j (r .interface)) (rootTaken (r .preserving) (leftNode r j .root) (n .root) (nodeAt h (nodeSlot p j) .root)) (n .root))
+      (nodeLabelOf a)
   unfolding rightNode
   node-instance j n a k e =
       let t = bind-some (labelValue most α (n .label)) _ a e in
@@ -108,8 +110,12 @@ module _ (most : ℕ) (r : Rule) (α : Assignment) (words : (v : ℕ) → Words 
 
 -- The right side.
 
--- a rule's right nodes and edges, by number, have the form
+-- a rule's nodes and right edges, by number, have the form
 module _ (r : Rule) (rule : LegalRule r) where
+  pub left-formed : (i : ℕ) → LegalRuleNode (nodeOf (r .left) i)
+  unfolding either isNodeMark
+  left-formed i = Every-at LegalRuleNode _ (record { mark = refl; root = omega arith; label = tt }) (r .left .nodes) (rule .left) i
+
   pub node-formed : (j : ℕ) → LegalRuleNode (nodeOf (r .right) j)
   unfolding either isNodeMark
   node-formed j = Every-at LegalRuleNode _ (record { mark = refl; root = omega arith; label = tt }) (r .right .nodes) (rule .nodes) j
@@ -123,6 +129,7 @@ module _ (most : ℕ) (h : Host) (r : Rule) (rule : LegalRule r) (p : List ℕ) 
   where
     pub node-value : (j : ℕ) → j < length (r .right .nodes)
         → NodeInstance (assigned h r p) (nodeOf (r .right) j) (markFrom (nodeAt h (nodeSlot p j) .mark) (nodeOf (r .right) j .mark))
+        (choose (ltb j (r .interface)) (rootTaken (r .preserving) (leftNode r j .root) (nodeOf (r .right) j .root) (nodeAt h (nodeSlot p j) .root)) (nodeOf (r .right) j .root))
         (nodeLabelOf (getD (right .nodes) j noNode))
     unfolding rightSide
     node-value j k =

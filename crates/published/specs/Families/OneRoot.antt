@@ -2,6 +2,7 @@
 -- so roots may move, go, and come back under a new name. Two matches agree on a left root. Rests on Whence.
 use mathlib.Core.Path.{_≡_, refl, sym, _∙_, ap}
 use mathlib.Core.Logic.{_⊎_, inl, inr}
+use mathlib.Core.Bool.{Bool, true, false}
 use mathlib.Core.List.{List, [], _∷_}
 use Prim.Native.Nat.{ℕ, zero, suc, _+_, _<_, _≤_}
 use native.Mathlib.Omega.{arith}
@@ -10,11 +11,15 @@ use lib.ListN.{length, getD}
 use Rattle.meaning.specs.Layout.{Host, free}
 use Rattle.meaning.specs.Matching.{nodeIn}
 use Rattle.meaning.specs.Image.{RuleNode, Rule}
+use Rattle.meaning.specs.References.{ruleHolds}
+use Rattle.meaning.specs.Laws.Tests.{choose-lt}
 use Rattle.meaning.specs.Laws.Slots.{liveAt-lt}
+use Rattle.meaning.specs.Laws.Interface.{interface-left}
 use Rattle.laws.specs.Values.{LegalRule}
 use Rattle.published.specs.Graphs.{NodeLabel, Graph, Node, HostGraph, graphOf, Iso}
-use Rattle.published.specs.RuleApplication.{nodeOf, Matches, Applies}
-use Rattle.published.specs.Families.Whence.{Matched, place, Other, Right, whence}
+use Rattle.published.specs.RuleApplication.{nodeOf, RootsGo, Matches, Applies}
+use Rattle.published.specs.Application.Values.{left-formed}
+use Rattle.published.specs.Families.Whence.{place, Other, RootKept, Right, whence}
 
 -- there is at most one root
 abbrev pub OneRoot : Graph → Type 0
@@ -77,40 +82,92 @@ pub record RootsKept (r : Rule) : Type 0 where
   pub most : roots (r .right .nodes) ≤ 1
   pub old : roots (r .right .nodes) ≤ roots (r .left .nodes)
 
+-- a left root goes to a root, whatever the mode
+root-goes : (preserving : Bool) (left host : ℕ) → RootsGo preserving left host → left ≡ 1 → host ≡ 1
+root-goes false left host e q = sym e ∙ q
+root-goes true left host f q = f q
+
 -- two matches agree on a left root
 pub root-agrees : (r : Rule) (G : Graph) → OneRoot G → (m n : Matches r G) (i : ℕ) → i < length (r .left .nodes)
     → nodeOf (r .left) i .root ≡ 1 → m .g .node i ≡ n .g .node i
 root-agrees r G inv m n i k e =
-    inv _ _ (m .g .nodes i k) (n .g .nodes i k) (sym (m .compatible .roots i k) ∙ e) (sym (n .compatible .roots i k) ∙ e)
+    inv _ _ (m .g .nodes i k) (n .g .nodes i k) (root-goes (r .preserving) _ _ (m .compatible .roots i k) e) (root-goes (r .preserving) _ _ (n .compatible .roots i k) e)
 
--- the result has one root at most where the right side has, and, if it has one, all roots of the graph are matched
+-- Where the roots of a result come from, whatever the mode: a right root, or a root that was one, on which no left root is placed.
+module _ (r : Rule) (G H : Graph) (a : Applies r G H) where
+  -- v is where a left root is placed
+  abbrev pub UnderRoot : ℕ → Type 0
+  UnderRoot v = (i : ℕ) × (i < length (r .left .nodes)) × (nodeOf (r .left) i .root ≡ 1) × (a .match .g .node i ≡ v)
+
+  record RightRoot (z : ℕ) : Type 0 where
+    node : ℕ
+    listed : node < length (r .right .nodes)
+    here : place r G H a node ≡ z
+    root : nodeOf (r .right) node .root ≡ 1
+
+  record OldRoot (z : ℕ) : Type 0 where
+    node : ℕ
+    there : Node G node
+    here : a .constructed .keepNode node ≡ z
+    root : G .nodeLabel node .root ≡ 1
+    free : UnderRoot node → ⊥
+
+  root-whence : ruleHolds r ≡ true → (z : ℕ) → Node H z → H .nodeLabel z .root ≡ 1 → RightRoot z ⊎ OldRoot z
+  root-whence holds z k e = at (whence r G H a holds z k)
+    where
+      right : (s : Right r G H a z) → (H .nodeLabel z .root ≡ nodeOf (r .right) (s .node) .root) ⊎ RootKept r G H a (s .node) z → RightRoot z ⊎ OldRoot z
+      right s (inl q) = inl (record { node = s .node; listed = s .listed; here = s .here; root = sym q ∙ e })
+      right s (inr q) =
+          let l = interface-left r holds in
+          let h : s .node < length (r .left .nodes) = omega (arith, q .inside) in
+          inr
+          (record {
+            node = a .match .g .node (s .node);
+            there = a .match .g .nodes (s .node) h;
+            here = sym (choose-lt (s .node) (r .interface) _ _ (q .inside)) ∙ s .here;
+            root = sym (q .root) ∙ e;
+            free = λ t.
+                let same = a .match .injective .nodes (t .0) (s .node) (t .1) h (t .3) in
+                let none = ap (λ (i : ℕ). nodeOf (r .left) i .root) same ∙ q .left in
+                omega (arith, t .2, none);
+          })
+
+      at : Right r G H a z ⊎ Other r G H a z → RightRoot z ⊎ OldRoot z
+      at (inl s) = right s (s .root)
+      at (inr t) =
+          inr
+          (record {
+            node = t .0;
+            there = t .1 .stays .node;
+            here = t .1 .here;
+            root = ap (λ (n : NodeLabel). n .root) (sym (t .1 .label)) ∙ e;
+            free = λ u. t .1 .free (u .0, u .1, u .3);
+          })
+
+-- the result has one root at most where the right side has, and, if it has one, left roots are placed on all roots of the graph
 pub one-root-made : (r : Rule) → LegalRule r → roots (r .right .nodes) ≤ 1 → (G H : Graph) → OneRoot G → (a : Applies r G H)
-    → (1 ≤ roots (r .right .nodes) → (v : ℕ) → Node G v → G .nodeLabel v .root ≡ 1 → Matched r G H a v) → OneRoot H
-one-root-made r legal most G H inv a all z y k l e f = at (whence r G H a (legal .holds) z k) (whence r G H a (legal .holds) y l)
+    → (1 ≤ roots (r .right .nodes) → (v : ℕ) → Node G v → G .nodeLabel v .root ≡ 1 → UnderRoot r G H a v) → OneRoot H
+one-root-made r legal most G H inv a all z y k l e f = at (root-whence r G H a (legal .holds) z k e) (root-whence r G H a (legal .holds) y l f)
   where
-    root : (x : ℕ) → H .nodeLabel x .root ≡ 1 → (t : Other r G H a x) → G .nodeLabel (t .0) .root ≡ 1
-    root x q t = ap (λ (n : NodeLabel). n .root) (sym (t .1 .label)) ∙ q
-
-    not-both : (x w : ℕ) → H .nodeLabel x .root ≡ 1 → H .nodeLabel w .root ≡ 1 → Right r G H a x → Other r G H a w → ⊥
-    not-both x w p q s t =
+    not-both : {x w : ℕ} → RightRoot r G H a x → OldRoot r G H a w → ⊥
+    not-both s t =
         let some = total-least (λ n. n .root) node₀ (r .right .nodes) (s .node) (s .listed) in
-        t .1 .free (all (omega (arith, some, s .root, p)) (t .0) (t .1 .stays .node) (root w q t))
+        t .free (all (omega (arith, some, s .root)) (t .node) (t .there) (t .root))
 
-    at : Right r G H a z ⊎ Other r G H a z → Right r G H a y ⊎ Other r G H a y → z ≡ y
+    at : RightRoot r G H a z ⊎ OldRoot r G H a z → RightRoot r G H a y ⊎ OldRoot r G H a y → z ≡ y
     at (inl s) (inl t) =
-        let same = total-one (λ n. n .root) node₀ (r .right .nodes) most _ _ (s .listed) (t .listed) (sym (s .root) ∙ e) (sym (t .root) ∙ f) in
+        let same = total-one (λ n. n .root) node₀ (r .right .nodes) most _ _ (s .listed) (t .listed) (s .root) (t .root) in
         sym (s .here) ∙ ap (place r G H a) same ∙ t .here
-    at (inl s) (inr t) = absurd (not-both z y e f s t)
-    at (inr s) (inl t) = absurd (not-both y z f e t s)
+    at (inl s) (inr t) = absurd (not-both s t)
+    at (inr s) (inl t) = absurd (not-both t s)
     at (inr s) (inr t) =
-        let same = inv _ _ (s .1 .stays .node) (t .1 .stays .node) (root z e s) (root y f t) in
-        sym (s .1 .here) ∙ ap (a .constructed .keepNode) same ∙ t .1 .here
+        sym (s .here) ∙ ap (a .constructed .keepNode) (inv _ _ (s .there) (t .there) (s .root) (t .root)) ∙ t .here
 
 -- so a rule that has RootsKept keeps the invariant: a left root is all of the graph's
 pub keeps-one-root : (r : Rule) → LegalRule r → RootsKept r → (G H : Graph) → HostGraph G → OneRoot G → Applies r G H → OneRoot H
 keeps-one-root r legal kept G H host inv a =
     one-root-made r legal (kept .most) G H inv a (λ some v k e.
     let u = total-some (λ n. n .root) node₀ (r .left .nodes) (omega (arith, kept .old)) in
-    let n = a .match .g .nodes (u .0) (u .1) in
-    let one : G .nodeLabel (a .match .g .node (u .0)) .root ≡ 1 = omega (arith, u .2, a .match .compatible .roots (u .0) (u .1), host .roots _ n) in
-    (u .0, u .1, inv _ _ n k one e))
+    let left : nodeOf (r .left) (u .0) .root ≡ 1 = omega (arith, u .2, left-formed r legal (u .0) .root) in
+    let one = root-goes (r .preserving) _ _ (a .match .compatible .roots (u .0) (u .1)) left in
+    (u .0, u .1, left, inv _ _ (a .match .g .nodes (u .0) (u .1)) k one e))

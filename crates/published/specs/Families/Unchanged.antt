@@ -5,11 +5,11 @@ use mathlib.Core.Path.{_≡_, refl, sym, _∙_, subst}
 use mathlib.Core.Logic.{_⊎_, inl, inr}
 use mathlib.Core.Bool.{Bool, true, false}
 use mathlib.Core.List.{List}
-use Prim.Native.Nat.{ℕ, _<_, _≤_}
+use Prim.Native.Nat.{ℕ, zero, suc, _<_, _≤_}
 use native.Mathlib.Omega.{arith}
 use lib.ListN.{length}
 use lib.Dec.{eqb}
-use Rattle.meaning.specs.Basics.{choose}
+use Rattle.meaning.specs.Basics.{choose, both}
 use Rattle.meaning.specs.Image.{RuleGraph, Rule}
 use Rattle.meaning.specs.Tags.{anyMark}
 use Rattle.meaning.specs.Commands.{ruleAt}
@@ -19,15 +19,24 @@ use Rattle.laws.specs.References.{ends}
 use Rattle.laws.specs.Values.{LegalRule, right-marked}
 use Rattle.laws.specs.LegalCommands.{LegalRules, legal-rule}
 use Rattle.published.specs.Graphs.{Graph, Node, Edge, HostGraph, Iso}
-use Rattle.published.specs.RuleApplication.{nodeOf, edgeOf, StaysNode, StaysEdge, Union, placed, Constructed, Matches, Applies}
+use Rattle.published.specs.RuleApplication.{nodeOf, edgeOf, RootsGo, StaysNode, StaysEdge, Union, rootFrom, placed, Constructed, Matches, Applies}
 use Rattle.published.specs.Isomorphism.{iso-trans, iso-back}
 use Rattle.published.specs.OneResult.{one-result, value-of}
 use Rattle.published.specs.Steady.{Steady}
+use Rattle.published.specs.Application.Values.{left-formed}
 
 -- the right side is the left side, and no node is deleted
 pub record Unchanged (r : Rule) : Type 0 where
   pub same : r .right ≡ r .left
   pub whole : r .interface ≡ length (r .left .nodes)
+
+-- the root flag that a matched node keeps, where both sides have the same
+root-same : (preserving : Bool) (left host : ℕ) → left ≤ 1 → RootsGo preserving left host → host ≡ rootFrom preserving left host left
+unfolding choose both
+root-same false left host h e = sym e
+root-same true zero host h f = refl
+root-same true (suc zero) host h f = f refl
+root-same true (suc (suc n)) host h f = absurd (omega arith)
 
 module _ (r : Rule) (legal : LegalRule r) (u : Unchanged r) (G : Graph) (m : Matches r G) where
   right-nodes : length (r .right .nodes) ≡ r .interface
@@ -99,7 +108,7 @@ module _ (r : Rule) (legal : LegalRule r) (u : Unchanged r) (G : Graph) (m : Mat
         interfaceLabels = λ i k.
             let l : i < length (r .left .nodes) = omega (arith, u .whole) in
             rw (u .same)
-            (record { list = m .compatible .nodes i l; root = sym (m .compatible .roots i l); mark = mark-same i l _ refl });
+            (record { list = m .compatible .nodes i l; root = root-same (r .preserving) _ _ (left-formed r legal i .root) (m .compatible .roots i l); mark = mark-same i l _ refl });
         newLabels = λ j k l. absurd (omega (arith, right-nodes));
         keptEdgeLabels = λ e s. refl;
         newEdgeLabels = λ k l. let n = left-edge k l in rw (u .same) (record { list = m .compatible .edges k n; mark = sym (m .compatible .edgeMarks k n (marked k l)) });

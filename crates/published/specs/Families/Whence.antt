@@ -1,21 +1,36 @@
 -- Where the nodes of a result come from: a node is one that the match leaves alone, with the label that it had, or stands where the
--- right side puts one of its nodes, with that node's root and its mark. Rests on RuleApplication and OneResult.
+-- right side puts one of its nodes, with that node's root flag and mark, or with the root flag that it had. Rests on
+-- RuleApplication and OneResult.
 use mathlib.Core.Path.{_≡_, refl, sym, _∙_, ap, subst}
 use mathlib.Core.Logic.{_⊎_, inl, inr}
-use mathlib.Core.Bool.{true}
+use mathlib.Core.Bool.{Bool, true, false}
 use Prim.Native.Nat.{ℕ, _<_, _≤_}
 use native.Mathlib.Omega.{arith}
 use native.Mathlib.Decide.{decLt}
+use borrow.Author.Tests.{eqb-true}
+use lib.Dec.{eqb}
 use lib.ListN.{length}
+use Rattle.meaning.specs.Basics.{choose, both}
 use Rattle.meaning.specs.Image.{Rule}
 use Rattle.meaning.specs.Tags.{anyMark}
 use Rattle.meaning.specs.References.{ruleHolds}
-use Rattle.meaning.specs.Laws.Tests.{choose-lt, choose-le, choose-ne}
+use Rattle.meaning.specs.Laws.Tests.{both-true, choose-lt, choose-le, choose-ne}
 use Rattle.meaning.specs.Laws.Every.{Every, Every-in}
 use Rattle.meaning.specs.Laws.Interface.{interface-right}
 use Rattle.published.specs.Graphs.{Graph, Node}
-use Rattle.published.specs.RuleApplication.{nodeOf, StaysNode, placed, Applies}
+use Rattle.published.specs.RuleApplication.{nodeOf, StaysNode, rootFrom, placed, Applies}
 use Rattle.published.specs.OneResult.{value-of}
+
+-- the root flag of a node of K is that of R, or it is kept
+from-either : (preserving : Bool) (left before right : ℕ)
+    → (rootFrom preserving left before right ≡ right) ⊎ ((left ≡ 0) × (rootFrom preserving left before right ≡ before))
+unfolding choose
+from-either false left before right = inl refl
+from-either true left before right = at (both (eqb left 0) (eqb right 0)) refl
+  where
+    at : (b : Bool) → both (eqb left 0) (eqb right 0) ≡ b → (choose b before right ≡ right) ⊎ ((left ≡ 0) × (choose b before right ≡ before))
+    at false q = inl refl
+    at true q = inr (eqb-true left 0 (both-true _ _ q .0), refl)
 
 module _ (r : Rule) (G H : Graph) (a : Applies r G H) where
   -- where a right node stands
@@ -36,12 +51,18 @@ module _ (r : Rule) (G H : Graph) (a : Applies r G H) where
   abbrev pub Other : ℕ → Type 0
   Other z = (v : ℕ) × Untouched v z
 
+  -- z has the root flag that it had: it is the right node j, of the interface and no root on the left
+  pub record RootKept (j z : ℕ) : Type 0 where
+    pub inside : j < r .interface
+    pub left : nodeOf (r .left) j .root ≡ 0
+    pub root : H .nodeLabel z .root ≡ G .nodeLabel (a .match .g .node j) .root
+
   -- z is the right node j
   pub record Right (z : ℕ) : Type 0 where
     pub node : ℕ
     pub listed : node < length (r .right .nodes)
     pub here : place node ≡ z
-    pub root : H .nodeLabel z .root ≡ nodeOf (r .right) node .root
+    pub root : (H .nodeLabel z .root ≡ nodeOf (r .right) node .root) ⊎ RootKept node z
     pub mark : (nodeOf (r .right) node .mark ≡ anyMark → ⊥) → H .nodeLabel z .mark ≡ nodeOf (r .right) node .mark
 
   module _ (holds : ruleHolds r ≡ true) where
@@ -49,6 +70,12 @@ module _ (r : Rule) (G H : Graph) (a : Applies r G H) where
     pub right-placed : (j : ℕ) → j < length (r .right .nodes) → Right (place j)
     right-placed j l = at (decLt j (r .interface))
       where
+        flag : (j : ℕ) → j < r .interface → {t : ℕ} → H .nodeLabel (place j) .root ≡ t
+            → (t ≡ nodeOf (r .right) j .root) ⊎ ((nodeOf (r .left) j .root ≡ 0) × (t ≡ G .nodeLabel (a .match .g .node j) .root))
+            → (H .nodeLabel (place j) .root ≡ nodeOf (r .right) j .root) ⊎ RootKept j (place j)
+        flag j k e (inl q) = inl (e ∙ q)
+        flag j k e (inr q) = inr (record { inside = k; left = q .0; root = e ∙ q .1 })
+
         at : Dec (j < r .interface) → Right (place j)
         at (yes k) =
             let p = choose-lt j (r .interface) (a .constructed .keepNode (a .match .g .node j)) (a .constructed .newNode j) k in
@@ -57,7 +84,7 @@ module _ (r : Rule) (G H : Graph) (a : Applies r G H) where
               node = j;
               listed = l;
               here = refl;
-              root = ap (λ (u : ℕ). H .nodeLabel u .root) p ∙ new .root;
+              root = flag j k (ap (λ (u : ℕ). H .nodeLabel u .root) p ∙ new .root) (from-either (r .preserving) _ _ _);
               mark = λ n. ap (λ (u : ℕ). H .nodeLabel u .mark) p ∙ new .mark ∙ choose-ne _ _ _ _ n;
             }
         at (no k) =
@@ -67,7 +94,7 @@ module _ (r : Rule) (G H : Graph) (a : Applies r G H) where
               node = j;
               listed = l;
               here = refl;
-              root = ap (λ (u : ℕ). H .nodeLabel u .root) p ∙ new .root;
+              root = inl (ap (λ (u : ℕ). H .nodeLabel u .root) p ∙ new .root);
               mark = λ n. ap (λ (u : ℕ). H .nodeLabel u .mark) p ∙ new .mark;
             }
 

@@ -3,6 +3,7 @@
 -- Rests on Whence.
 use mathlib.Core.Path.{_≡_, refl, sym, _∙_, ap}
 use mathlib.Core.Logic.{_⊎_, inl, inr}
+use mathlib.Core.Bool.{false}
 use mathlib.Core.Option.{some}
 use mathlib.Core.List.{List, [], _∷_, _++_}
 use Prim.Native.Nat.{ℕ, zero, suc, _*_, _<_}
@@ -55,6 +56,7 @@ turn =
       };
       interface = 2;
       tests = [];
+      preserving = false;
     }
 
 abbrev pub tree : Program

@@ -57,6 +57,7 @@ init =
       right = record { nodes = record { mark = greyMark; root = 1; label = Variable 0 ∷ [] } ∷ []; edges = [] };
       interface = 1;
       tests = [];
+      preserving = false;
     }
 
 -- the rules of is-cycle

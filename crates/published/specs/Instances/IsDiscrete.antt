@@ -42,6 +42,7 @@ del =
       right = record { nodes = []; edges = [] };
       interface = 0;
       tests = [];
+      preserving = false;
     }
 
 -- asks for one
@@ -53,6 +54,7 @@ node =
       right = record { nodes = record { mark = noneMark; root = 0; label = Variable 0 ∷ [] } ∷ []; edges = [] };
       interface = 1;
       tests = [];
+      preserving = false;
     }
 
 abbrev pub tree : Program

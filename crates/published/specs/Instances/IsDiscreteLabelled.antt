@@ -4,7 +4,7 @@
 -- Rests on IsDiscrete, Existence and Endings.
 use mathlib.Core.Path.{_≡_, refl, sym, _∙_, ap}
 use mathlib.Core.Logic.{inl, inr}
-use mathlib.Core.Bool.{true}
+use mathlib.Core.Bool.{true, false}
 use mathlib.Core.List.{List, [], _∷_, append-nil}
 use Prim.Native.Nat.{ℕ, zero, suc, _<_, _≤_}
 use native.Mathlib.Omega.{arith}
@@ -133,7 +133,7 @@ one-label l (suc j) k = absurd (omega arith)
 
 module _ (right : RuleGraph) (interface : ℕ) where
   abbrev rule : Rule
-  rule = record { variables = listType ∷ []; left = one; right = right; interface = interface; tests = [] }
+  rule = record { variables = listType ∷ []; left = one; right = right; interface = interface; tests = []; preserving = false }
 
   no-int : (l : List ℕ) (v : ℕ) → isInt rule v ≡ true → length l ≡ 1
   no-int l zero e = let z : _≡_ {A = ℕ} 0 1 = cc in absurd (omega arith)

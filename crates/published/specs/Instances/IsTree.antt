@@ -76,6 +76,7 @@ init =
       right = record { nodes = record { mark = blueMark; root = 1; label = Variable 0 ∷ [] } ∷ []; edges = [] };
       interface = 1;
       tests = record { negated = false; condition = InDegree 0 0 } ∷ [];
+      preserving = false;
     }
 
 -- the root, a leaf, goes, and the node above it becomes the root
@@ -90,6 +91,7 @@ prune =
       right = record { nodes = record { mark = blueMark; root = 1; label = Variable 1 ∷ [] } ∷ []; edges = [] };
       interface = 1;
       tests = [];
+      preserving = false;
     }
 
 -- a grey node below the root becomes the root, blue
@@ -107,6 +109,7 @@ push =
       };
       interface = 2;
       tests = [];
+      preserving = false;
     }
 
 -- asks whether one edge reaches the root
@@ -118,6 +121,7 @@ verify =
       right = record { nodes = record { mark = blueMark; root = 1; label = Variable 0 ∷ [] } ∷ []; edges = [] };
       interface = 1;
       tests = record { negated = false; condition = InDegree 0 1 } ∷ [];
+      preserving = false;
     }
 
 -- asks for a node that is no root
@@ -129,6 +133,7 @@ match =
       right = record { nodes = record { mark = anyMark; root = 0; label = Variable 0 ∷ [] } ∷ []; edges = [] };
       interface = 1;
       tests = [];
+      preserving = false;
     }
 
 -- asks for a root with a loop
@@ -146,6 +151,7 @@ looped =
       };
       interface = 1;
       tests = [];
+      preserving = false;
     }
 
 abbrev pub tree : Program

@@ -41,6 +41,7 @@ redden =
       right = record { nodes = record { mark = redMark; root = 1; label = [] } ∷ []; edges = [] };
       interface = 1;
       tests = [];
+      preserving = false;
     }
 
 abbrev pub tree : Program

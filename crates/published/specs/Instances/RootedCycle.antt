@@ -66,6 +66,7 @@ red1 =
       right = record { nodes = []; edges = [] };
       interface = 0;
       tests = [];
+      preserving = false;
     }
 
 -- the root and another node, with an edge each way, become a root with a loop
@@ -86,6 +87,7 @@ red2 =
       };
       interface = 0;
       tests = [];
+      preserving = false;
     }
 
 -- the root is cut out of a path of two edges, and its successor becomes the root
@@ -110,6 +112,7 @@ red3 =
       };
       interface = 2;
       tests = [];
+      preserving = false;
     }
 
 -- asks for a node
@@ -121,6 +124,7 @@ match =
       right = record { nodes = record { mark = greyMark; root = 0; label = Variable 0 ∷ [] } ∷ []; edges = [] };
       interface = 1;
       tests = [];
+      preserving = false;
     }
 
 abbrev pub tree : Program

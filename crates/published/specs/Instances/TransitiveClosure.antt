@@ -3,7 +3,7 @@
 -- order the same graph comes of it. Rests on Diamond and OneEdgeMore.
 use mathlib.Core.Path.{_≡_, refl, sym, _∙_, ap}
 use mathlib.Core.Logic.{_⊎_, inl, inr}
-use mathlib.Core.Bool.{true}
+use mathlib.Core.Bool.{true, false}
 use mathlib.Core.Option.{some}
 use mathlib.Core.List.{List, [], _∷_}
 use Prim.Native.Nat.{ℕ, zero, suc, _<_, _≤_}
@@ -64,6 +64,7 @@ link =
       right = record { nodes = three; edges = first ∷ second ∷ record { mark = noneMark; source = 0; target = 2; label = [] } ∷ [] };
       interface = 3;
       tests = record { negated = true; condition = edgeBetween 0 2 } ∷ [];
+      preserving = false;
     }
 
 abbrev pub tree : Program
@@ -168,7 +169,7 @@ module _ (G : Graph) (m : Matches link G) (f : ℕ) (fresh : Edge G f → ⊥) w
   new-targets (suc (suc (suc k))) l = absurd (omega arith)
 
   node-labels : (i : ℕ) → i < 3
-      → NodeInstance (m .α .of) (nodeOf (link .right) i) (markFrom (G .nodeLabel (m .g .node i) .mark) (nodeOf (link .right) i .mark)) (G .nodeLabel (m .g .node i))
+      → NodeInstance (m .α .of) (nodeOf (link .right) i) (markFrom (G .nodeLabel (m .g .node i) .mark) (nodeOf (link .right) i .mark)) (nodeOf (link .right) i .root) (G .nodeLabel (m .g .node i))
   unfolding choose
   node-labels i k = record { list = m .compatible .nodes i k; root = sym (m .compatible .roots i k); mark = mark i k }
     where

@@ -96,7 +96,7 @@ module _ (i : ℕ) (h : i < 2) where
       }
 
   new-label : (j : ℕ) → j < 1
-      → NodeInstance (λ v. []) (nodeOf (redden .right) j) (markFrom 0 (nodeOf (redden .right) j .mark)) (red i .nodeLabel i)
+      → NodeInstance (λ v. []) (nodeOf (redden .right) j) (markFrom 0 (nodeOf (redden .right) j .mark)) (nodeOf (redden .right) j .root) (red i .nodeLabel i)
   unfolding choose
   new-label zero k = record { list = refl; root = refl; mark = choose-eq i i 1 0 refl }
   new-label (suc j) k = absurd (omega arith)

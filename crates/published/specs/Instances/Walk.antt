@@ -1,7 +1,7 @@
 -- A walk: the root goes along an edge to an unmarked node and leaves a red one behind, as long as it can. Where there is at most one root
 -- and at most one edge leaves each node, there is one way to go. Rests on Determined.
 use mathlib.Core.Path.{_≡_, refl}
-use mathlib.Core.Bool.{true}
+use mathlib.Core.Bool.{true, false}
 use mathlib.Core.Option.{some}
 use mathlib.Core.List.{List, [], _∷_, _++_}
 use Prim.Native.Nat.{ℕ, zero, suc, _*_, _<_}
@@ -56,6 +56,7 @@ step =
       };
       interface = 2;
       tests = [];
+      preserving = false;
     }
 
 abbrev pub tree : Program

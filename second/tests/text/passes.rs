@@ -1,0 +1,56 @@
+//! The runs that docs/PASSES.md shows: each program on the host of its section comes to the listing behind it.
+
+use second::encode;
+use second::listing::listing;
+use second::text::{assemble, runner_input};
+
+const PAGE: &str = include_str!("../../../docs/PASSES.md");
+
+/// What stands in the code blocks of the page.
+fn blocks() -> Vec<&'static str> {
+    PAGE.split("```\n").skip(1).step_by(2).collect()
+}
+
+/// The listing of a text with a host section.
+fn listed(text: &str) -> String {
+    let assembly = assemble("page", text).unwrap_or_else(|complaint| panic!("{complaint}\n{text}"));
+    let host = assembly.host.expect("a host section");
+    let input = runner_input(&assembly.program, &host.graph, &host.sizes).expect("legal sizes");
+    listing(&encode::runner_input(&input))
+}
+
+#[test]
+fn what_the_page_shows_is_what_a_run_gives() {
+    let host = blocks()
+        .into_iter()
+        .find(|block| block.starts_with("host "));
+    let host = host.expect("a host on the page");
+    let mut shown = 0;
+    for block in blocks() {
+        let Some((program, listing)) = block.split_once("\nanswer ") else {
+            continue;
+        };
+        assert_eq!(
+            listed(&format!("{program}{host}")),
+            format!("answer {listing}")
+        );
+        shown += 1;
+    }
+    assert_eq!(shown, 3, "runs on the page");
+}
+
+/// The clause is what each of them hangs on.
+#[test]
+fn the_other_mode_gives_what_the_page_says() {
+    let host = "host fuel 1000 [ (1(R), 1) (2, 2) | ]";
+    let run = |main: &str, rule: &str| listed(&format!("Main = {main}\n{rule}\n{host}"));
+    let mark = "mark(x: list) [ (n1, x) | ] => [ (n1, x # red) | ] interface = {n1}";
+    let marked = run("mark!", &format!("{mark} roots = preserving"));
+    assert!(marked.ends_with("node 0 red root 1\nnode 1 red plain 2\n"));
+    let init = "init(x: list) [ (n1, x) | ] => [ (n1(R), x) | ] interface = {n1}";
+    assert!(run("init!", init).ends_with("node 0 none root 1\nnode 1 none root 2\n"));
+    let once = run("init", &format!("{init} roots = preserving"));
+    assert!(once.ends_with("node 0 none root 1\nnode 1 none plain 2\n"));
+    let prune = "prune(x: list) [ (n1, x) | ] => [ | ] interface = {}";
+    assert!(run("prune!", prune).ends_with("records 1\nnode 0 none root 1\n"));
+}
