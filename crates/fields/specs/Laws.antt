@@ -152,7 +152,20 @@ module _ (bs : List ℕ) (at : ℕ) where
         go (yes h) = lies-placed (field (drop at bs)) refl (e ∙ inside-at h)
         go (no h) = let k = at-end (omega arith) in let z : _≡_ {A = ℕ} 0 1 = cc in absurd (omega arith)
 
--- The field of a number: n fields on from what is found.
+-- The field of a number: the next one lies behind it.
+
+pub nth-next : (n : ℕ) (bs : List ℕ) (at : ℕ) {tag start end : ℕ} → nthField n bs at ≡ Field tag start end → nthField (suc n) bs at ≡ fieldAt bs end
+unfolding nthField onward
+nth-next zero bs at e = rw e
+nth-next (suc n) bs at {tag} {start} {end} e = go (fieldAt bs at) (λ x q. nth-next n bs x q) e
+  where
+    go : (f : Found) → ((x : ℕ) → nthField n bs x ≡ Field tag start end → nthField (suc n) bs x ≡ fieldAt bs end)
+        → onward f (λ x. nthField n bs x) ≡ Field tag start end → onward f (λ x. nthField (suc n) bs x) ≡ fieldAt bs end
+    go (Field t s x) i e = i x e
+    go Short i e = let z : _≡_ {A = ℕ} 0 1 = cc in absurd (omega arith)
+    go End i e = let z : _≡_ {A = ℕ} 0 1 = cc in absurd (omega arith)
+
+-- n fields on from what is found.
 
 unfoldable pub later : ℕ → List ℕ → Found → Found
 later zero bs f = f

@@ -19,7 +19,9 @@ use Rattle.fields.specs.Image.{field-is, bind-yes}
 use Rattle.fields.specs.Parsed.{oneByte-is, ruleNode-is, ruleEdge-is, ruleGraph-is, types-is, mode-is, rule-is, no-rule, command-tag, program-is}
 use Rattle.meaning.specs.declared.Element.{Element}
 use Rattle.fields.specs.Laws.{Lies}
-use Rattle.parts.specs.Series.{Series, For, series-none, series-some, series-there, leading-series, only-series, series-append, series-map, nthPart, nthTag, nth-item, nth-beyond}
+use Rattle.fields.specs.Fields.{nthField}
+use Rattle.fields.specs.declared.Found.the-variants.{Field as Lying}
+use Rattle.parts.specs.Series.{Series, For, series-none, series-some, series-there, leading-series, only-series, series-append, series-map, nthPart, nthTag, nth-item, nth-there, nth-beyond}
 
 -- Tags, and how many at the front are of one kind.
 
@@ -403,7 +405,7 @@ main-command bs p e =
 abbrev anything : ℕ → List ℕ → Option (List ℕ)
 anything tag bs = some bs
 
--- the parts, each where the field of its number lies; without a mode the part of its number is empty
+-- the parts, each where the field of its number lies; the first five are there, and without a mode the part of its number is empty
 pub record Parted (bs : List ℕ) (x : Rule) : Type 0 where
   pub variables : types (nthPart 0 bs) ≡ some (x .variables)
   pub left : ruleGraph (nthPart 1 bs) ≡ some (x .left)
@@ -411,6 +413,7 @@ pub record Parted (bs : List ℕ) (x : Rule) : Type 0 where
   pub interface : oneByte (nthPart 3 bs) ≡ some (x .interface)
   pub tests : only passesAll test 4 (nthPart 4 bs) ≡ some (x .tests)
   pub preserving : x .preserving ≡ eqb (getD (nthPart 5 bs) 0 0) 1
+  pub there : (n : ℕ) → n < 5 → (tag : ℕ) × (start : ℕ) × (end : ℕ) × (nthField n bs 0 ≡ Lying tag start end)
 
 expected : (tag : ℕ) (bs : List ℕ) (d : Field) → expect tag bs ≡ some d → field bs ≡ some d
 unfolding expect
@@ -454,6 +457,7 @@ rule-parted bs x e =
       interface = ap oneByte (nth-payload bs l 3 row) ∙ i .interface;
       tests = ap (only passesAll test 4) (nth-payload bs l 4 row) ∙ i .tests;
       preserving = i .preserving ∙ m .2 ∙ ap (λ (q : List ℕ). eqb (getD q 0 0) 1) (sym (nth-payload bs l 5 row));
+      there = λ n h. nth-there bs anything l n row (omega arith);
     }
 
 pub variables-are : (bs part : List ℕ) → part ≡ nthPart 0 bs → For (rule bs) (λ x. part ≡ x .variables)

@@ -244,6 +244,21 @@ module _ (bs : List ℕ) where
       let t = row-field item a l at r in
       rw (t .3) (nth-series item l (t .2) n d (t .5) (omega arith))
 
+  -- a field of a row is there
+  there : {A : Type 0} (item : ℕ → List ℕ → Option A) (l : List A) (at n : ℕ) → Series item l [] (drop at bs) → n < length l
+      → (tag : ℕ) × (start : ℕ) × (end : ℕ) × (nthField n bs at ≡ Field tag start end)
+  unfolding nthField onward
+  there item [] at n r h = absurd (omega arith)
+  there item (a ∷ l) at zero r h = let t = row-field item a l at r in (t .0, t .1, t .2, t .3)
+  there item (a ∷ l) at (suc n) r h =
+      let t = row-field item a l at r in
+      let u = there item l (t .2) n (t .5) (omega arith) in
+      (u .0, u .1, u .2, rw (t .3) (u .3))
+
+  pub nth-there : {A : Type 0} (item : ℕ → List ℕ → Option A) (l : List A) (n : ℕ) → Series item l [] bs → n < length l
+      → (tag : ℕ) × (start : ℕ) × (end : ℕ) × (nthField n bs 0 ≡ Field tag start end)
+  nth-there item l n r h = there item l 0 n r h
+
   -- behind the last of a row there is none
   beyond : {A : Type 0} (item : ℕ → List ℕ → Option A) (l : List A) (at n : ℕ) → Series item l [] (drop at bs) → length l ≤ n → nthField n bs at ≡ End
   unfolding Series nthField onward

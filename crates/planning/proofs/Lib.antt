@@ -2,4 +2,5 @@ mod Variables
 mod Stores
 mod Deciding
 mod Filling
+mod Places
 mod Labelling

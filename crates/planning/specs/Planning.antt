@@ -1,4 +1,4 @@
--- Making a plan: where a label first has a variable, how a label is compared, when a condition is decided, and the plan as far
+-- Making a plan: where the parts of a rule lie, where a label first has a variable, how a label is compared, when a condition is decided, and the plan as far
 -- as it is made. Rests on plan's Plan and on the meaning's FirstMatch.
 use mathlib.Core.Path.{_≡_}
 use mathlib.Core.Logic.{_⊎_}
@@ -18,11 +18,24 @@ use Rattle.meaning.specs.declared.Operand.the-variants.{Constant as constantOpe
 use Rattle.meaning.specs.declared.Condition.{Condition}
 use Rattle.meaning.specs.declared.Element.{Element}
 use Rattle.meaning.specs.declared.Element.the-variants.{Constant as constantElement, Variable}
-use Rattle.plan.specs.Plan.{Placed, Laid, singlesBefore, listsBefore, FirstAt, Labelled, Planned, beforeAt, firstAt, planLength, singlesAt, constantAt, elementsAt, listsAt, sortAt}
+use Rattle.fields.specs.Fields.{fieldAt, nthField}
+use Rattle.fields.specs.declared.Found.the-variants.{Field}
+use Rattle.plan.specs.Plan.{Placed, Laid, Part, singlesBefore, listsBefore, FirstAt, Labelled, Planned, beforeAt, firstAt, planLength, singlesAt, constantAt, elementsAt, listsAt, sortAt}
 use Rattle.planning.specs.declared.Occurs.{Occurs}
 use Rattle.planning.specs.declared.Occurs.the-variants.{Behind, Nowhere}
 use Rattle.planning.specs.declared.Sort.{Sort}
 use Rattle.planning.specs.declared.Sort.the-variants.{Length, Constant, Elements}
+
+-- Where parts of a rule are.
+
+-- the field of number n is the one at a place
+abbrev pub NumberAt : List ℕ → ℕ → ℕ → Type 0
+NumberAt bs n at = nthField n bs 0 ≡ fieldAt bs at
+
+-- the payload of the field at a place, whatever its number, and the next field behind it
+pub record Lying (bs : List ℕ) (at start end : ℕ) : Type 0 where
+  pub part : (n : ℕ) → NumberAt bs n at → Part bs n start end
+  pub next : (n tag s e : ℕ) → NumberAt bs n at → nthField n bs 0 ≡ Field tag s e → NumberAt bs (suc n) end
 
 -- Where variables are.
 

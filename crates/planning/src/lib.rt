@@ -8,8 +8,8 @@ ghost use Rattle.meaning.specs.Image.{Rule, RuleGraph, ruleGraph, element, labe
 ghost use Rattle.meaning.specs.References.{takesList};
 ghost use Rattle.meaning.specs.Assigned.{isVariable};
 ghost use Rattle.meaning.specs.declared.Element.{Element};
-ghost use Rattle.plan.specs.Plan.{planLength, Placed, Items, Planned, IsLaid, For, FirstAt, Labelled, IsRule, Part, edgesAt, nodesAt};
-ghost use Rattle.planning.specs.Planning.{Named, HasGraph, IsNamed, Valued, decidedBy, Decides, Plans, operandDecided, Occurring, Sorts, OnlyLabel, AllLabelled, IsLabelled};
+ghost use Rattle.plan.specs.Plan.{planLength, Placed, Items, Planned, IsLaid, For, FirstAt, Labelled, IsRule, edgesAt, nodesAt};
+ghost use Rattle.planning.specs.Planning.{Lying, Named, HasGraph, IsNamed, Valued, decidedBy, Decides, Plans, operandDecided, Occurring, Sorts, OnlyLabel, AllLabelled, IsLabelled};
 use fields::Found;
 use meaning::Condition;
 use meaning::Element;
@@ -291,11 +291,11 @@ struct Span {
     end: usize,
 }
 
-// The payload of the field of number n.
-fn place(rule: &[u8], n: usize) -> Span
-    ensures { λ p. ⌜ Part (now (rule .entry)) n (p .start) (p .end) ⌝ }
+// The payload of the field at a place.
+fn place(rule: &[u8], at: usize) -> Span
+    ensures { λ p. ⌜ Lying (now (rule .entry)) at (p .start) (p .end) ⌝ }
 {
-    let found = fields::nth_field(rule, n);
+    let found = fields::read_field(rule, at);
     let Found::Field(tag, start, end) = found else {
         return Span { start: 0, end: 0 };
     };
@@ -305,16 +305,18 @@ fn place(rule: &[u8], n: usize) -> Span
     }
 }
 
-// Makes the plan of a rule.
+// Makes the plan of a rule, whose parts are read one behind the other.
 pub fn make(rule: &[u8], plan: &mut [usize; At::LENGTH])
     requires { ⌜ IsRule (now rule) ⌝ }
     requires { ⌜ length (now plan) ≡ planLength ⌝ }
     ensures { λ u. ⌜ Plans (now (rule .entry)) (now (plan .exit)) ⌝ }
 {
     let types = place(rule, 0);
-    let left = place(rule, 1);
-    let interface = place(rule, 3);
-    let tests = place(rule, 4);
+    let left = place(rule, types.end);
+    let right = place(rule, left.end);
+    let interface = place(rule, right.end);
+    let tests = place(rule, interface.end);
+    let mode = place(rule, tests.end);
     let at = interface.start;
     items(rule, left.start, left.end, plan);
     plan[At::INTERFACE] = fields::wide(rule[at]);
@@ -322,7 +324,7 @@ pub fn make(rule: &[u8], plan: &mut [usize; At::LENGTH])
     plan[At::TESTS_END] = tests.end;
     plan[At::TYPES_START] = types.start;
     plan[At::TYPES_END] = types.end;
-    plan[At::MODE] = parts::mode_of(rule);
+    plan[At::MODE] = parts::number_at(fields::part(rule, mode.start, mode.end), 0);
     plan_variables(rule, plan);
     plan_labels(rule, plan);
     plan_tests(rule, plan);
