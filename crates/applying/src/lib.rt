@@ -41,9 +41,10 @@ fn hindrance(
     if values::labels_held(l.atoms, lens, atoms, right) {
         let k = parts::interface_of(rule);
         let n = parts::node_count(left);
-        let m = parts::edge_count(left);
-        let new = parts::node_count(right) - k;
-        let count = parts::edge_count(right);
+        let m = parts::edge_count(left, n);
+        let right_nodes = parts::node_count(right);
+        let new = right_nodes - k;
+        let count = parts::edge_count(right, right_nodes);
         let all = used + (m + n + new + count);
         return ledger::room(l, nodes, edges, journal, new, n - k, count, m, all);
     }
@@ -71,7 +72,7 @@ fn change_left(
     let k = parts::interface_of(rule);
     let mode = parts::mode_of(rule);
     let n = parts::node_count(left);
-    let m = parts::edge_count(left);
+    let m = parts::edge_count(left, n);
     ledger::free_edges(l, &nodes[..], edges, journal, used, slots, n, m);
     let gone = used + m;
     making::change_nodes(
@@ -109,8 +110,9 @@ fn add_right(
 {
     let right = parts::right_part(rule);
     let k = parts::interface_of(rule);
-    let new = parts::node_count(right) - k;
-    let count = parts::edge_count(right);
+    let right_nodes = parts::node_count(right);
+    let new = right_nodes - k;
+    let count = parts::edge_count(right, right_nodes);
     let places = making::new_nodes(
         l,
         nodes,

@@ -15,7 +15,7 @@ use Rattle.meaning.specs.Tags.{variablesTag, leftTag, rightTag, interfaceTag, t
 use Rattle.meaning.specs.Image.{Field, Read, Rule, RuleNode, limits, field, expect, leading, only, passesAll, operand, asPair, twoOperands, element, label, ruleNode, ruleEdge, ruleGraph, types, oneByte, test, mode, rule, asSequence, asGuarded, asLoop, command, program}
 use Rattle.meaning.specs.declared.Operand.{Operand}
 use Rattle.meaning.specs.Laws.Tests.{both-no, both-yes, both-last}
-use Rattle.fields.specs.Image.{field-small, field-is, isSome-no, isSome-map, isSome-after, isSome-then, asSequence-ok, asGuarded-ok, asLoop-ok, ruleGraph-no, ruleGraph-ok, program-no-rules, program-no-field, program-ok}
+use Rattle.fields.specs.Image.{field-small, field-is, isSome-no, isSome-map, isSome-then, asSequence-ok, asGuarded-ok, asLoop-ok, ruleGraph-no, ruleGraph-ok, program-no-rules, program-no-field, program-ok}
 use Rattle.image.specs.declared.Row.the-variants.{Rules, Main, Variables, Nodes, Edges, Tests, Elements, Operands, Sequence, Guarded, Loop}
 use Rattle.image.specs.Form.{met, opens, behind, fits}
 

@@ -269,18 +269,18 @@ abbrev pub markAt : RuleGraph → ℕ → ℕ
 markAt g i = getD (map (λ n. n .mark) (g .nodes)) i 0
 
 -- all items but the nodes are edges
-module _ (bs : List ℕ) (all n : ℕ) (h : (l : List ℕ) → Series tagItem l [] bs → all ≡ length l) (q : For (ruleGraph bs) (λ g. n ≡ length (g .nodes))) where
+module _ (bs : List ℕ) (all n : ℕ) (h : (l : List ℕ) → Series tagItem l [] bs → all ≡ length l) where
   together : For (ruleGraph bs) (λ g. all ≡ length (g .nodes) + length (g .edges))
   together g e =
       count-is graphItem bs all h (items g) (graph-series bs g e)
       ∙ length-append (map node (g .nodes)) (map edge (g .edges))
       ∙ rw (length-map (g .nodes) node, length-map (g .edges) edge)
 
-  pub edges-behind : n ≤ all → For (ruleGraph bs) (λ g. all - n ≡ length (g .edges))
-  edges-behind k g e = omega (arith, together g e, q g e)
+  pub edges-behind : n ≤ all → For (ruleGraph bs) (λ g. n ≡ length (g .nodes) → all - n ≡ length (g .edges))
+  edges-behind k g e q = omega (arith, together g e)
 
-  pub no-edges : all < n → For (ruleGraph bs) (λ g. 0 ≡ length (g .edges))
-  no-edges k g e = omega (arith, together g e, q g e)
+  pub no-edges : all < n → For (ruleGraph bs) (λ g. n ≡ length (g .nodes) → 0 ≡ length (g .edges))
+  no-edges k g e q = omega (arith, together g e)
 
 -- the edge of a number, where the node count is known
 pub edge-there : (bs part : List ℕ) (i n : ℕ) → For (ruleGraph bs) (λ g. n ≡ length (g .nodes)) → part ≡ nthPart (n + i) bs

@@ -155,11 +155,11 @@ pub fn node_count(p: &[u8]) -> usize
     count_front(p, Tag::NODE)
 }
 
-pub fn edge_count(p: &[u8]) -> usize
-    ensures { λ r. ⌜ For (ruleGraph (now (p .entry))) (λ g. r ≡ length (g .edges)) ⌝ }
+// The edges behind n nodes.
+pub fn edge_count(p: &[u8], n: usize) -> usize
+    ensures { λ r. ⌜ For (ruleGraph (now (p .entry))) (λ g. n ≡ length (g .nodes) → r ≡ length (g .edges)) ⌝ }
 {
     let all = count_fields(p);
-    let n = node_count(p);
     if n <= all {
         return all - n;
     }

@@ -22,7 +22,7 @@ counted c w =
       right = right;
       interface = k;
       added = new-count (w .start) k (c .before .node-count .ensures .0 _ right);
-      rightEdges = c .edge-count .ensures _ right;
+      rightEdges = c .edge-count .ensures _ right (c .before .node-count .ensures .0 _ right);
     }
 
 right-part-requires : tie.Need-right-part-requires

@@ -22,7 +22,7 @@ counted c u =
       interface = c .before .before .before .interface-of .ensures _ (u .match .is);
       mode = c .before .before .mode-of .ensures _ (u .match .is);
       nodes = c .before .node-count .ensures .0 _ left;
-      edges = c .edge-count .ensures _ left;
+      edges = c .edge-count .ensures _ left (c .before .node-count .ensures .0 _ left);
     }
 
 left-part-requires : tie.Need-left-part-requires

@@ -35,25 +35,25 @@ edge-count-requires-2 : tie.Need-edge-count-requires-2
 edge-count-requires-2 c κs = search needs
 
 add-all : tie.Need-add-all
-add-all c = let w = c .before .before .before .before .before .before .before .before .before .before .before .before .before .pre .1 in let f = rule-few _ _ (w .is) in omega (arith, c .before .before .before .node-count .ensures .0 _ (c .before .before .before .before .before .before .before .before .left-part .ensures _ (w .is)), c .before .before .edge-count .ensures _ (c .before .before .before .before .before .before .before .before .left-part .ensures _ (w .is)))
+add-all c = let w = c .before .before .before .before .before .before .before .before .before .before .before .before .before .pre .1 in let f = rule-few _ _ (w .is) in omega (arith, c .before .before .before .node-count .ensures .0 _ (c .before .before .before .before .before .before .before .before .left-part .ensures _ (w .is)), c .before .before .edge-count .ensures _ (c .before .before .before .before .before .before .before .before .left-part .ensures _ (w .is)) (c .before .before .before .node-count .ensures .0 _ (c .before .before .before .before .before .before .before .before .left-part .ensures _ (w .is))))
 
 add-all-2 : tie.Need-add-all-2
-add-all-2 c = let w = c .before .before .before .before .before .before .before .before .before .before .before .before .before .pre .1 in let f = rule-few _ _ (w .is) in omega (arith, c .before .before .before .node-count .ensures .0 _ (c .before .before .before .before .before .before .before .before .left-part .ensures _ (w .is)), c .before .before .edge-count .ensures _ (c .before .before .before .before .before .before .before .before .left-part .ensures _ (w .is)), c .before .node-count2 .ensures .0 _ (c .before .before .before .before .before .before .before .right-part .ensures _ (w .is)))
+add-all-2 c = let w = c .before .before .before .before .before .before .before .before .before .before .before .before .before .pre .1 in let f = rule-few _ _ (w .is) in omega (arith, c .before .before .before .node-count .ensures .0 _ (c .before .before .before .before .before .before .before .before .left-part .ensures _ (w .is)), c .before .before .edge-count .ensures _ (c .before .before .before .before .before .before .before .before .left-part .ensures _ (w .is)) (c .before .before .before .node-count .ensures .0 _ (c .before .before .before .before .before .before .before .before .left-part .ensures _ (w .is))), c .before .node-count2 .ensures .0 _ (c .before .before .before .before .before .before .before .right-part .ensures _ (w .is)))
 
 add-all-3 : tie.Need-add-all-3
-add-all-3 c = let w = c .before .before .before .before .before .before .before .before .before .before .before .before .before .pre .1 in let f = rule-few _ _ (w .is) in omega (arith, c .before .before .before .node-count .ensures .0 _ (c .before .before .before .before .before .before .before .before .left-part .ensures _ (w .is)), c .before .before .edge-count .ensures _ (c .before .before .before .before .before .before .before .before .left-part .ensures _ (w .is)), c .before .node-count2 .ensures .0 _ (c .before .before .before .before .before .before .before .right-part .ensures _ (w .is)), c .edge-count2 .ensures _ (c .before .before .before .before .before .before .before .right-part .ensures _ (w .is)))
+add-all-3 c = let w = c .before .before .before .before .before .before .before .before .before .before .before .before .before .pre .1 in let f = rule-few _ _ (w .is) in omega (arith, c .before .before .before .node-count .ensures .0 _ (c .before .before .before .before .before .before .before .before .left-part .ensures _ (w .is)), c .before .before .edge-count .ensures _ (c .before .before .before .before .before .before .before .before .left-part .ensures _ (w .is)) (c .before .before .before .node-count .ensures .0 _ (c .before .before .before .before .before .before .before .before .left-part .ensures _ (w .is))), c .before .node-count2 .ensures .0 _ (c .before .before .before .before .before .before .before .right-part .ensures _ (w .is)), c .edge-count2 .ensures _ (c .before .before .before .before .before .before .before .right-part .ensures _ (w .is)) (c .before .node-count2 .ensures .0 _ (c .before .before .before .before .before .before .before .right-part .ensures _ (w .is))))
 
 add-all-4 : tie.Need-add-all-4
-add-all-4 c = let w = c .before .before .before .before .before .before .before .before .before .before .before .before .before .pre .1 in let f = rule-few _ _ (w .is) in omega (arith, c .before .before .before .node-count .ensures .0 _ (c .before .before .before .before .before .before .before .before .left-part .ensures _ (w .is)), c .before .before .edge-count .ensures _ (c .before .before .before .before .before .before .before .before .left-part .ensures _ (w .is)), c .before .node-count2 .ensures .0 _ (c .before .before .before .before .before .before .before .right-part .ensures _ (w .is)), c .edge-count2 .ensures _ (c .before .before .before .before .before .before .before .right-part .ensures _ (w .is)), records-half (c .before .before .before .before .before .before .before .before .before .before .before .before .before .args .l) (c .before .before .before .before .before .before .before .before .before .before .before .before .before .args .journal .now) (c .before .before .before .before .before .before .before .before .before .before .before .before .before .args .used) (c .before .before .before .before .before .before .before .before .before .before .before .before .before .pre .0 .held .room))
+add-all-4 c = let w = c .before .before .before .before .before .before .before .before .before .before .before .before .before .pre .1 in let f = rule-few _ _ (w .is) in omega (arith, c .before .before .before .node-count .ensures .0 _ (c .before .before .before .before .before .before .before .before .left-part .ensures _ (w .is)), c .before .before .edge-count .ensures _ (c .before .before .before .before .before .before .before .before .left-part .ensures _ (w .is)) (c .before .before .before .node-count .ensures .0 _ (c .before .before .before .before .before .before .before .before .left-part .ensures _ (w .is))), c .before .node-count2 .ensures .0 _ (c .before .before .before .before .before .before .before .right-part .ensures _ (w .is)), c .edge-count2 .ensures _ (c .before .before .before .before .before .before .before .right-part .ensures _ (w .is)) (c .before .node-count2 .ensures .0 _ (c .before .before .before .before .before .before .before .right-part .ensures _ (w .is))), records-half (c .before .before .before .before .before .before .before .before .before .before .before .before .before .args .l) (c .before .before .before .before .before .before .before .before .before .before .before .before .before .args .journal .now) (c .before .before .before .before .before .before .before .before .before .before .before .before .before .args .used) (c .before .before .before .before .before .before .before .before .before .before .before .before .before .pre .0 .held .room))
 
 sub-room : tie.Need-sub-room
 sub-room c = let w = c .before .before .before .before .before .before .before .before .before .before .before .before .before .pre .1 in omega (arith, c .before .before .before .before .interface-of .ensures _ (w .is), c .before .before .before .node-count .ensures .0 _ (c .before .before .before .before .before .before .before .before .left-part .ensures _ (w .is)), interface-left _ (w .legal .holds))
 
 room-requires : tie.Need-room-requires
-room-requires c κs = let w = c .before .before .before .before .before .before .before .before .before .before .before .before .before .pre .1 in let f = rule-few _ _ (w .is) in (c .before .before .before .before .before .before .before .before .before .before .before .before .before .pre .0 .held .sized, (omega (arith, c .before .before .before .node-count .ensures .0 _ (c .before .before .before .before .before .before .before .before .left-part .ensures _ (w .is))), omega (arith, c .before .before .edge-count .ensures _ (c .before .before .before .before .before .before .before .before .left-part .ensures _ (w .is)))))
+room-requires c κs = let w = c .before .before .before .before .before .before .before .before .before .before .before .before .before .pre .1 in let f = rule-few _ _ (w .is) in (c .before .before .before .before .before .before .before .before .before .before .before .before .before .pre .0 .held .sized, (omega (arith, c .before .before .before .node-count .ensures .0 _ (c .before .before .before .before .before .before .before .before .left-part .ensures _ (w .is))), omega (arith, c .before .before .edge-count .ensures _ (c .before .before .before .before .before .before .before .before .left-part .ensures _ (w .is)) (c .before .before .before .node-count .ensures .0 _ (c .before .before .before .before .before .before .before .before .left-part .ensures _ (w .is))))))
 
 returns : tie.Need-returns
-returns c = λ w. lacks w (c .before .before .before .before .before .before .before .before .before .before .before .before .before .before .args .journal .now) (c .before .before .before .before .before .before .before .before .before .before .before .before .before .before .args .used) (c .before .before .before .before .before .before .before .labels-held .ensures _ (c .before .before .before .before .before .before .before .before .right-part .ensures _ (w .is))) (c .before .before .before .before .before .before .if1 .taken) _ (omega (arith, c .before .before .before .before .before .interface-of .ensures _ (w .is), c .before .before .node-count2 .ensures .0 _ (c .before .before .before .before .before .before .before .before .right-part .ensures _ (w .is)))) (omega (arith, c .before .before .before .before .before .interface-of .ensures _ (w .is), c .before .before .before .before .node-count .ensures .0 _ (c .before .before .before .before .before .before .before .before .before .left-part .ensures _ (w .is)))) (c .before .edge-count2 .ensures _ (c .before .before .before .before .before .before .before .before .right-part .ensures _ (w .is))) (c .before .before .before .edge-count .ensures _ (c .before .before .before .before .before .before .before .before .before .left-part .ensures _ (w .is))) (omega (arith, c .before .before .before .before .before .interface-of .ensures _ (w .is), c .before .before .before .before .node-count .ensures .0 _ (c .before .before .before .before .before .before .before .before .before .left-part .ensures _ (w .is)), c .before .before .before .edge-count .ensures _ (c .before .before .before .before .before .before .before .before .before .left-part .ensures _ (w .is)), c .before .before .node-count2 .ensures .0 _ (c .before .before .before .before .before .before .before .before .right-part .ensures _ (w .is)), c .before .edge-count2 .ensures _ (c .before .before .before .before .before .before .before .before .right-part .ensures _ (w .is)))) (c .room .ensures)
+returns c = λ w. lacks w (c .before .before .before .before .before .before .before .before .before .before .before .before .before .before .args .journal .now) (c .before .before .before .before .before .before .before .before .before .before .before .before .before .before .args .used) (c .before .before .before .before .before .before .before .labels-held .ensures _ (c .before .before .before .before .before .before .before .before .right-part .ensures _ (w .is))) (c .before .before .before .before .before .before .if1 .taken) _ (omega (arith, c .before .before .before .before .before .interface-of .ensures _ (w .is), c .before .before .node-count2 .ensures .0 _ (c .before .before .before .before .before .before .before .before .right-part .ensures _ (w .is)))) (omega (arith, c .before .before .before .before .before .interface-of .ensures _ (w .is), c .before .before .before .before .node-count .ensures .0 _ (c .before .before .before .before .before .before .before .before .before .left-part .ensures _ (w .is)))) (c .before .edge-count2 .ensures _ (c .before .before .before .before .before .before .before .before .right-part .ensures _ (w .is)) (c .before .before .node-count2 .ensures .0 _ (c .before .before .before .before .before .before .before .before .right-part .ensures _ (w .is)))) (c .before .before .before .edge-count .ensures _ (c .before .before .before .before .before .before .before .before .before .left-part .ensures _ (w .is)) (c .before .before .before .before .node-count .ensures .0 _ (c .before .before .before .before .before .before .before .before .before .left-part .ensures _ (w .is)))) (omega (arith, c .before .before .before .before .before .interface-of .ensures _ (w .is), c .before .before .before .before .node-count .ensures .0 _ (c .before .before .before .before .before .before .before .before .before .left-part .ensures _ (w .is)), c .before .before .before .edge-count .ensures _ (c .before .before .before .before .before .before .before .before .before .left-part .ensures _ (w .is)) (c .before .before .before .before .node-count .ensures .0 _ (c .before .before .before .before .before .before .before .before .before .left-part .ensures _ (w .is))), c .before .before .node-count2 .ensures .0 _ (c .before .before .before .before .before .before .before .before .right-part .ensures _ (w .is)), c .before .edge-count2 .ensures _ (c .before .before .before .before .before .before .before .before .right-part .ensures _ (w .is)) (c .before .before .node-count2 .ensures .0 _ (c .before .before .before .before .before .before .before .before .right-part .ensures _ (w .is))))) (c .room .ensures)
 
 returns-2 : tie.Need-returns-2
 returns-2 c = λ w. too-large w (c .before .before .before .before .before .before .before .before .args .journal .now) (c .before .before .before .before .before .before .before .before .args .used) (c .before .labels-held .ensures _ (c .before .before .right-part .ensures _ (w .is))) (c .if1 .left)

@@ -1,6 +1,5 @@
 -- `roots_agree` meets its contract.
-use mathlib.Core.Path.{sym, _∙_, ap}
-use mathlib.Core.Bool.{Bool, false}
+use mathlib.Core.Path.{sym}
 use borrow.Author.Tests.{eq-eqb, ne-eqb}
 use Rattle.meaning.specs.Basics.{either, both}
 use Rattle.meaning.specs.Matching.{rootsAgree}

@@ -7,14 +7,11 @@ use Rattle.parts.proofs.edge_count.Tie as tie
 count-fields-requires : tie.Need-count-fields-requires
 count-fields-requires c κs = search needs
 
-node-count-requires : tie.Need-node-count-requires
-node-count-requires c κs = search needs
-
 returns : tie.Need-returns
-returns c = edges-behind _ _ _ (c .before .before .count-fields .ensures .0) (c .before .node-count .ensures .0) (c .if1 .taken)
+returns c = edges-behind _ _ _ (c .before .count-fields .ensures .0) (c .if1 .taken)
 
 returns-2 : tie.Need-returns-2
-returns-2 c = no-edges _ _ _ (c .before .before .count-fields .ensures .0) (c .before .node-count .ensures .0) (c .if1 .left)
+returns-2 c = no-edges _ _ _ (c .before .count-fields .ensures .0) (c .if1 .left)
 
 pub edge-count-spec : {M : Type 1} → statement M
-edge-count-spec = tie.close (tie.spec count-fields-requires node-count-requires returns returns-2)
+edge-count-spec = tie.close (tie.spec count-fields-requires returns returns-2)
