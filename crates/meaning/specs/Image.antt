@@ -260,7 +260,7 @@ mode bs = do
   ensure (eqb (length bs) 1)
   flag bs
 
--- what the modes say that a rule has; without one it is not preserving
+-- whether a rule that has these modes, of which there is one at most, is preserving
 unfoldable pub preserves : List Bool → Bool
 preserves [] = false
 preserves (b ∷ l) = b

@@ -3,8 +3,8 @@
 -- A rule ⟨L ← K → R, c⟩ is a Rule: L is r .left, R is r .right, the nodes of K are the numbers below r .interface, and c asks
 -- for all of r .tests. Nodes and edges of L and R are named by their numbers.
 -- As in document 000, integers have no bound and labels no greatest length, so that every sum and difference has a value and
--- every label an instance. A rule that is not preserving has its morphisms, which reflect rootedness (its 2.3); one that is has
--- those of GP 2 before that mode (document 003's 3.3), which preserve it.
+-- every label an instance. A rule that is not preserving has its morphisms, which reflect rootedness (its 2.3); a preserving one has
+-- those that preserve it alone, as GP 2 had before (document 003's 3.3).
 -- What differs, as document 01 decides:
 -- the mark any (magenta in document 000's 2.1) goes with every mark, none included, and on the right keeps the mark; document
 -- 000 has it match arbitrary marks, and does not speak of items without one.
@@ -182,8 +182,8 @@ pub record EdgeInstance (α : ℕ → List ℕ) (e : RuleEdge) (l : EdgeLabel) :
 abbrev pub markFrom : ℕ → ℕ → ℕ
 markFrom before mark = choose (eqb mark anyMark) before mark
 
--- the root flag of a node of K in H: that of R; a node that is a root neither in L nor in R is left as it was in G by a
--- preserving rule, where it may have been one
+-- the root flag of a node of K in H: that of R, but a preserving rule leaves a node that is a root neither in L nor in R as it was
+-- in G
 abbrev pub rootFrom : Bool → ℕ → ℕ → ℕ → ℕ
 rootFrom false left before right = right
 rootFrom true left before right = choose (both (eqb left 0) (eqb right 0)) before right
