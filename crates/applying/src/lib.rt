@@ -13,6 +13,7 @@ use ledger::Applied;
 use meaning::Layout;
 use meaning::Room;
 use meaning::Stop;
+use meaning::tags::Mode;
 
 // What an application came to, and the records used after it.
 pub struct After {
@@ -81,7 +82,7 @@ fn change_left(
         &edges[..],
         journal,
         gone,
-        mode == 1,
+        mode == Mode::PRESERVING,
         left,
         right,
         k,

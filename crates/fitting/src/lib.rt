@@ -18,6 +18,7 @@ use agreeing::slot_of;
 use meaning::Layout;
 use meaning::Room;
 use meaning::tags::Mark;
+use meaning::tags::Mode;
 use plan::At;
 use plan::Side;
 
@@ -268,7 +269,7 @@ pub fn next_like(
 {
     let mark = plan::mark(rule, plan, i);
     let root = plan::root(rule, plan, i);
-    let preserving = plan[At::MODE] == 1;
+    let preserving = plan[At::MODE] == Mode::PRESERVING;
     let mut x = c;
     while x < n {
         if node_like(l, nodes, edges, rule, plan, mark, root, preserving, i, x) {

@@ -240,7 +240,7 @@ unfolding choose
 choose-most true m k n h l = h
 choose-most false m k n h l = l
 
-pub root-legal : (inside preserving : Bool) (left right host : ℕ) → right ≤ 1 → host ≤ 1
+root-legal : (inside preserving : Bool) (left right host : ℕ) → right ≤ 1 → host ≤ 1
     → choose inside (rootTaken preserving left right host) right ≤ 1
 unfolding rootTaken
 root-legal inside preserving left right host h k = choose-most inside _ _ 1 (choose-most _ host right 1 k h) h

@@ -76,6 +76,13 @@ impl Relation {
     pub const LESS: u8 = 2;
 }
 
+// The mode of a rule that preserves roots; any other reflects them.
+pub struct Mode {}
+
+impl Mode {
+    pub const PRESERVING: usize = 1;
+}
+
 // Marks: no edge is grey and no node dashed, and any, which no host item has, agrees with every mark.
 pub struct Mark {}
 

@@ -223,7 +223,7 @@ pub fn tests_part(p: &[u8]) -> &[u8]
     nth_part(p, 4)
 }
 
-// The mode: 1 if the rule preserves roots; 0 if it has none.
+// The mode, 0 if there is none.
 pub fn mode_of(p: &[u8]) -> usize
     ensures { λ r. ⌜ For (rule (now (p .entry))) (λ x. x .preserving ≡ eqb r 1) ⌝ }
 {
