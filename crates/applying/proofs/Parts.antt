@@ -2,12 +2,12 @@
 -- Rests on Checks, on making's Making, on ledger's Changes and Applications, on the meaning's
 -- Laws/Room and Laws/Attached, and on laws' Legality.
 use mathlib.Core.Path.{_≡_, refl, sym, _∙_, ap, subst}
+use mathlib.Core.Bool.{Bool}
 use mathlib.Core.Option.{some}
 use mathlib.Core.List.{List, _++_}
 use Prim.Native.Nat.{ℕ, _+_, _-_, _/_, _<_, _≤_}
 use native.Mathlib.Omega.{arith}
 use borrow.Author.Tests.{leb-true}
-use lib.Dec.{eqb}
 use lib.ListN.{length, getD, take, drop}
 use lib.Seq.{getD-take, take-take, take-add, drop-at, length-take-le}
 use Rattle.meaning.specs.Layout.{free, nodeLength, edgeLength, recordLength, readNode, readEdge}
@@ -36,13 +36,13 @@ use Rattle.making.specs.Making.{blankRule, blankEdge, Made, Alters, Grows, Grew
 use Rattle.applying.specs.Halves.{Unhindered, Left, Halfway}
 use Rattle.applying.proofs.Checks.{values-agree}
 
--- the bytes of the graphs, and the numbers of a rule that the code reads: the interface,
--- and for the left part the mode and the left nodes and edges,
-pub record LeftCounted (r : Rule) (lb rb : List ℕ) (k flag n m : ℕ) : Type 0 where
+-- the bytes of the graphs, and what else of a rule the code reads: the interface,
+-- and for the left part the mode and how many left nodes and edges,
+pub record LeftCounted (r : Rule) (lb rb : List ℕ) (preserving : Bool) (k n m : ℕ) : Type 0 where
   pub left : ruleGraph lb ≡ some (r .left)
   pub right : ruleGraph rb ≡ some (r .right)
   pub interface : k ≡ r .interface
-  pub mode : r .preserving ≡ eqb flag 1
+  pub mode : preserving ≡ r .preserving
   pub nodes : n ≡ leftNodes r
   pub edges : m ≡ leftEdges r
 
@@ -139,7 +139,7 @@ module _ {L : Layout} {nodes edges journal : List ℕ} {used : ℕ} {bs slots le
             marked = λ j h l. new-marked r (u .match .legal .holds) j (omega (arith, ek)) l blankRule;
           }
 
-      module _ {lb rb : List ℕ} {k flag n m : ℕ} (s : LeftCounted r lb rb k flag n m) where
+      module _ {lb rb : List ℕ} {preserving : Bool} {k n m : ℕ} (s : LeftCounted r lb rb preserving k n m) where
         -- Left edges go.
 
         pub go-next : Held L nodes edges journal used
@@ -172,11 +172,11 @@ module _ {L : Layout} {nodes edges journal : List ℕ} {used : ℕ} {bs slots le
 
             -- Left nodes change.
 
-            abbrev pub alters : Alters L nodes journal₁ (eqb flag 1) lb rb lens atoms slots (used + m) k n
+            abbrev pub alters : Alters L nodes journal₁ preserving lb rb lens atoms slots (used + m) k n
             alters =
                 record {
                   made = made (s .right) (s .interface);
-                  on = record { is = s .left; mode = sym (s .mode); inside = omega (arith, s .interface, inner .0) };
+                  on = record { is = s .left; mode = s .mode; inside = omega (arith, s .interface, inner .0) };
                   room = u .match .room;
                   few = omega (arith, few .leftNodes);
                   records = rw (gone .journalLong) (omega (arith, all-records));

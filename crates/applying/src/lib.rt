@@ -13,7 +13,6 @@ use ledger::Applied;
 use meaning::Layout;
 use meaning::Room;
 use meaning::Stop;
-use meaning::tags::Mode;
 
 // What an application came to, and the records used after it.
 pub struct After {
@@ -71,7 +70,7 @@ fn change_left(
     let left = parts::left_part(rule);
     let right = parts::right_part(rule);
     let k = parts::interface_of(rule);
-    let mode = parts::mode_of(rule);
+    let preserving = parts::preserving(rule);
     let n = parts::node_count(left);
     let m = parts::edge_count(left, n);
     ledger::free_edges(l, &nodes[..], edges, journal, used, slots, n, m);
@@ -82,7 +81,7 @@ fn change_left(
         &edges[..],
         journal,
         gone,
-        mode == Mode::PRESERVING,
+        preserving,
         left,
         right,
         k,

@@ -467,8 +467,8 @@ pub interface-is : (bs part : List ℕ) (k : ℕ) → part ≡ nthPart 3 bs → 
 interface-is bs part k h q x e =
     q ∙ ap (λ (l : List ℕ). getD l 0 0) h ∙ sym (oneByte-is (nthPart 3 bs) (x .interface) (rule-parted bs x e .interface) .1)
 
-pub mode-said : (bs part : List ℕ) (m : ℕ) → part ≡ nthPart 5 bs → m ≡ getD part 0 0 → For (rule bs) (λ x. x .preserving ≡ eqb m 1)
-mode-said bs part m h q x e = rule-parted bs x e .preserving ∙ ap (λ (n : ℕ). eqb n 1) (sym (q ∙ ap (λ (l : List ℕ). getD l 0 0) h))
+pub preserving-is : (bs part : List ℕ) (b : Bool) → part ≡ nthPart 5 bs → b ≡ eqb (getD part 0 0) 1 → For (rule bs) (λ x. b ≡ x .preserving)
+preserving-is bs part b h q x e = q ∙ ap (λ (l : List ℕ). eqb (getD l 0 0) 1) h ∙ sym (rule-parted bs x e .preserving)
 
 pub main-is : (bs part : List ℕ) (tag : ℕ) (p : Program) → program bs ≡ some p → tag ≡ nthTag (length (p .rules)) bs → part ≡ nthPart (length (p .rules)) bs → command 16 tag part ≡ some (p .main)
 main-is bs part tag p e h k = rw (h, k) (main-command bs p e)

@@ -223,11 +223,11 @@ pub fn tests_part(p: &[u8]) -> &[u8]
     nth_part(p, 4)
 }
 
-// The mode, 0 if there is none.
-pub fn mode_of(p: &[u8]) -> usize
-    ensures { λ r. ⌜ For (rule (now (p .entry))) (λ x. x .preserving ≡ eqb r 1) ⌝ }
+// Whether the rule preserves roots; it doesn't if it has no mode.
+pub fn preserving(p: &[u8]) -> bool
+    ensures { λ r. ⌜ For (rule (now (p .entry))) (λ x. r ≡ x .preserving) ⌝ }
 {
-    number_at(nth_part(p, 5), 0)
+    flag(nth_part(p, 5))
 }
 
 // How many elements a label has, or tests a rule.

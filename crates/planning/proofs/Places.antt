@@ -1,5 +1,5 @@
 -- The parts of a rule, read one behind the other: each is the field of its number. Rests on parts' Rows and plan's Places.
-use mathlib.Core.Path.{_≡_, refl, sym, _∙_}
+use mathlib.Core.Path.{_≡_, refl, sym, _∙_, ap}
 use mathlib.Core.Logic.{inl, inr}
 use mathlib.Core.Option.{some}
 use mathlib.Core.List.{List}
@@ -12,7 +12,7 @@ use Rattle.fields.specs.Fields.{fieldAt, nthField}
 use Rattle.fields.specs.Laws.{nth-next}
 use Rattle.fields.specs.declared.Found.{Found}
 use Rattle.fields.specs.declared.Found.the-variants.{Field, Short, End}
-use Rattle.parts.specs.Rows.{rule-parted, mode-said}
+use Rattle.parts.specs.Rows.{rule-parted, preserving-is}
 use Rattle.parts.proofs.Loops.{NoField}
 use Rattle.plan.specs.Plan.{Part}
 use Rattle.plan.specs.Places.{place-none, place-there}
@@ -67,4 +67,4 @@ parts-lie {bs} {r} e l0 l1 l2 l3 l4 l5 =
 -- the mode, from the part that it is, which may be empty
 pub mode-number : {bs : List ℕ} {r : Rule} → rule bs ≡ some r → {start end : ℕ} → Part bs 5 start end → {part : List ℕ} → part ≡ take (end - start) (drop start bs)
     → {mode : ℕ} → mode ≡ getD part 0 0 → r .preserving ≡ eqb mode 1
-mode-number {bs} {r} e p {part} q {mode} m = mode-said bs part mode (q ∙ p .is) m r e
+mode-number {bs} {r} e p {part} q {mode} m = sym (preserving-is bs part (eqb mode 1) (q ∙ p .is) (ap (λ (n : ℕ). eqb n 1) m) r e)

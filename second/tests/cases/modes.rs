@@ -9,17 +9,10 @@ const ROOT: [u8; 20] = [1, 0, 1, 0, 0, 0, 0, 0, 0, 0, 0, 0, 0, 0, 0, 0, 0, 0, 0,
 const RED_ROOT: [u8; 20] = [1, 1, 1, 0, 0, 0, 0, 0, 0, 0, 0, 0, 0, 0, 0, 0, 0, 0, 0, 0];
 
 /// M with a sixth field of this byte.
-#[rustfmt::skip]
-fn m_with(mode: u8) -> [u8; 33] {
-    [
-        0x10, 0, 30,
-        0x11, 0, 0,
-        0x12, 0, 5, 0x20, 0, 2, 0, 0,
-        0x13, 0, 5, 0x20, 0, 2, 1, 0,
-        0x14, 0, 1, 1,
-        0x15, 0, 0,
-        0x16, 0, 1, mode,
-    ]
+fn m_with(mode: u8) -> Vec<u8> {
+    let mut rule = [&M[..], &[0x16, 0, 1, mode]].concat();
+    rule[2] += 4;
+    rule
 }
 
 #[test]
@@ -89,7 +82,7 @@ fn what_a_guard_gives_back_has_its_flag_again() {
 }
 
 /// The preserving M whose left node is a root.
-fn takes_flag() -> [u8; 33] {
+fn takes_flag() -> Vec<u8> {
     let mut rule = m_with(1);
     rule[13] = 1;
     rule

@@ -13,14 +13,14 @@ Here c =
     Unhindered (a .l) (a .nodes .now) (a .edges .now) (a .journal .now) (a .used) (a .rule .now) (a .slots .now) (a .lens .now) (a .atoms .now)
 
 counted : (c : tie.After-edge-count) (u : Here c)
-    → LeftCounted (u .match .tree) (c .before .before .before .before .before .left-part .result .now) (c .before .before .before .before .right-part .result .now) (c .before .before .before .interface-of .result) (c .before .before .mode-of .result) (c .before .node-count .result) (c .edge-count .result)
+    → LeftCounted (u .match .tree) (c .before .before .before .before .before .left-part .result .now) (c .before .before .before .before .right-part .result .now) (c .before .before .preserving .result) (c .before .before .before .interface-of .result) (c .before .node-count .result) (c .edge-count .result)
 counted c u =
     let left = c .before .before .before .before .before .left-part .ensures _ (u .match .is) in
     record {
       left = left;
       right = c .before .before .before .before .right-part .ensures _ (u .match .is);
       interface = c .before .before .before .interface-of .ensures _ (u .match .is);
-      mode = c .before .before .mode-of .ensures _ (u .match .is);
+      mode = c .before .before .preserving .ensures _ (u .match .is);
       nodes = c .before .node-count .ensures .0 _ left;
       edges = c .edge-count .ensures _ left (c .before .node-count .ensures .0 _ left);
     }
@@ -34,8 +34,8 @@ right-part-requires c κs = search needs
 interface-of-requires : tie.Need-interface-of-requires
 interface-of-requires c κs = search needs
 
-mode-of-requires : tie.Need-mode-of-requires
-mode-of-requires c κs = search needs
+preserving-requires : tie.Need-preserving-requires
+preserving-requires c κs = search needs
 
 node-count-requires : tie.Need-node-count-requires
 node-count-requires c κs = search needs
@@ -74,7 +74,7 @@ change-left-spec =
     left-part-requires
     right-part-requires
     interface-of-requires
-    mode-of-requires
+    preserving-requires
     node-count-requires
     edge-count-requires
     free-edges-requires

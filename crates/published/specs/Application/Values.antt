@@ -10,7 +10,7 @@ use lib.ListN.{length, getD}
 use Rattle.meaning.specs.Basics.{choose, either, concat, each, _>>=_}
 use Rattle.meaning.specs.Numbers.{whole, sum, difference}
 use Rattle.meaning.specs.Layout.{Node, Edge, Host, isNodeMark, isEdgeMark}
-use Rattle.meaning.specs.Image.{RuleNode, RuleEdge, Rule}
+use Rattle.meaning.specs.Image.{RuleNode, RuleEdge, RuleGraph, Rule}
 use Rattle.meaning.specs.References.{operandNames}
 use Rattle.meaning.specs.Matching.{nodeAt, leftNode, nodeSlot, Assignment, atomOf}
 use Rattle.meaning.specs.Assigned.{assigned}
@@ -111,14 +111,16 @@ module _ (most : ℕ) (r : Rule) (α : Assignment) (words : (v : ℕ) → Words 
 -- The right side.
 
 -- a rule's nodes and right edges, by number, have the form
+formed : (g : RuleGraph) → Every LegalRuleNode (g .nodes) → (i : ℕ) → LegalRuleNode (nodeOf g i)
+unfolding either isNodeMark
+formed g h i = Every-at LegalRuleNode _ (record { mark = refl; root = omega arith; label = tt }) (g .nodes) h i
+
 module _ (r : Rule) (rule : LegalRule r) where
   pub left-formed : (i : ℕ) → LegalRuleNode (nodeOf (r .left) i)
-  unfolding either isNodeMark
-  left-formed i = Every-at LegalRuleNode _ (record { mark = refl; root = omega arith; label = tt }) (r .left .nodes) (rule .left) i
+  left-formed = formed (r .left) (rule .left)
 
   pub node-formed : (j : ℕ) → LegalRuleNode (nodeOf (r .right) j)
-  unfolding either isNodeMark
-  node-formed j = Every-at LegalRuleNode _ (record { mark = refl; root = omega arith; label = tt }) (r .right .nodes) (rule .nodes) j
+  node-formed = formed (r .right) (rule .nodes)
 
   pub edge-formed : (k : ℕ) → LegalRuleEdge (edgeOf (r .right) k)
   unfolding either isEdgeMark

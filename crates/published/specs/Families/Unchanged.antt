@@ -1,4 +1,4 @@
--- Rules that only test. Where the right side of a rule is its left side and the interface all of its nodes, the graph itself is a
+-- Rules that only test, and what stays in place. Where the right side of a rule is its left side and the interface all of its nodes, the graph itself is a
 -- result of each match, so that every result is isomorphic to it. A set of such rules is steady relative to every invariant that
 -- isomorphic graphs share. Rests on Steady and OneResult.
 use mathlib.Core.Path.{_≡_, refl, sym, _∙_, subst}
@@ -19,11 +19,37 @@ use Rattle.laws.specs.References.{ends}
 use Rattle.laws.specs.Values.{LegalRule, right-marked}
 use Rattle.laws.specs.LegalCommands.{LegalRules, legal-rule}
 use Rattle.published.specs.Graphs.{Graph, Node, Edge, HostGraph, Iso}
-use Rattle.published.specs.RuleApplication.{nodeOf, edgeOf, RootsGo, StaysNode, StaysEdge, Union, rootFrom, placed, Constructed, Matches, Applies}
+use Rattle.published.specs.RuleApplication.{nodeOf, edgeOf, Premorphism, RootsGo, StaysNode, StaysEdge, Union, rootFrom, placed, Constructed, Matches, Applies}
 use Rattle.published.specs.Isomorphism.{iso-trans, iso-back}
 use Rattle.published.specs.OneResult.{one-result, value-of}
 use Rattle.published.specs.Steady.{Steady}
 use Rattle.published.specs.Application.Values.{left-formed}
+
+-- What stays in place: all nodes where none is deleted or new, and all edges where the rule has none.
+
+pub nodes-stay : (r : Rule) → r .interface ≡ length (r .left .nodes) → length (r .right .nodes) ≡ r .interface → (G : Graph) (g : Premorphism (r .left) G)
+    → Union (StaysNode r G g) (λ j. (r .interface ≤ j) × (j < length (r .right .nodes))) (Node G) (λ v. v) (λ v. v)
+nodes-stay r left right G g =
+    record {
+      fromA = λ v s. s .node;
+      fromB = λ j b. absurd (omega (arith, b .0, b .1));
+      apartA = λ v w s t e. e;
+      apartB = λ v w s t e. e;
+      apart = λ v j s b e. omega (arith, b .0, b .1);
+      all = λ v k. inl (v, record { node = k; kept = λ j l n e. omega arith }, refl);
+    }
+
+pub edges-stay : (r : Rule) → length (r .left .edges) ≡ 0 → length (r .right .edges) ≡ 0 → (G : Graph) (g : Premorphism (r .left) G)
+    → Union (StaysEdge r G g) (λ k. k < length (r .right .edges)) (Edge G) (λ e. e) (λ k. k)
+edges-stay r left right G g =
+    record {
+      fromA = λ e s. s .edge;
+      fromB = λ k b. absurd (omega arith);
+      apartA = λ e f s t q. q;
+      apartB = λ e f s t q. q;
+      apart = λ e k s b q. omega arith;
+      all = λ e k. inl (e, record { edge = k; kept = λ k l q. omega arith }, refl);
+    }
 
 -- the right side is the left side, and no node is deleted
 pub record Unchanged (r : Rule) : Type 0 where
@@ -41,20 +67,6 @@ root-same true (suc (suc n)) host h f = absurd (omega arith)
 module _ (r : Rule) (legal : LegalRule r) (u : Unchanged r) (G : Graph) (m : Matches r G) where
   right-nodes : length (r .right .nodes) ≡ r .interface
   right-nodes = rw (u .same) (sym (u .whole))
-
-  stay : (v : ℕ) → Node G v → StaysNode r G (m .g) v
-  stay v k = record { node = k; kept = λ j l n e. absurd (omega (arith, u .whole)) }
-
-  nodes : Union (StaysNode r G (m .g)) (λ j. (r .interface ≤ j) × (j < length (r .right .nodes))) (Node G) (λ v. v) (λ v. v)
-  nodes =
-      record {
-        fromA = λ v s. s .node;
-        fromB = λ j b. absurd (omega (arith, b .0, b .1, right-nodes));
-        apartA = λ v w s t e. e;
-        apartB = λ v w s t e. e;
-        apart = λ v j s b e. absurd (omega (arith, b .0, b .1, right-nodes));
-        all = λ z k. inl (z, stay z k, refl);
-      }
 
   left-edge : (k : ℕ) → k < length (r .right .edges) → k < length (r .left .edges)
   left-edge k l = rw (u .same) at l
@@ -94,7 +106,7 @@ module _ (r : Rule) (legal : LegalRule r) (u : Unchanged r) (G : Graph) (m : Mat
         newNode = λ v. v;
         keepEdge = λ e. e;
         newEdge = m .g .edge;
-        nodes = nodes;
+        nodes = nodes-stay r (u .whole) right-nodes G (m .g);
         edges = edges;
         keptSources = λ e s. refl;
         keptTargets = λ e s. refl;

@@ -1,8 +1,7 @@
 -- Document 003's Figure 3, on the left: a rule that makes a node a root, in both modes. On a graph whose nodes are all roots it has no
 -- match where it reflects roots; where it preserves them it has one, and its result is the graph that was there, as 3.3 says: its
--- effect could be to do nothing. Rests on OneResult and Existence.
+-- effect could be to do nothing. Rests on OneResult, Existence and Unchanged, and for a graph of two roots on TwoRoots.
 use mathlib.Core.Path.{_≡_, refl, sym}
-use mathlib.Core.Logic.{inl}
 use mathlib.Core.Bool.{Bool, true, false}
 use mathlib.Core.List.{[], _∷_}
 use Prim.Native.Nat.{ℕ, zero, suc, _<_}
@@ -17,6 +16,8 @@ use Rattle.published.specs.Graphs.{Graph, Node, HostGraph, Iso}
 use Rattle.published.specs.RuleApplication.{nodeOf, NodeInstance, markFrom, rootFrom, Constructed, Matches, Applies}
 use Rattle.published.specs.OneResult.{one-result}
 use Rattle.published.specs.Existence.{applies-somewhere}
+use Rattle.published.specs.Families.Unchanged.{nodes-stay, edges-stay}
+use Rattle.published.specs.Instances.TwoRoots.{plain, plain-host}
 
 -- an unmarked, unlabelled node becomes a root
 abbrev pub makesRoot : Bool → Rule
@@ -112,22 +113,8 @@ module _ (G : Graph) (all : AllRoots G) (m : Matches (makesRoot true) G) where
         newNode = λ j. j;
         keepEdge = λ e. e;
         newEdge = λ k. k;
-        nodes = record {
-          fromA = λ v s. s .node;
-          fromB = λ j b. absurd (omega (arith, b .0, b .1));
-          apartA = λ v w s t e. e;
-          apartB = λ v w s t e. e;
-          apart = λ v j s b e. omega (arith, b .0, b .1);
-          all = λ v k. inl (v, record { node = k; kept = λ j l n e. omega arith }, refl);
-        };
-        edges = record {
-          fromA = λ e s. s .edge;
-          fromB = λ k b. absurd (omega arith);
-          apartA = λ e f s t q. q;
-          apartB = λ e f s t q. q;
-          apart = λ e k s b q. omega arith;
-          all = λ e k. inl (e, record { edge = k; kept = λ k l q. omega arith }, refl);
-        };
+        nodes = nodes-stay (makesRoot true) refl refl G (m .g);
+        edges = edges-stay (makesRoot true) refl refl G (m .g);
         keptSources = λ e s. refl;
         keptTargets = λ e s. refl;
         newSources = λ k l. absurd (omega arith);
@@ -141,3 +128,9 @@ module _ (G : Graph) (all : AllRoots G) (m : Matches (makesRoot true) G) where
 
 pub preserving-nothing : (G H : Graph) → HostGraph G → AllRoots G → Applies (makesRoot true) G H → Iso G H
 preserving-nothing G H host all a = one-result (makesRoot true) (holds true) G host (a .match) G H (itself G all (a .match)) (a .constructed)
+
+-- so on two roots: an application, and the same two roots after it
+pub two-roots-stay : (H : Graph) × Applies (makesRoot true) plain H × Iso plain H
+two-roots-stay =
+    let t = preserving-some plain 0 refl refl refl in
+    (t .0, t .1, preserving-nothing plain (t .0) plain-host (λ v k. refl) (t .1))

@@ -1,7 +1,6 @@
 -- Why an invariant is needed: without one, that is, with one that always holds, RedRoot's rule is not steady. On a graph of two roots,
--- one of them with a loop, it gives two graphs that are not isomorphic. Rests on RedRoot.
+-- one of them with a loop, it gives two graphs that are not isomorphic. Rests on RedRoot and Unchanged.
 use mathlib.Core.Path.{_≡_, refl, sym, ap}
-use mathlib.Core.Logic.{inl}
 use mathlib.Core.Bool.{true}
 use mathlib.Core.List.{[], _∷_}
 use Prim.Native.Nat.{ℕ, zero, suc, _<_}
@@ -17,10 +16,11 @@ use Rattle.meaning.specs.Laws.Tests.{choose-eq, choose-ne}
 use Rattle.published.specs.Graphs.{NodeLabel, Graph, HostGraph, Iso}
 use Rattle.published.specs.RuleApplication.{nodeOf, Instance, NodeInstance, markFrom, Matches, Applies, Applied}
 use Rattle.published.specs.Steady.{Always, Steady}
+use Rattle.published.specs.Families.Unchanged.{nodes-stay, edges-stay}
 use Rattle.published.specs.Instances.RedRoot.{redden}
 
 -- two roots, marked as m says, and a loop at the first
-abbrev roots : (ℕ → ℕ) → Graph
+abbrev pub roots : (ℕ → ℕ) → Graph
 roots m =
     record {
       isNode = λ v. ltb v 2;
@@ -31,16 +31,16 @@ roots m =
       edgeLabel = λ e. record { mark = noneMark; list = [] };
     }
 
-abbrev plain : Graph
+abbrev pub plain : Graph
 plain = roots (λ v. 0)
 
 -- root i is red
 abbrev red : ℕ → Graph
 red i = roots (λ v. choose (eqb v i) 1 0)
 
-host : HostGraph plain
+pub plain-host : HostGraph plain
 unfolding isNodeMark isEdgeMark either
-host =
+plain-host =
     record {
       sources = λ e k. refl;
       targets = λ e k. refl;
@@ -110,22 +110,8 @@ module _ (i : ℕ) (h : i < 2) where
           newNode = λ j. j;
           keepEdge = λ e. e;
           newEdge = λ k. k;
-          nodes = record {
-            fromA = λ v s. s .node;
-            fromB = λ j b. absurd (omega (arith, b .0, b .1));
-            apartA = λ v w s t e. e;
-            apartB = λ v w s t e. e;
-            apart = λ v j s b e. omega (arith, b .0, b .1);
-            all = λ v k. inl (v, record { node = k; kept = λ j l n e. omega arith }, refl);
-          };
-          edges = record {
-            fromA = λ e s. s .edge;
-            fromB = λ k b. absurd (omega arith);
-            apartA = λ e f s t q. q;
-            apartB = λ e f s t q. q;
-            apart = λ e k s b q. omega arith;
-            all = λ e k. inl (e, record { edge = k; kept = λ k l q. omega arith }, refl);
-          };
+          nodes = nodes-stay redden refl refl plain (match .g);
+          edges = edges-stay redden refl refl plain (match .g);
           keptSources = λ e s. refl;
           keptTargets = λ e s. refl;
           newSources = λ k l. absurd (omega arith);
@@ -144,7 +130,7 @@ pub not-steady : Steady Always (redden ∷ []) → ⊥
 not-steady steady =
     let here : (i : ℕ) → i < 2 → Applied (redden ∷ []) plain (red i)
     = λ i h. record { place = 0; listed = omega arith; applies = applies i h } in
-    let f : Iso (red 0) (red 1) = steady .one plain (red 0) (red 1) host tt (here 0 (omega arith)) (here 1 (omega arith)) in
+    let f : Iso (red 0) (red 1) = steady .one plain (red 0) (red 1) plain-host tt (here 0 (omega arith)) (here 1 (omega arith)) in
     let s : 0 ≡ f .node 0 = f .sources 0 refl in
     let l = ap (λ (l : NodeLabel). l .mark) (f .nodeLabels 0 refl) in
     let a : choose {A = ℕ} (eqb (f .node 0) 1) 1 0 ≡ 0 = choose-ne (f .node 0) 1 1 0 (λ e. omega arith) in
