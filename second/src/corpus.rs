@@ -15,6 +15,7 @@ mod corners;
 mod damage;
 mod drafts;
 mod fixed;
+mod groupings;
 mod hosts;
 mod large;
 mod lefts;
@@ -37,6 +38,7 @@ use drafts::Draft;
 use fixed::fixed_images;
 
 pub use command_line::{main, write_files};
+pub use groupings::groupings;
 pub use mode_programs::mode_programs;
 pub use rules::draw_mode;
 pub use statistics::{Counter, Statistics};
@@ -49,7 +51,7 @@ pub const IMAGE_TAG: u8 = 0x06;
 
 /// The seed of the stored corpus, and how many of its images come from there.
 pub const STORED_SEED: u64 = 1;
-pub const STORED_COUNT: u64 = 2526;
+pub const STORED_COUNT: u64 = 2614;
 
 /// One image among so many is a large one.
 const LARGE_EVERY: u64 = 200;

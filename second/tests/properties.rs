@@ -4,37 +4,18 @@ mod common;
 mod ends;
 mod report;
 
-use common::{Draft, Sample};
+use common::{drafts, samples, Draft, Sample, DRAFTS};
 use ends::Ends;
 use report::numbers;
 use second::calls::{run, undo, Outcome};
-use second::corpus;
 use second::decode;
 use second::exercised::Exercised;
 use second::host::Host;
 use second::layout::Layout;
-use second::listing::read_input;
 use second::matching::{self, first_match, Match, Placement};
 use second::random::Random;
 use second::tree::Rule;
 use std::ops::RangeInclusive;
-
-const DRAFTS: u64 = 10_000;
-const CORPUS_SEED: u64 = 20;
-const CORPUS_IMAGES: u64 = 2_000;
-
-fn drafts() -> impl Iterator<Item = Draft> {
-    (0..DRAFTS).map(Draft::new)
-}
-
-/// The drafts, and the inputs of a corpus that a run takes less than ten thousand steps for.
-fn samples() -> impl Iterator<Item = Sample> {
-    let corpus = corpus::images(CORPUS_SEED, CORPUS_IMAGES).into_iter();
-    let inputs = corpus.filter_map(|image| read_input(&image));
-    let inputs = inputs.filter(|input| input.fuel < 10_000);
-    let drafts = drafts().map(|draft| draft.sample());
-    drafts.chain(inputs.map(Sample::of_input))
-}
 
 /// The samples whose runs answer so, with what they leave.
 fn answered(answers: RangeInclusive<u32>) -> impl Iterator<Item = (Sample, Outcome)> {

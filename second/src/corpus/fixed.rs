@@ -1,8 +1,10 @@
-//! The images at the front of every corpus: the cases of document 01, corners that random images meet seldom, modes of rules, an
-//! image for each clause that can refuse, the accepted ones that stand beside them, and some refused twice over.
+//! The images at the front of every corpus: the cases of document 01, corners that random images meet seldom, modes of rules,
+//! groupings of sequences, an image for each clause that can refuse, the accepted ones that stand beside them, and some refused
+//! twice over.
 
 use super::cases::cases;
 use super::corners::corners;
+use super::groupings::groupings;
 use super::mode_programs::mode_programs;
 use super::modes::modes;
 use crate::encode::{runner_input, RunnerInput};
@@ -23,6 +25,7 @@ fn cases_and_refusals() -> Vec<Vec<u8>> {
     inputs.extend(corners());
     inputs.extend(modes());
     inputs.extend(mode_programs());
+    inputs.extend(groupings());
     let calls = of_run();
     inputs.extend(calls.iter().filter_map(|it| it.accepted.runner_input()));
     inputs.extend(calls.iter().filter_map(|it| it.refused.runner_input()));

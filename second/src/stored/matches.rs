@@ -88,8 +88,10 @@ pub fn seen() -> Seen {
     seen
 }
 
+/// The groupings are left out: they differ in commands, which no match looks at.
 pub fn pairs() -> Vec<Pairs> {
-    let images = (0..corpus::fixed_count() + DRAWN).map(|index| corpus::image(2, index));
+    let groupings: Vec<Vec<u8>> = corpus::groupings().iter().map(encode::runner_input).collect();
+    let images = corpus::images(2, corpus::fixed_count() + DRAWN).into_iter().filter(|image| !groupings.contains(image));
     let (refused, started): (Vec<Pairs>, Vec<Pairs>) =
         images.filter_map(|image| drawn_pairs(&image)).partition(|pair| super::refused_by(&pair.call()) != 0);
     let few = refused.into_iter().rev().take(REFUSED);

@@ -173,7 +173,8 @@ fn check_depth(place: Place, position: Position) -> Result<(), Problem> {
 }
 
 /// A sequence of any length: while there are more than 16 commands, each 16 from the front become a sequence
-/// of their own. A single command that is left over stays as it is.
+/// of their own. A single command that is left over stays as it is. However a long sequence is grouped, only
+/// the steps differ, as the theorem `alike-agree` of crates/wrapping shows.
 fn grouped(mut commands: Vec<Command>) -> Command {
     while commands.len() > limit::COMMANDS {
         commands = commands.chunks(limit::COMMANDS).map(group).collect();

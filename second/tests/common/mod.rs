@@ -1,13 +1,32 @@
-//! Small random runs: a host, rules sampled from it so that they tend to match, and a command tree.
+//! Small random runs: a host, rules sampled from it so that they tend to match, and a command tree. Beside them, runs of a corpus.
 
 use second::build::{guarded, looped};
 use second::calls::{Outcome, RunCall};
+use second::corpus;
 use second::encode::{self, RunnerInput};
 use second::host::{Edge, Host, Label, Node};
 use second::layout::Layout;
+use second::listing::read_input;
 use second::observer::{Observer, Unobserved};
 use second::random::Random;
 use second::tree::*;
+
+pub const DRAFTS: u64 = 10_000;
+const CORPUS_SEED: u64 = 20;
+const CORPUS_IMAGES: u64 = 2_000;
+
+pub fn drafts() -> impl Iterator<Item = Draft> {
+    (0..DRAFTS).map(Draft::new)
+}
+
+/// The drafts, and the inputs of a corpus that a run takes less than ten thousand steps for.
+pub fn samples() -> impl Iterator<Item = Sample> {
+    let corpus = corpus::images(CORPUS_SEED, CORPUS_IMAGES).into_iter();
+    let inputs = corpus.filter_map(|image| read_input(&image));
+    let inputs = inputs.filter(|input| input.fuel < 10_000);
+    let drafts = drafts().map(|draft| draft.sample());
+    drafts.chain(inputs.map(Sample::of_input))
+}
 
 /// What a run is given, but for the report and the journal's bytes.
 #[derive(Clone, Debug)]

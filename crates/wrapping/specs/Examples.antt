@@ -1,0 +1,114 @@
+-- Computed cases, from bytes to bytes, and one in which all that the law of regrouping asks is met. M marks a plain node red. Rests on
+-- Regrouping, on the demands' Met and Cases, and on the meaning's ProvedSet and Computing.
+use mathlib.Core.Path.{_≡_, refl}
+use mathlib.Core.Option.{Option, some, none}
+use mathlib.Core.List.{List, [], _∷_, _++_, map}
+use Prim.Native.Nat.{ℕ, _*_}
+use native.Mathlib.Omega.{arith}
+use lib.ListN.{replicate}
+use Rattle.meaning.specs.Layout.{base, recordLength}
+use Rattle.meaning.specs.Tags.{sequenceTag, loopTag, guardedTag}
+use Rattle.meaning.specs.Image.{Program, program, ruleSet, skip, fail, break}
+use Rattle.meaning.specs.Calls.{Lent, lending, reportOf}
+use Rattle.meaning.specs.Computing.{computing}
+use Rattle.meaning.specs.ProvedSet.{fieldBytes, ruleSetField, skipField, failField, breakField, marksRed, plainNode, redNode, nodeRecord, results, noResult}
+use Rattle.laws.specs.Undoing.{base-numbered}
+use Rattle.demands.specs.Demands.{Outcome}
+use Rattle.demands.specs.Ours.{ours}
+use Rattle.demands.specs.Met.{met}
+use Rattle.demands.specs.Cases.{expects, lendable}
+use Rattle.wrapping.specs.Wrapping.{wraps}
+use Rattle.wrapping.specs.Entering.{wrappings, enterAt, next, decide, again, rounds, work, works}
+use Rattle.wrapping.specs.Places.{here, inLoop, put}
+use Rattle.wrapping.specs.Agreement.{Starts, wrapsIn, Agree}
+use Rattle.wrapping.specs.Regrouping.{regrouping}
+
+-- opens every definition that a case is computed by
+unfoldable counting : Unit {0}
+unfolding computing wraps wrappings enterAt next decide again rounds work works
+counting = tt
+
+-- The fields of (P; Q); R and of P; (Q; R).
+
+abbrev leftwards : List ℕ → List ℕ → List ℕ → List ℕ
+leftwards P Q R = fieldBytes sequenceTag (fieldBytes sequenceTag (P ++ Q) ++ R)
+
+abbrev rightwards : List ℕ → List ℕ → List ℕ → List ℕ
+rightwards P Q R = fieldBytes sequenceTag (P ++ fieldBytes sequenceTag (Q ++ R))
+
+-- M and a command, on one plain node, with so many records and fuel 100
+abbrev lends : ℕ → List ℕ → Lent
+lends records command =
+    lending plainNode [] (replicate (records * recordLength base) 1) (marksRed ++ command) 100 (replicate 8 7)
+
+abbrev tree : Option Program → Program
+tree none = record { rules = []; main = skip }
+tree (some p) = p
+
+abbrev treeOf : Lent → Program
+treeOf x = tree (program (x .image))
+
+-- what a run leaves, and the wrapping commands entered
+abbrev leaves : ℕ → List ℕ → Outcome × ℕ
+leaves records command = let x = lends records command in (ours base .run x, wrapsIn base x (treeOf x))
+
+-- Q breaks in a loop: R is not entered, and the mark stays. 5 steps with 2 sequences entered, both ways
+pub breaking :
+    map (leaves 8) (fieldBytes loopTag (leftwards (ruleSetField 0) breakField failField) ∷ fieldBytes loopTag (rightwards (ruleSetField 0) breakField failField) ∷ [])
+    ≡ (expects (results 5 1 redNode [] (nodeRecord 0 plainNode)), 2) ∷ (expects (results 5 1 redNode [] (nodeRecord 0 plainNode)), 2) ∷ []
+unfolding counting
+breaking = refl
+
+-- P breaks in a loop: the inner sequence of P; (Q; R) is not entered. 4 steps with 2 sequences, 3 steps with 1
+abbrev left : List ℕ
+left = fieldBytes loopTag (leftwards breakField (ruleSetField 0) failField)
+
+abbrev right : List ℕ
+right = fieldBytes loopTag (rightwards breakField (ruleSetField 0) failField)
+
+pub breaking-first : map (leaves 8) (left ∷ right ∷ []) ≡ (expects (results 4 0 plainNode [] []), 2) ∷ (expects (results 3 0 plainNode [] []), 1) ∷ []
+unfolding counting
+breaking-first = refl
+
+-- R fails in the guard of a try: what M marked is undone, and the third command is entered. 7 steps with 4 that wrap, the last skip
+-- among them; without the skip in the guard, in one sequence, 5 with 2
+pub failing :
+    map (leaves 8)
+    (map (λ guard. fieldBytes guardedTag (1 ∷ guard ++ failField ++ skipField))
+    (leftwards (ruleSetField 0) skipField failField ∷ rightwards (ruleSetField 0) skipField failField ∷ fieldBytes sequenceTag (ruleSetField 0 ++ failField) ∷ []))
+    ≡ (expects (results 7 0 plainNode [] []), 4) ∷ (expects (results 7 0 plainNode [] []), 4) ∷ (expects (results 5 0 plainNode [] []), 2) ∷ []
+unfolding counting
+failing = refl
+
+-- Q fails: answer 1
+pub failed :
+    map (leaves 8) (leftwards (ruleSetField 0) failField skipField ∷ rightwards (ruleSetField 0) failField skipField ∷ [])
+    ≡ (expects (noResult 1 4 plainNode []), 2) ∷ (expects (noResult 1 4 plainNode []), 2) ∷ []
+unfolding counting
+failed = refl
+
+-- no room for a record: answer 5 at Q, with the steps until then
+abbrev noRoom : ℕ → Outcome
+noRoom steps = record { answer = 5; nodes = plainNode; edges = []; journal = []; report = reportOf steps 0 }
+
+pub stopping :
+    map (leaves 0) (leftwards skipField (ruleSetField 0) failField ∷ rightwards skipField (ruleSetField 0) failField ∷ ruleSetField 0 ∷ [])
+    ≡ (noRoom 4, 3) ∷ (noRoom 4, 3) ∷ (noRoom 1, 0) ∷ []
+unfolding counting
+stopping = refl
+
+-- The law where P breaks in a loop: all that it asks is met.
+
+starts-left : Starts base (lends 8 left) (treeOf (lends 8 left))
+unfolding computing
+starts-left = record { lendable = lendable (lends 8 left) refl; reads = refl; accepted = refl }
+
+starts-right : Starts base (lends 8 right) (treeOf (lends 8 right))
+unfolding computing
+starts-right = record { lendable = lendable (lends 8 right) refl; reads = refl; accepted = refl }
+
+pub left-right-agree : Agree (ours base .run (lends 8 left)) (ours base .run (lends 8 right)) 2 1
+unfolding counting put
+left-right-agree =
+    regrouping base base-numbered (ours base) (met .0) (met .1) _ _ refl (lends 8 left) (lends 8 right) starts-left starts-right
+    (record { nodes = refl; edges = refl; journal = refl }) (λ e. omega arith) (λ e. omega arith) (inLoop here) break (ruleSet (0 ∷ [])) fail refl refl
