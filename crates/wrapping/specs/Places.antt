@@ -55,7 +55,7 @@ module _ (c d : Command) (h : Alike c d) where
 
 -- Joining commands.
 
-pub joined-none : (cs : Commands) → joined cs noMore ≡ cs
+joined-none : (cs : Commands) → joined cs noMore ≡ cs
 unfolding joined
 joined-none noMore = refl
 joined-none (then c cs) = ap (then c) (joined-none cs)
@@ -65,7 +65,7 @@ unfolding joined
 joined-assoc noMore ds es = refl
 joined-assoc (then c cs) ds es = ap (then c) (joined-assoc cs ds es)
 
-pub bare-joined : (cs ds : Commands) → allBare (joined cs ds) ≡ joined (allBare cs) (allBare ds)
+bare-joined : (cs ds : Commands) → allBare (joined cs ds) ≡ joined (allBare cs) (allBare ds)
 unfolding joined allBare
 bare-joined noMore ds = refl
 bare-joined (then c cs) ds = ap (joined (bare c)) (bare-joined cs ds) ∙ sym (joined-assoc (bare c) (allBare cs) (allBare ds))

@@ -23,7 +23,7 @@ module _ (L : Layout) (numbered : Numbered L) (I : Interpreter) (first : Demand1
     -- c at a place of the one, d at the same place of the other
     pub at-place : (place : Place) (c d : Command) → Alike c d → p .main ≡ put place c → q .main ≡ put place d → Agreed
     at-place place c d h e e′ =
-        alike-agree L numbered I first second p q (record { rules = rules; main = rw (e, e′) (alike-at c d h place) }) x a fuelled y b tables fuelled′
+        alike-agree L numbered I first second x p a fuelled q (record { rules = rules; main = rw (e, e′) (alike-at c d h place) }) y b tables fuelled′
 
     pub regrouping : (place : Place) (P Q R : Command) → p .main ≡ put place (two (two P Q) R) → q .main ≡ put place (two P (two Q R))
         → Agreed

@@ -1,6 +1,7 @@
--- Two programs that differ in wrapping alone, run on the same tables by an interpreter that meets demands 1 and 2, neither out of
--- fuel, leave the same answer, graph, journal and records; and their steps are the same once the commands entered that only wrap are
--- taken off. Rests on Forgetting, Unwrapping and Tracing, on the demands' Demands, Ours and OneOutcome, and on laws' Numbers and Fuel.
+-- Two programs that differ in wrapping alone, run on the same tables by an interpreter that meets demands 1 and 2: where neither is out
+-- of fuel, they leave the same but for the steps, and those are the same once the commands entered that only wrap are taken off; where
+-- one is not out of fuel, there is fuel with which the other is not. Rests on Agreement, Forgetting, Replacing, Tracing and Fuelling, on
+-- the demands' Ours and OneOutcome, and on laws' Numbers and Fuel.
 use mathlib.Core.Path.{_≡_, refl, sym, _∙_, ap}
 use mathlib.Core.List.{List, [], map, reverse}
 use Prim.Native.Nat.{ℕ, _+_, _-_, _/_, _≤_}
@@ -98,9 +99,8 @@ module _ (L : Layout) (x : Lent) (p : Program) (starts : Starts L x p) where
       let e = ap (λ (o : Out). o .state .steps) last-plain in
       omega (arith, h .total, e, good L x (starts .accepted) .fuelFits)
 
-  -- the steps that a run reports are the commands noted
-  pub noted-steps : Fuelled (ours L) x → stepsIn (ours L .run x) ≡ length (last .noted .entered)
-  noted-steps h =
+  ours-steps : Fuelled (ours L) x → stepsIn (ours L .run x) ≡ length (last .noted .entered)
+  ours-steps h =
       let i = exec-trace (L .atoms) (length (x .journal) / recordLength L) (p .rules) (p .main) _ (enough h) in
       ap stepsIn ours-noted ∙ steps-left L x (last .end) (last .noted .state) few-steps ∙ omega (arith, i .each)
 
@@ -203,8 +203,8 @@ module _ (L : Layout) (p q : Program) (alike : AlikePrograms p q) (x : Lent) (a 
 
 -- Every interpreter that meets demands 1 and 2.
 
-module _ (L : Layout) (numbered : Numbered L) (I : Interpreter) (first : Demand1 L I) (second : Demand2 L I) (p q : Program)
-    (alike : AlikePrograms p q) (x : Lent) (a : Starts L x p) (fuelled : Fuelled I x)
+module _ (L : Layout) (numbered : Numbered L) (I : Interpreter) (first : Demand1 L I) (second : Demand2 L I) (x : Lent) (p : Program)
+    (a : Starts L x p) (fuelled : Fuelled I x)
   where
     is-ours : (y : Lent) → Lendable y → I .run y ≡ ours L .run y
     is-ours y b = run-one L numbered I first second y b
@@ -212,15 +212,20 @@ module _ (L : Layout) (numbered : Numbered L) (I : Interpreter) (first : Demand1
     fuelled-ours : Fuelled (ours L) x
     fuelled-ours = rw (is-ours x (a .lendable)) at fuelled
 
-    -- two programs that differ in wrapping alone, on the same tables, neither out of fuel
-    pub alike-agree : (y : Lent) → Starts L y q → SameTables x y → Fuelled I y → Agree (I .run x) (I .run y) (wrapsIn L x p) (wrapsIn L y q)
-    alike-agree y b tables fuelled′ =
-        rw (is-ours x (a .lendable), is-ours y (b .lendable))
-        (ours-agree L p q alike x a fuelled-ours y b tables (rw (is-ours y (b .lendable)) at fuelled′))
+    -- the steps that a run reports are the commands noted
+    pub noted-steps : stepsIn (I .run x) ≡ length (noting L x p .noted .entered)
+    noted-steps = ap stepsIn (is-ours x (a .lendable)) ∙ ours-steps L x p a fuelled-ours
 
-    -- where one is not out of fuel, there is a number of steps that the other takes, with as much fuel or more
-    pub alike-ends : (s : ℕ) × ((y : Lent) → Starts L y q → SameTables x y → s ≤ y .fuel → Fuelled I y × (stepsIn (I .run y) ≡ s))
-    alike-ends = (
-      taken L p q alike x a fuelled-ours .0,
-      λ y b tables h. rw (is-ours y (b .lendable)) (ours-ends L p q alike x a fuelled-ours y b tables h),
-    )
+    module _ (q : Program) (alike : AlikePrograms p q) where
+      -- two programs that differ in wrapping alone, on the same tables, neither out of fuel
+      pub alike-agree : (y : Lent) → Starts L y q → SameTables x y → Fuelled I y → Agree (I .run x) (I .run y) (wrapsIn L x p) (wrapsIn L y q)
+      alike-agree y b tables fuelled′ =
+          rw (is-ours x (a .lendable), is-ours y (b .lendable))
+          (ours-agree L p q alike x a fuelled-ours y b tables (rw (is-ours y (b .lendable)) at fuelled′))
+
+      -- where one is not out of fuel, there is a number of steps that the other takes, with as much fuel or more
+      pub alike-ends : (s : ℕ) × ((y : Lent) → Starts L y q → SameTables x y → s ≤ y .fuel → Fuelled I y × (stepsIn (I .run y) ≡ s))
+      alike-ends = (
+        taken L p q alike x a fuelled-ours .0,
+        λ y b tables h. rw (is-ours y (b .lendable)) (ours-ends L p q alike x a fuelled-ours y b tables h),
+      )
