@@ -159,4 +159,16 @@ impl Command {
             Command::RuleSet(_) | Command::Skip | Command::Fail | Command::Break => Vec::new(),
         }
     }
+
+    /// The same, to be changed in place.
+    pub fn parts_mut(&mut self) -> Vec<&mut Command> {
+        match self {
+            Command::Sequence(parts) => parts.iter_mut().collect(),
+            Command::Guarded {
+                guard, then, other, ..
+            } => vec![guard, then, other],
+            Command::Loop(body) => vec![body],
+            Command::RuleSet(_) | Command::Skip | Command::Fail | Command::Break => Vec::new(),
+        }
+    }
 }

@@ -1,17 +1,21 @@
--- What is said of two runs of programs that differ in wrapping alone: what they are lent, and in what they agree. Rests on Entering and
--- on the demands' Demands.
+-- What is said of runs of programs that differ in wrapping alone: what they are lent, in what they agree, and how many steps they take.
+-- Rests on Entering, on the meaning's Commands and on the demands' Demands.
 use mathlib.Core.Path.{_≡_}
 use mathlib.Core.Option.{some, none}
 use mathlib.Core.List.{[]}
-use Prim.Native.Nat.{ℕ, _+_, _/_}
+use Prim.Native.Nat.{ℕ, _+_, _<_, _≤_}
 use lib.ListN.{length, take}
 use Rattle.meaning.specs.Numbers.{number}
-use Rattle.meaning.specs.Layout.{recordLength}
+use Rattle.meaning.specs.Layout.{hostOf}
 use Rattle.meaning.specs.Image.{Program, program}
-use Rattle.meaning.specs.Calls.{Lent}
+use Rattle.meaning.specs.Commands as Plain
+use Rattle.meaning.specs.Commands.{beginning}
+use Rattle.meaning.specs.Calls.{Lent, journalRoom}
 use Rattle.demands.specs.Demands.{Lendable, Outcome, Interpreter, recordsIn, runRefusedWith, start}
 use Rattle.wrapping.specs.Entering.{wrappings, NotedOut, exec}
 use Rattle.meaning.specs.declared.Layout.{Layout}
+use Rattle.meaning.specs.declared.Stop.the-variants.{OutOfFuel}
+use Rattle.meaning.specs.declared.End.the-variants.{Stopped}
 
 -- What is lent.
 
@@ -36,7 +40,7 @@ Fuelled I x = I .run x .answer ≡ 2 → ⊥
 module _ (L : Layout) (x : Lent) (p : Program) where
   -- what p does on what x lends, with the commands noted that are entered
   abbrev pub noting : NotedOut
-  noting = exec (L .atoms) (length (x .journal) / recordLength L) (p .rules) (p .main) (record { state = start L x; entered = [] })
+  noting = exec (L .atoms) (journalRoom L (x .journal)) (p .rules) (p .main) (record { state = start L x; entered = [] })
 
   abbrev pub wrapsIn : ℕ
   wrapsIn = wrappings (noting .noted .entered)
@@ -57,3 +61,14 @@ pub record Agree (o q : Outcome) (w v : ℕ) : Type 0 where
   pub others : ℕ
   pub steps : stepsIn o ≡ others + w
   pub steps′ : stepsIn q ≡ others + v
+
+-- How many steps a run takes.
+
+-- p takes s steps on the tables that x lends. By the meaning it comes to its end with s fuel or more, however much that is; and a run with
+-- s fuel or more comes to its end, while one with less is out of fuel.
+pub record Needs (L : Layout) (I : Interpreter) (x : Lent) (p : Program) (s : ℕ) : Type 0 where
+  pub ends : (fuel : ℕ) → s ≤ fuel
+      → let o = Plain.exec (L .atoms) (journalRoom L (x .journal)) (p .rules) (p .main) (beginning (hostOf L (x .nodes) (x .edges)) fuel) in
+      (o .end ≡ Stopped OutOfFuel → ⊥) × (o .state .steps ≡ s)
+  pub enough : (y : Lent) → Starts L y p → SameTables x y → s ≤ y .fuel → Fuelled I y × (stepsIn (I .run y) ≡ s)
+  pub short : (y : Lent) → Starts L y p → SameTables x y → y .fuel < s → I .run y .answer ≡ 2

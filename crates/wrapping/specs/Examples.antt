@@ -1,10 +1,11 @@
--- Computed cases, from bytes to bytes, and one in which all that the law of regrouping asks is met. M marks a plain node red. Rests on
+-- Computed cases, from bytes to bytes, and one in which all that the theorems ask is met. M marks a plain node red. Rests on Runs and
 -- Regrouping, on the demands' Met and Cases, and on the meaning's ProvedSet and Computing.
-use mathlib.Core.Path.{_≡_, refl}
+use mathlib.Core.Path.{_≡_, refl, sym, subst}
 use mathlib.Core.Option.{Option, some, none}
 use mathlib.Core.List.{List, [], _∷_, _++_, map}
-use Prim.Native.Nat.{ℕ, _*_}
+use Prim.Native.Nat.{ℕ, _*_, _<_}
 use native.Mathlib.Omega.{arith}
+use native.Mathlib.Decide.{decLt}
 use lib.ListN.{replicate}
 use Rattle.meaning.specs.Layout.{base, recordLength}
 use Rattle.meaning.specs.Tags.{sequenceTag, loopTag, guardedTag}
@@ -17,10 +18,11 @@ use Rattle.demands.specs.Demands.{Outcome}
 use Rattle.demands.specs.Ours.{ours}
 use Rattle.demands.specs.Met.{met}
 use Rattle.demands.specs.Cases.{expects, lendable}
-use Rattle.wrapping.specs.Wrapping.{wraps}
+use Rattle.wrapping.specs.Wrapping.{wraps, joined, bare, allBare, AlikePrograms}
 use Rattle.wrapping.specs.Entering.{wrappings, enterAt, next, decide, again, rounds, work, works}
 use Rattle.wrapping.specs.Places.{here, inLoop, put}
-use Rattle.wrapping.specs.Agreement.{Starts, wrapsIn, Agree}
+use Rattle.wrapping.specs.Agreement.{SameTables, Starts, Fuelled, wrapsIn, Agree, Needs}
+use Rattle.wrapping.specs.Runs.{alike-ends}
 use Rattle.wrapping.specs.Regrouping.{regrouping}
 
 -- opens every definition that a case is computed by
@@ -97,7 +99,7 @@ pub stopping :
 unfolding counting
 stopping = refl
 
--- The law where P breaks in a loop: all that it asks is met.
+-- The theorems where P breaks in a loop: all that they ask is met.
 
 starts-left : Starts base (lends 8 left) (treeOf (lends 8 left))
 unfolding computing
@@ -107,8 +109,38 @@ starts-right : Starts base (lends 8 right) (treeOf (lends 8 right))
 unfolding computing
 starts-right = record { lendable = lendable (lends 8 right) refl; reads = refl; accepted = refl }
 
+same-tables : SameTables (lends 8 left) (lends 8 right)
+same-tables = record { nodes = refl; edges = refl; journal = refl }
+
+fuelled-left : Fuelled (ours base) (lends 8 left)
+unfolding computing
+fuelled-left e = omega arith
+
+fuelled-right : Fuelled (ours base) (lends 8 right)
+unfolding computing
+fuelled-right e = omega arith
+
 pub left-right-agree : Agree (ours base .run (lends 8 left)) (ours base .run (lends 8 right)) 2 1
 unfolding counting put
 left-right-agree =
-    regrouping base base-numbered (ours base) (met .0) (met .1) _ _ refl (lends 8 left) (lends 8 right) starts-left starts-right
-    (record { nodes = refl; edges = refl; journal = refl }) (λ e. omega arith) (λ e. omega arith) (inLoop here) break (ruleSet (0 ∷ [])) fail refl refl
+    regrouping base base-numbered (ours base) (met .0) (met .1) _ _ refl (lends 8 left) (lends 8 right) starts-left starts-right same-tables
+    fuelled-left fuelled-right (inLoop here) break (ruleSet (0 ∷ [])) fail refl refl
+
+-- That the one is not out of fuel tells how many steps the other takes, and no other number will do: with 100 fuel it takes 3.
+
+pub only-three : (s : ℕ) → Needs base (ours base) (lends 8 left) (treeOf (lends 8 right)) s → s ≡ 3
+unfolding computing
+only-three s n = at (decLt 100 s)
+  where
+    at : Dec (100 < s) → s ≡ 3
+    at (yes h) = absurd (fuelled-right (n .short (lends 8 right) starts-right same-tables h))
+    at (no h) = sym (n .enough (lends 8 right) starts-right same-tables (omega arith) .1)
+
+alike-right : AlikePrograms (treeOf (lends 8 left)) (treeOf (lends 8 right))
+unfolding computing joined bare allBare
+alike-right = record { rules = refl; main = refl }
+
+pub right-needs-three : Needs base (ours base) (lends 8 left) (treeOf (lends 8 right)) 3
+right-needs-three =
+    let n = alike-ends base base-numbered (ours base) (met .0) (met .1) (lends 8 left) (treeOf (lends 8 left)) starts-left fuelled-left _ alike-right in
+    subst (Needs base (ours base) (lends 8 left) (treeOf (lends 8 right))) (only-three (n .0) (n .1)) (n .1)

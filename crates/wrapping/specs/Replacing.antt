@@ -61,25 +61,18 @@ module _ (most room : ℕ) (rules : List Rule) where
         → C (enters d g (branches keep a b)) e h n
     guard-replaced (goes t r q) = replaced t r q
 
-    then-replaced : {keep : Bool} {x b : Command} {g : Ledger} {e : End} {h : Ledger} {n : ℕ} → C (enters x g (branches keep c b)) e h n
-        → C (enters x g (branches keep d b)) e h n
-    then-replaced (goes {e = Done} t r q) = goes t (whole-replaced r) q
-    then-replaced (goes {e = Failed} t r q) = goes t r q
-    then-replaced (goes {e = Broke} t r q) = goes t r q
-    then-replaced (goes {e = Stopped w} t r q) = goes t r q
-
-    else-replaced : {keep : Bool} {x a : Command} {g : Ledger} {e : End} {h : Ledger} {n : ℕ} → C (enters x g (branches keep a c)) e h n
-        → C (enters x g (branches keep a d)) e h n
-    else-replaced (goes {e = Done} t r q) = goes t r q
-    else-replaced (goes {e = Failed} t r q) = goes t (whole-replaced r) q
-    else-replaced (goes {e = Broke} t r q) = goes t r q
-    else-replaced (goes {e = Stopped w} t r q) = goes t r q
-
     rounds-replaced : {g : Ledger} {e : End} {h : Ledger} {n : ℕ} → C (enters c g further) e h n → C (enters d g further) e h n
     rounds-replaced (goes {e = Done} a r q) = replaced a (rounds-replaced r) q
     rounds-replaced (goes {e = Failed} a r q) = replaced a r q
     rounds-replaced (goes {e = Broke} a r q) = replaced a r q
     rounds-replaced (goes {e = Stopped w} a r q) = replaced a r q
+
+  branches-replaced : (a b a′ b′ : Command) → Refines a a′ → Refines b b′ → {keep : Bool} {x : Command} {g : Ledger} {e : End} {h : Ledger}
+      {n : ℕ} → C (enters x g (branches keep a b)) e h n → C (enters x g (branches keep a′ b′)) e h n
+  branches-replaced a b a′ b′ p f (goes {e = Done} t r q) = goes t (whole-replaced a a′ p r) q
+  branches-replaced a b a′ b′ p f (goes {e = Failed} t r q) = goes t (whole-replaced b b′ f r) q
+  branches-replaced a b a′ b′ p f (goes {e = Broke} t r q) = goes t r q
+  branches-replaced a b a′ b′ p f (goes {e = Stopped w} t r q) = goes t r q
 
   -- what is behind a command that ended in x
   behind-end : (cs ds : Commands) → RefinesAll cs ds → (x : End) (i : Ledger) {e : End} {h : Ledger} {n : ℕ} → C (onward cs x i) e h n
@@ -97,8 +90,8 @@ module _ (most room : ℕ) (rules : List Rule) where
       refines-at here = f
       refines-at (inSequence ps) = refines-sequence (puts ps c) (puts ps d) (λ g e h n t. all-at ps g e h n t)
       refines-at (inGuard keep p a b) = λ g e h m t. (m, guard-replaced (put p c) (put p d) (refines-at p) t, refl)
-      refines-at (inThen keep x p b) = λ g e h m t. (m, then-replaced (put p c) (put p d) (refines-at p) t, refl)
-      refines-at (inElse keep x a p) = λ g e h m t. (m, else-replaced (put p c) (put p d) (refines-at p) t, refl)
+      refines-at (inThen keep x p b) = λ g e h m t. (m, branches-replaced (put p c) b (put p d) b (refines-at p) (refines-same b) t, refl)
+      refines-at (inElse keep x a p) = λ g e h m t. (m, branches-replaced a (put p c) a (put p d) (refines-same a) (refines-at p) t, refl)
       refines-at (inLoop p) = λ g e h m t. (m, rounds-replaced (put p c) (put p d) (refines-at p) t, refl)
 
       all-at : (ps : Places) → RefinesAll (puts ps c) (puts ps d)

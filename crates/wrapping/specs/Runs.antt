@@ -6,7 +6,7 @@ use mathlib.Core.Path.{_≡_, refl, sym, _∙_, ap}
 use mathlib.Core.List.{List, [], map, reverse}
 use Prim.Native.Nat.{ℕ, _+_, _-_, _/_, _≤_}
 use native.Mathlib.Omega.{arith}
-use native.Mathlib.Nat.{le-refl}
+use native.Mathlib.Decide.{ℕ-discrete}
 use lib.ListN.{length, take, drop, replicate}
 use lib.Seq.{take-at, drop-at}
 use Rattle.meaning.specs.Basics.{concat, padded}
@@ -15,17 +15,18 @@ use Rattle.meaning.specs.Layout.{recordLength, hostOf, writeNodes, writeEdges, 
 use Rattle.meaning.specs.Image.{Rule, Program, Command}
 use Rattle.meaning.specs.Applying.{Ledger, ledgerAt}
 use Rattle.meaning.specs.Commands as Plain
-use Rattle.meaning.specs.Commands.{State, stateAt, Out, ends}
-use Rattle.meaning.specs.Calls.{Lent, mostFuel}
+use Rattle.meaning.specs.Commands.{State, stateAt, beginning, Out, ends}
+use Rattle.meaning.specs.Calls.{Lent, mostFuel, journalRoom}
 use Rattle.laws.specs.Numbers.{length-bytes, number-bytes}
 use Rattle.laws.specs.Fuel.{AtOut, atOut-of, exec-counted}
 use Rattle.laws.specs.Undoing.{Numbered}
 use Rattle.demands.specs.Demands.{Lendable, Outcome, Interpreter, stopAnswer, reporting, start, asItCame, outcomeAt, Demand1, Demand2}
 use Rattle.demands.specs.Ours.{ours, end, good, ours-outcome}
 use Rattle.demands.specs.OneOutcome.{run-one}
+use Rattle.demands.specs.Laws.Allowance.{exec-grows}
 use Rattle.wrapping.specs.Wrapping.{Alike, AlikePrograms}
 use Rattle.wrapping.specs.Entering.{wrappings, Noted, NotedOut, exec}
-use Rattle.wrapping.specs.Agreement.{SameTables, Starts, Fuelled, noting, wrapsIn, stepsIn, Agree}
+use Rattle.wrapping.specs.Agreement.{SameTables, Starts, Fuelled, noting, wrapsIn, stepsIn, Agree, Needs}
 use Rattle.wrapping.specs.Forgetting.{plain, exec-plain}
 use Rattle.wrapping.specs.Coming.{whole, enters, Comes, comes-one}
 use Rattle.wrapping.specs.Replacing.{alike-comes}
@@ -83,7 +84,7 @@ module _ (L : Layout) (x : Lent) (p : Program) (starts : Starts L x p) where
   last = noting L x p
 
   last-plain : plain last ≡ end L x p
-  last-plain = exec-plain (L .atoms) (length (x .journal) / recordLength L) (p .rules) (p .main) _
+  last-plain = exec-plain (L .atoms) (journalRoom L (x .journal)) (p .rules) (p .main) _
 
   ours-noted : ours L .run x ≡ outcomeAt L x (last .end) (last .noted .state)
   ours-noted = ours-outcome L x p (starts .accepted) (starts .reads) ∙ ap (λ (o : Out). outcomeAt L x (o .end) (o .state)) (sym last-plain)
@@ -95,16 +96,19 @@ module _ (L : Layout) (x : Lent) (p : Program) (starts : Starts L x p) where
 
   few-steps : last .noted .state .steps ≤ mostFuel
   few-steps =
-      let h = exec-counted (L .atoms) (length (x .journal) / recordLength L) (p .rules) (p .main) (start L x) in
+      let h = exec-counted (L .atoms) (journalRoom L (x .journal)) (p .rules) (p .main) (start L x) in
       let e = ap (λ (o : Out). o .state .steps) last-plain in
       omega (arith, h .total, e, good L x (starts .accepted) .fuelFits)
 
   ours-steps : Fuelled (ours L) x → stepsIn (ours L .run x) ≡ length (last .noted .entered)
   ours-steps h =
-      let i = exec-trace (L .atoms) (length (x .journal) / recordLength L) (p .rules) (p .main) _ (enough h) in
+      let i = exec-trace (L .atoms) (journalRoom L (x .journal)) (p .rules) (p .main) _ (enough h) in
       ap stepsIn ours-noted ∙ steps-left L x (last .end) (last .noted .state) few-steps ∙ omega (arith, i .each)
 
--- out of fuel is the one end that answers 2
+-- out of fuel is an end, and the one that answers 2
+out-no : (e : End) → AtOut e ⊥ → e ≡ Stopped OutOfFuel → ⊥
+out-no e h z = rw z at h
+
 no-two : (L : Layout) (x : Lent) (e : End) (t : State) → AtOut e ⊥ → outcomeAt L x e t .answer ≡ 2 → ⊥
 no-two L x Done t h z = omega arith
 no-two L x Failed t h z = omega arith
@@ -154,7 +158,7 @@ module _ (L : Layout) (x y : Lent) (tables : SameTables x y) (n m others w v : �
 -- Ours.
 
 module _ (L : Layout) (x y : Lent) (tables : SameTables x y) where
-  same-room : length (x .journal) / recordLength L ≡ length (y .journal) / recordLength L
+  same-room : journalRoom L (x .journal) ≡ journalRoom L (y .journal)
   same-room = ap (λ (n : ℕ). n / recordLength L) (tables .journal)
 
   same-start : start L x .ledger ≡ start L y .ledger
@@ -176,30 +180,40 @@ module _ (L : Layout) (p q : Program) (alike : AlikePrograms p q) (x : Lent) (a 
       (omega (arith, k .steps)) (omega (arith, k .steps′)) in
       rw (ours-noted L x p a, ours-noted L y q b, k .end) (e (noting L y q .end) (o .ledger) _ (o .fuel) _ (k .ledger))
 
-  -- what the program of x comes to, that of the other comes to with some fuel
-  taken : (s : ℕ) × Takes (L .atoms) (length (x .journal) / recordLength L) (p .rules) (enters (q .main) (start L x .ledger) whole)
-      (noting L x p .end) (noting L x p .noted .state .ledger) s
+  abbrev there : Ledger
+  there = noting L x p .noted .state .ledger
+
+  -- what p comes to, q comes to in so many steps
+  taken : (s : ℕ) × Takes (L .atoms) (journalRoom L (x .journal)) (p .rules) (enters (q .main) (start L x .ledger) whole) (noting L x p .end) there s
   taken =
-      let i = exec-trace (L .atoms) (length (x .journal) / recordLength L) (p .rules) (p .main) _ (enough L x p a fuelled) in
+      let i = exec-trace (L .atoms) (journalRoom L (x .journal)) (p .rules) (p .main) _ (enough L x p a fuelled) in
       comes-takes (L .atoms) _ (p .rules) (alike-comes (L .atoms) _ (p .rules) (p .main) (q .main) (alike .main) (i .comes))
 
-  module _ (y : Lent) (b : Starts L y q) (tables : SameTables x y) (h : taken .0 ≤ y .fuel) where
-    abbrev other : State
-    other = stateAt (noting L x p .noted .state .ledger) (y .fuel - taken .0) (0 + taken .0)
+  module _ (y : Lent) (tables : SameTables x y) where
+    reached : (f : ℕ) → taken .0 ≤ f
+        → Plain.exec (L .atoms) (journalRoom L (y .journal)) (q .rules) (q .main) (beginning (hostOf L (y .nodes) (y .edges)) f)
+        ≡ ends (noting L x p .end) (stateAt there (f - taken .0) (0 + taken .0))
+    reached f h =
+        same-exec (L .atoms) _ _ (p .rules) (q .rules) (q .main) _ _ f 0 (same-room L x y tables) (alike .rules) (same-start L x y tables)
+        ∙ taken .1 f 0 h
 
-    other-end : end L y q ≡ ends (noting L x p .end) other
-    other-end =
-        same-exec (L .atoms) _ _ (p .rules) (q .rules) (q .main) _ _ (y .fuel) 0 (same-room L x y tables) (alike .rules) (same-start L x y tables)
-        ∙ taken .1 (y .fuel) (y .fuel) 0 h (le-refl _)
+    module _ (b : Starts L y q) where
+      ours-enough : taken .0 ≤ y .fuel → Fuelled (ours L) y × (stepsIn (ours L .run y) ≡ taken .0)
+      ours-enough h =
+          let t = stateAt there (y .fuel - taken .0) (0 + taken .0) in
+          let e : ours L .run y ≡ outcomeAt L y (noting L x p .end) t = ours-outcome L y q (b .accepted) (b .reads) ∙ ap (λ (o : Out). outcomeAt L y (o .end) (o .state)) (reached (y .fuel) h) in (
+            λ z. no-two L y (noting L x p .end) t (enough L x p a fuelled) (ap (λ (o : Outcome). o .answer) (sym e) ∙ z),
+            ap stepsIn e ∙ steps-left L y (noting L x p .end) t (omega (arith, good L y (b .accepted) .fuelFits)) ∙ omega arith,
+          )
 
-    other-left : ours L .run y ≡ outcomeAt L y (noting L x p .end) other
-    other-left = ours-outcome L y q (b .accepted) (b .reads) ∙ ap (λ (o : Out). outcomeAt L y (o .end) (o .state)) other-end
-
-    ours-ends : Fuelled (ours L) y × (stepsIn (ours L .run y) ≡ taken .0)
-    ours-ends = (
-      λ z. no-two L y (noting L x p .end) other (enough L x p a fuelled) (ap (λ (o : Outcome). o .answer) (sym other-left) ∙ z),
-      ap stepsIn other-left ∙ steps-left L y (noting L x p .end) other (omega (arith, good L y (b .accepted) .fuelFits)) ∙ omega arith,
-    )
+      -- with more fuel it takes as many steps, and with this it takes no more than there are
+      ours-fits : Fuelled (ours L) y → taken .0 ≤ y .fuel
+      ours-fits f =
+          let r = journalRoom L (y .journal) in
+          let m = exec-grows (L .atoms) r (q .rules) (q .main) (taken .0) (start L y) (rw (← (ap (λ (o : Out). o .end) (last-plain L y q b))) (enough L y q b f)) in
+          let s = ap (λ (o : Out). o .state .steps) m in
+          let t = ap (λ (o : Out). o .state .steps) (reached (y .fuel + taken .0) (omega arith)) in
+          omega (arith, s, t, exec-counted (L .atoms) r (q .rules) (q .main) (start L y) .total)
 
 -- Every interpreter that meets demands 1 and 2.
 
@@ -223,9 +237,22 @@ module _ (L : Layout) (numbered : Numbered L) (I : Interpreter) (first : Demand1
           rw (is-ours x (a .lendable), is-ours y (b .lendable))
           (ours-agree L p q alike x a fuelled-ours y b tables (rw (is-ours y (b .lendable)) at fuelled′))
 
-      -- where one is not out of fuel, there is a number of steps that the other takes, with as much fuel or more
-      pub alike-ends : (s : ℕ) × ((y : Lent) → Starts L y q → SameTables x y → s ≤ y .fuel → Fuelled I y × (stepsIn (I .run y) ≡ s))
-      alike-ends = (
-        taken L p q alike x a fuelled-ours .0,
-        λ y b tables h. rw (is-ours y (b .lendable)) (ours-ends L p q alike x a fuelled-ours y b tables h),
-      )
+      -- where one is not out of fuel, there is a number of steps that the other takes
+      pub alike-ends : (s : ℕ) × Needs L I x q s
+      alike-ends =
+          let s = taken L p q alike x a fuelled-ours in (
+            s .0,
+            record {
+              ends = λ f h.
+                  let e = reached L p q alike x a fuelled-ours x (record { nodes = refl; edges = refl; journal = refl }) f h in
+                  (λ z. out-no (noting L x p .end) (enough L x p a fuelled-ours) (ap (λ (o : Out). o .end) (sym e) ∙ z), ap (λ (o : Out). o .state .steps) e ∙ omega arith);
+              enough = λ y b tables h. rw (is-ours y (b .lendable)) (ours-enough L p q alike x a fuelled-ours y tables b h);
+              short = λ y b tables h.
+                  stopped y (ℕ-discrete (I .run y .answer) 2)
+                  (λ f. let k = ours-fits L p q alike x a fuelled-ours y tables b (rw (is-ours y (b .lendable)) at f) in omega arith);
+            },
+          )
+        where
+          stopped : (y : Lent) → Dec (I .run y .answer ≡ 2) → (Fuelled I y → ⊥) → I .run y .answer ≡ 2
+          stopped y (yes e) f = e
+          stopped y (no n) f = absurd (f n)

@@ -78,17 +78,21 @@ fn two_nodes() -> Rule {
     node_rule(&both, &both, 2)
 }
 
-/// Case 14: 1 is added to the greatest atom.
-fn overflowing() -> RunnerInput {
+/// The rule that adds 1 to the label of an unmarked node.
+pub fn adding_one() -> Rule {
     let labelled = |element| [node(mark::NONE, &[element])];
     let sum = Element::Sum(Operand::Variable(0), Operand::Constant(1));
-    let rule = Rule {
+    Rule {
         variables: vec![VariableType::Int],
         ..node_rule(&labelled(Element::Variable(0)), &labelled(sum), 1)
-    };
+    }
+}
+
+/// Case 14: 1 is added to the greatest atom.
+fn overflowing() -> RunnerInput {
     RunnerInput {
         nodes: node_slot(0, false, &[i32::MAX]).to_vec(),
-        ..rule_case(rule)
+        ..rule_case(adding_one())
     }
 }
 

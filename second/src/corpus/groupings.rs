@@ -1,6 +1,7 @@
 //! Rows of three commands in several groupings, with and without skips, at each place where a command can stand; and sequences
 //! nested as widely and as deeply as they may be.
 
+use super::cases::adding_one;
 use super::modes::{over, unmarked};
 use crate::build::*;
 use crate::encode::{node_slot, RunnerInput};
@@ -139,20 +140,11 @@ fn second_rule(row: Row) -> Rule {
 
 /// Runs a command over a node labelled 0 and a rule that adds 1 to it.
 fn counting(main: Command) -> RunnerInput {
-    let labelled = |element| [node(mark::NONE, &[element])];
-    let next = Element::Sum(Operand::Variable(0), Operand::Constant(1));
-    let rule = Rule {
-        variables: vec![VariableType::Int],
-        ..node_rule(&labelled(Element::Variable(0)), &labelled(next), 1)
-    };
+    let nodes = node_slot(mark::NONE, false, &[0]).to_vec();
     RunnerInput {
         records: 256,
         fuel: AMPLE_FUEL,
-        ..over(
-            node_slot(mark::NONE, false, &[0]).to_vec(),
-            vec![rule],
-            main,
-        )
+        ..over(nodes, vec![adding_one()], main)
     }
 }
 

@@ -18,7 +18,7 @@ pub fn at(command: &mut Command, number: usize) -> &mut Command {
         return command;
     }
     let mut behind = number - 1;
-    for part in parts(command) {
+    for part in command.parts_mut() {
         let inside = size(part);
         if behind < inside {
             return at(part, behind);
@@ -26,17 +26,6 @@ pub fn at(command: &mut Command, number: usize) -> &mut Command {
         behind -= inside;
     }
     panic!("no command has the number {number}")
-}
-
-fn parts(command: &mut Command) -> Vec<&mut Command> {
-    match command {
-        Command::Sequence(parts) => parts.iter_mut().collect(),
-        Command::Guarded {
-            guard, then, other, ..
-        } => vec![guard, then, other],
-        Command::Loop(body) => vec![body],
-        Command::RuleSet(_) | Command::Skip | Command::Fail | Command::Break => vec![],
-    }
 }
 
 /// The guards, the branches and the loop bodies of a command, those inside of others too.
