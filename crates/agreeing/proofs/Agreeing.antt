@@ -1,17 +1,17 @@
--- Comparing a label in hand with what the elements of a left label stand for, an element at a time; the label of the item
--- that is tried; and what the length of a label and its atom say of it. Rests on Values and on labels' Laws.
+-- Comparing a label with what the elements of a left label stand for, an element at a time; the label of the item that is
+-- tried; and what the length of a label and its atom say of it. Rests on Values, on parts' Series and on labels' Comparing.
 use mathlib.Core.Path.{_≡_, refl, sym, _∙_, ap}
 use mathlib.Core.Bool.{Bool, true, false}
-use mathlib.Core.Option.{some}
+use mathlib.Core.Option.{some, none}
 use mathlib.Core.List.{List, [], _∷_, _++_}
-use Prim.Native.Nat.{ℕ, _+_, _<_, _≤_}
+use Prim.Native.Nat.{ℕ, _+_, _-_, _<_, _≤_}
 use native.Mathlib.Omega.{arith}
 use borrow.Author.Tests.{eqb-true}
 use lib.Dec.{eqb}
 use lib.ListN.{length, getD, take, drop}
 use Rattle.meaning.specs.Basics.{choose, both, same, concat}
 use Rattle.meaning.specs.Layout.{Host}
-use Rattle.meaning.specs.Image.{Rule, label}
+use Rattle.meaning.specs.Image.{Rule, field, element, label}
 use Rattle.meaning.specs.References.{labels, takesList, lists}
 use Rattle.meaning.specs.Matching.{Assignment, leftNodes, total, atomsOf, instance}
 use Rattle.meaning.specs.Assigned.{assigned}
@@ -20,11 +20,11 @@ use Rattle.meaning.specs.Laws.Tests.{choose-eq, both-yes, both-no}
 use Rattle.meaning.specs.Laws.Every.{Every}
 use Rattle.meaning.specs.declared.Element.{Element}
 use Rattle.meaning.specs.declared.Element.the-variants.{Constant}
-use Rattle.labels.specs.Labels.{atomsIn, Held, Holds}
-use Rattle.parts.specs.Elements.{Spells, behind, Next, Begins, Counted}
-use Rattle.labels.specs.Laws.{held-length, held-part, same-step, same-end}
+use Rattle.fields.specs.Laws.{Lies}
+use Rattle.slots.specs.Comparing.{same-step, same-end}
+use Rattle.parts.specs.Series.{Series, Taken, series-none, series-some, series-there}
+use Rattle.parts.specs.Elements.{Counted}
 use Rattle.parts.specs.Walks.{spells-label}
-use Rattle.labels.specs.declared.Label.{Label}
 use Rattle.parts.specs.declared.Counts.{Counts}
 use Rattle.plan.specs.Plan.{labelOf, constantAt, elementsAt, listsAt, nodesAt, sortAt}
 use Rattle.agreeing.specs.declared.Agrees.{Agrees}
@@ -38,21 +38,6 @@ use Rattle.agreeing.specs.Trials.{item-there}
 
 -- An element at a time.
 
--- a part of one label in another
-module _ (a d : Label) (from start n : ℕ) (l : List ℕ) (h : Held a) (k : Held d) (inside : start + n ≤ d .len) (e : take n (drop start (atomsIn d)) ≡ l)
-    (g : Bool) (q : g ≡ same (take n (drop from (atomsIn a))) (take n (drop start (atomsIn d)))) where
-  part-long : length l ≡ n
-  part-long = ap length (sym e) ∙ held-part d start n k inside
-
-  part-there : g ≡ same (take (length l) (drop from (atomsIn a))) l
-  part-there = rw (part-long, ← e) q
-
-  pub part-agrees : g ≡ true → from + n ≤ a .len → AgreesFrom (atomsIn a) from l (Upto (from + n))
-  part-agrees f i = (rw part-long, rw (held-length a h) i, sym part-there ∙ f)
-
-  pub part-differs : g ≡ false → AgreesFrom (atomsIn a) from l Differs
-  part-differs f = sym part-there ∙ f
-
 pub upto-within : (m l : List ℕ) (from k : ℕ) (r : Agrees) → AgreesFrom m from l r → r ≡ Upto k → k ≤ length m
 upto-within m l from k r g q =
     let a : AgreesFrom m from l (Upto k) = rw q at g in
@@ -63,59 +48,57 @@ module _ {h : Host} {bs plan at : List ℕ} {i c : ℕ} {p : List ℕ} (w : HasE
   abbrev pub values : Assignment
   values = assigned h (w .trial .rule) (w .trial .placed)
 
-  -- what the elements passed stand for is there, and what is left is spelt by the rest and has values
-  pub record Comparing (m rest : List ℕ) (from : ℕ) : Type 0 where
+  -- what the elements before a place of the bytes stand for is there, up to an atom; those behind have values
+  pub record Comparing (m : List ℕ) (place from : ℕ) : Type 0 where
     pub later : List Element
-    pub spelt : Spells rest later
+    pub series : Series element later [] (drop place p)
     pub equal : same (drop from m) (instance values later) ≡ same m (instance values (w .elements))
     pub valued : Every (ElementValued (w .trial .rule) (w .trial .placed)) later
 
-  pub comparing-start : (m : List ℕ) → Comparing m p 0
-  comparing-start m = record { later = w .elements; spelt = spells-label p (w .elements) (w .spelt); equal = refl; valued = w .valued }
+  pub comparing-start : (m : List ℕ) → Comparing m 0 0
+  comparing-start m = record { later = w .elements; series = spells-label p (w .elements) (w .spelt); equal = refl; valued = w .valued }
 
-module _ {h : Host} {bs plan at : List ℕ} {i c : ℕ} {p : List ℕ} {w : HasElements h bs plan at i c p} {m rest : List ℕ} {from : ℕ} (t : Comparing w m rest from) where
-  module _ {e : Element} {end : ℕ} (b : Begins rest e end) where
-    pub step : Next (behind rest end) (t .later) e
-    step = b .next (t .later) (t .spelt)
+module _ {h : Host} {bs plan at : List ℕ} {i c : ℕ} {p : List ℕ} {w : HasElements h bs plan at i c p} {m : List ℕ} {place from : ℕ} (t : Comparing w m place from) where
+  -- a label that has not ended has a field
+  pub comparing-there : place < length p → field (drop place p) ≡ none → ⊥
+  comparing-there j k = series-there element p place (t .later) (t .series) j k
 
-    pub front-valued : Every (ElementValued (w .trial .rule) (w .trial .placed)) (e ∷ step .later)
-    front-valued = rw (step .whole) at (t .valued)
+  module _ {tag start end : ℕ} {part : List ℕ} (j : place < length p) (k : Lies p place tag start end) (d : part ≡ take (end - start) (drop start p)) where
+    pub step : Taken element (t .later) p tag start end
+    step = series-some element p place (t .later) (t .series) j tag start end k
 
-    abbrev pub comparing-element : HasElement h bs plan at i c e
-    comparing-element = record { trial = w .trial; valued = front-valued .0 }
+    pub front-valued : Every (ElementValued (w .trial .rule) (w .trial .placed)) (step .first ∷ step .others)
+    front-valued = rw (step .parts) at (t .valued)
 
-    both-parts : both (same (take (length (atomsOf (values w) e)) (drop from m)) (atomsOf (values w) e))
-        (same (drop (from + length (atomsOf (values w) e)) m) (instance (values w) (step .later)))
+    abbrev pub comparing-element : HasElement h bs plan at i c tag part
+    comparing-element = record { trial = w .trial; element = step .first; spelt = ap (element tag) d ∙ step .read; valued = front-valued .0 }
+
+    both-parts : both (same (take (length (atomsOf (values w) (step .first))) (drop from m)) (atomsOf (values w) (step .first)))
+        (same (drop (from + length (atomsOf (values w) (step .first))) m) (instance (values w) (step .others)))
         ≡ same m (instance (values w) (w .elements))
     unfolding concat
     both-parts =
-        let f : same (drop from m) (atomsOf (values w) e ++ instance (values w) (step .later)) ≡ same m (instance (values w) (w .elements)) =
-        rw (step .whole) at (t .equal)
+        let f : same (drop from m) (atomsOf (values w) (step .first) ++ instance (values w) (step .others)) ≡ same m (instance (values w) (w .elements)) =
+        rw (step .parts) at (t .equal)
         in
-        sym (same-step m (atomsOf (values w) e) (instance (values w) (step .later)) from) ∙ f
+        sym (same-step m (atomsOf (values w) (step .first)) (instance (values w) (step .others)) from) ∙ f
 
-    module _ {r : Agrees} (g : AgreesFrom m from (atomsOf (values w) e) r) where
+    module _ {r : Agrees} (g : AgreesFrom m from (atomsOf (values w) (step .first)) r) where
       pub comparing-fails : r ≡ Differs → false ≡ same m (instance (values w) (w .elements))
       comparing-fails q =
-          let a : AgreesFrom m from (atomsOf (values w) e) Differs = rw q at g in
+          let a : AgreesFrom m from (atomsOf (values w) (step .first)) Differs = rw q at g in
           sym (both-no _ _ a) ∙ both-parts
 
-      pub comparing-next : {k : ℕ} → r ≡ Upto k → Comparing w m (behind rest end) k
-      comparing-next {k} q =
-          let a : AgreesFrom m from (atomsOf (values w) e) (Upto k) = rw q at g in
-          record {
-            later = step .later;
-            spelt = step .spelt;
-            equal = rw (a .0) (sym (both-yes _ _ (a .2)) ∙ both-parts);
-            valued = front-valued .1;
-          }
+      pub comparing-next : {o : ℕ} → r ≡ Upto o → Comparing w m end o
+      comparing-next {o} q =
+          let a : AgreesFrom m from (atomsOf (values w) (step .first)) (Upto o) = rw q at g in
+          record { later = step .others; series = step .series; equal = rw (a .0) (sym (both-yes _ _ (a .2)) ∙ both-parts); valued = front-valued .1 }
 
-  pub comparing-end : ((l : List Element) → Spells rest l → l ≡ []) → (len : ℕ) → len ≡ length m → from ≤ len
-      → eqb from len ≡ same m (instance (values w) (w .elements))
+  pub comparing-end : length p ≤ place → from ≤ length m → eqb from (length m) ≡ same m (instance (values w) (w .elements))
   unfolding concat
-  comparing-end f len q k =
-      let e : same (drop from m) [] ≡ same m (instance (values w) (w .elements)) = rw (f (t .later) (t .spelt)) at (t .equal) in
-      rw q (sym (same-end m from (omega arith)) ∙ e)
+  comparing-end j k =
+      let e : same (drop from m) [] ≡ same m (instance (values w) (w .elements)) = rw (series-none element p place (t .later) (t .series) j) at (t .equal) in
+      sym (same-end m from k) ∙ e
 
 -- The label of the item that is tried.
 
@@ -144,9 +127,8 @@ module _ {h : Host} {bs plan at : List ℕ} {i c : ℕ} (w : Tried h bs plan at 
         valued = last-valued;
       }
 
-  module _ {a : Label} (v : Holds (labelAt h (getD plan nodesAt 0) i c) a) where
-    pub last-label : atomsIn a ≡ labelAt h (leftNodes (w .trial .rule)) i c
-    last-label = let m : getD plan nodesAt 0 ≡ leftNodes (w .trial .rule) = w .trial .planned .laid .items .nodes in rw m at (v .atoms)
+  pub last-label : labelAt h (getD plan nodesAt 0) i c ≡ labelAt h (leftNodes (w .trial .rule)) i c
+  last-label = let m : getD plan nodesAt 0 ≡ leftNodes (w .trial .rule) = w .trial .planned .laid .items .nodes in rw m
 
 -- What the length of a label says, and its atom where it is to be one constant.
 

@@ -7,7 +7,6 @@ use Prim.Native.Nat.{ℕ, zero, suc, _+_, _<_, _≤_}
 use native.Mathlib.Omega.{arith}
 use borrow.Author.Tests.{eq-eqb}
 use lib.ListN.{length, getD, take, drop}
-use lib.Seq.{getD-take, getD-drop}
 use Rattle.meaning.specs.Basics.{choose}
 use Rattle.meaning.specs.Layout.{Host}
 use Rattle.meaning.specs.Image.{Rule}
@@ -63,15 +62,10 @@ module _ {h : Host} {bs plan at : List ℕ} {i c v : ℕ} (w : HasValue h bs pla
           in
           t m e ∙ rw (← e, d) (sym q)
 
-      -- whose first atom is there, if it has one
-      pub no-atom : n ≡ 0 → 0 ≡ getD (assigned h (w .trial .rule) (w .trial .placed) v) 0 0
-      no-atom z = rw (← part-value, z)
-
-      pub first-atom : (n ≡ 0 → ⊥) → getD m from 0 ≡ getD (assigned h (w .trial .rule) (w .trial .placed) v) 0 0
-      first-atom d =
-          let z : from + 0 ≡ from = omega arith in
-          let k : 0 < n = omega arith in
-          rw (← part-value) (sym (getD-take n (drop from m) 0 0 k ∙ getD-drop from m 0 0 ∙ rw z))
+-- a value of no atoms has no first one
+pub no-atom : (l : List ℕ) → length l ≡ 0 → 0 ≡ getD l 0 0
+no-atom [] e = refl
+no-atom (x ∷ l) e = absurd (omega arith)
 
 -- The elements of a placed item's label have values.
 

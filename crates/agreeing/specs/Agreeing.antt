@@ -1,5 +1,5 @@
--- What a placement gives a value, and what it is for a label to have it: the atoms that a variable takes of its first item's label,
--- and atoms compared from a place on. Rests on Placed and on the meaning's FirstMatch and Assigned.
+-- What a placement gives a value, and what it is for a label to have it: variables, and elements by their bytes; the atoms that a
+-- variable takes of its first item's label; and atoms compared from a place on. Rests on Placed and on the meaning's FirstMatch and Assigned.
 use mathlib.Core.Path.{_≡_}
 use mathlib.Core.Bool.{true, false}
 use mathlib.Core.Option.{some}
@@ -8,7 +8,7 @@ use Prim.Native.Nat.{ℕ, _+_, _<_, _≤_}
 use lib.ListN.{length, take, drop}
 use Rattle.meaning.specs.Basics.{same}
 use Rattle.meaning.specs.Layout.{Host}
-use Rattle.meaning.specs.Image.{Rule, label}
+use Rattle.meaning.specs.Image.{Rule, element as readElement, label}
 use Rattle.meaning.specs.References.{elementNames, labels}
 use Rattle.meaning.specs.Matching.{total}
 use Rattle.meaning.specs.FirstMatch.{firstWith}
@@ -35,9 +35,12 @@ module _ (h : Host) (bs plan at : List ℕ) (i c : ℕ) where
     pub trial : Trial h bs plan at i c
     pub valued : Valued (trial .rule) (trial .placed) v
 
-  pub record HasElement (e : Element) : Type 0 where
+  -- the bytes with the tag are those of an element that has values
+  pub record HasElement (tag : ℕ) (bytes : List ℕ) : Type 0 where
     pub trial : Trial h bs plan at i c
-    pub valued : ElementValued (trial .rule) (trial .placed) e
+    pub element : Element
+    pub spelt : readElement tag bytes ≡ some element
+    pub valued : ElementValued (trial .rule) (trial .placed) element
 
   -- the bytes are those of elements that have values
   pub record HasElements (bytes : List ℕ) : Type 0 where

@@ -8,19 +8,20 @@ ghost use Rattle.meaning.specs.Basics.{same};
 ghost use Rattle.meaning.specs.Layout.{hostOf, mostAtoms};
 ghost use Rattle.meaning.specs.Matching.{leftNodes, atomsOf, instance};
 ghost use Rattle.meaning.specs.Assigned.{assigned};
-ghost use Rattle.labels.specs.Labels.{atomsIn, Held, Holds};
+ghost use Rattle.slots.specs.Laid.{laid};
 ghost use Rattle.graph.specs.Graph.{Legal};
 ghost use Rattle.plan.specs.Plan.{labelOf, nodesAt, sortAt};
 ghost use Rattle.agreeing.specs.Placed.{Known, slots, labelAt, slotOf, Tried};
 ghost use Rattle.agreeing.specs.Agreeing.{HasValue, HasElement, HasElements, OnLeft, Takes, AgreesFrom};
 ghost use Rattle.agreeing.specs.Candidates.{Candidate, Guessed};
-use labels::Label;
+use fields::Found;
 use meaning::Element;
 use meaning::Layout;
 use meaning::Room;
-use parts::Front;
+use meaning::tags::Tag;
 use plan::At;
 use plan::Sorted;
+use slots::laid;
 
 // The label of an item.
 
@@ -35,63 +36,23 @@ pub fn slot_of(at: &[usize; Room::ITEMS], i: usize, c: usize, j: usize) -> usize
     at[j]
 }
 
-// The label in the slot of item j.
-fn item_label(
+// The label in the slot of item j, where it lies.
+fn item_label<'a>(
     l: Layout,
-    nodes: &[u8],
-    edges: &[u8],
+    nodes: &'a [u8],
+    edges: &'a [u8],
     plan: &[usize; At::LENGTH],
     j: usize,
     x: usize,
-) -> Label
+) -> &'a [u8]
     requires { ⌜ Legal l (now nodes) (now edges) ⌝ }
     requires { ⌜ (0 < length (now plan)) × (x < slots (hostOf l (now nodes) (now edges)) (getD (now plan) nodesAt 0) j) ⌝ }
-    ensures { λ r. ⌜ Holds (labelAt (hostOf l (now (nodes .entry)) (now (edges .entry))) (getD (now (plan .entry)) nodesAt 0) j x) r ⌝ }
+    ensures { λ r. ⌜ (laid (now r) ≡ labelAt (hostOf l (now (nodes .entry)) (now (edges .entry))) (getD (now (plan .entry)) nodesAt 0) j x) × (length (laid (now r)) ≤ mostAtoms) ⌝ }
 {
     if j < plan[At::NODES] {
         return graph::node_label(l, nodes, edges, x);
     }
     graph::edge_label(l, nodes, edges, x)
-}
-
-// How many atoms that label has.
-fn item_length(
-    l: Layout,
-    nodes: &[u8],
-    edges: &[u8],
-    plan: &[usize; At::LENGTH],
-    j: usize,
-    x: usize,
-) -> usize
-    requires { ⌜ Legal l (now nodes) (now edges) ⌝ }
-    requires { ⌜ (0 < length (now plan)) × (x < slots (hostOf l (now nodes) (now edges)) (getD (now plan) nodesAt 0) j) ⌝ }
-    ensures { λ r. ⌜ (r ≡ length (labelAt (hostOf l (now (nodes .entry)) (now (edges .entry))) (getD (now (plan .entry)) nodesAt 0) j x)) × (r ≤ mostAtoms) ⌝ }
-{
-    if j < plan[At::NODES] {
-        return graph::node_length(l, nodes, edges, x);
-    }
-    graph::edge_length(l, nodes, edges, x)
-}
-
-// Its atom of number k.
-fn item_atom(
-    l: Layout,
-    nodes: &[u8],
-    edges: &[u8],
-    plan: &[usize; At::LENGTH],
-    j: usize,
-    x: usize,
-    k: usize,
-) -> u32
-    requires { ⌜ Legal l (now nodes) (now edges) ⌝ }
-    requires { ⌜ (0 < length (now plan)) × (x < slots (hostOf l (now nodes) (now edges)) (getD (now plan) nodesAt 0) j) ⌝ }
-    requires { ⌜ k < length (labelAt (hostOf l (now nodes) (now edges)) (getD (now plan) nodesAt 0) j x) ⌝ }
-    ensures { λ r. ⌜ r ≡ getD (labelAt (hostOf l (now (nodes .entry)) (now (edges .entry))) (getD (now (plan .entry)) nodesAt 0) j x) k 0 ⌝ }
-{
-    if j < plan[At::NODES] {
-        return graph::node_atom(l, nodes, edges, x, k);
-    }
-    graph::edge_atom(l, nodes, edges, x, k)
 }
 
 // The values of variables.
@@ -121,33 +82,33 @@ fn part_of(rule: &[u8], plan: &[usize; At::LENGTH], v: usize, len: usize) -> Par
     Part { from, n: k }
 }
 
-// The value of variable v, which item plan[At::FIRST + v] is the first to have.
-pub fn value(
+// The value of variable v, where it lies: in the label of item plan[At::FIRST + v], the first to have it.
+pub fn value<'a>(
     l: Layout,
-    nodes: &[u8],
-    edges: &[u8],
+    nodes: &'a [u8],
+    edges: &'a [u8],
     rule: &[u8],
     plan: &[usize; At::LENGTH],
     at: &[usize; Room::ITEMS],
     i: usize,
     c: usize,
     v: usize,
-) -> Label
+) -> &'a [u8]
     requires { ⌜ Legal l (now nodes) (now edges) ⌝ }
     requires { ⌜ HasValue (hostOf l (now nodes) (now edges)) (now rule) (now plan) (now at) i c v ⌝ }
-    ensures { λ r. ⌜ ((w : HasValue (hostOf l (now (nodes .entry)) (now (edges .entry))) (now (rule .entry)) (now (plan .entry)) (now (at .entry)) i c v) → Holds (assigned (hostOf l (now (nodes .entry)) (now (edges .entry))) (w .trial .rule) (w .trial .placed) v) r) ⌝ }
+    ensures { λ r. ⌜ (length (laid (now r)) ≤ mostAtoms) × ((w : HasValue (hostOf l (now (nodes .entry)) (now (edges .entry))) (now (rule .entry)) (now (plan .entry)) (now (at .entry)) i c v) → laid (now r) ≡ assigned (hostOf l (now (nodes .entry)) (now (edges .entry))) (w .trial .rule) (w .trial .placed) v) ⌝ }
 {
     let j = plan[At::FIRST + v];
     let a = item_label(l, nodes, edges, plan, j, slot_of(at, i, c, j));
-    let t = part_of(rule, plan, v, a.len);
-    labels::cut(a, t.from, t.n)
+    let t = part_of(rule, plan, v, laid::count(a));
+    laid::part(a, t.from, t.n)
 }
 
-// The first atom of the value of variable v, 0 if it has none.
-pub fn variable_atom(
+// Its first atom, 0 if it has none.
+pub fn variable_atom<'a>(
     l: Layout,
-    nodes: &[u8],
-    edges: &[u8],
+    nodes: &'a [u8],
+    edges: &'a [u8],
     rule: &[u8],
     plan: &[usize; At::LENGTH],
     at: &[usize; Room::ITEMS],
@@ -159,13 +120,11 @@ pub fn variable_atom(
     requires { ⌜ HasValue (hostOf l (now nodes) (now edges)) (now rule) (now plan) (now at) i c v ⌝ }
     ensures { λ r. ⌜ ((w : HasValue (hostOf l (now (nodes .entry)) (now (edges .entry))) (now (rule .entry)) (now (plan .entry)) (now (at .entry)) i c v) → r ≡ getD (assigned (hostOf l (now (nodes .entry)) (now (edges .entry))) (w .trial .rule) (w .trial .placed) v) 0 0) ⌝ }
 {
-    let j = plan[At::FIRST + v];
-    let x = slot_of(at, i, c, j);
-    let t = part_of(rule, plan, v, item_length(l, nodes, edges, plan, j, x));
-    if t.n == 0 {
+    let b = value(l, nodes, edges, rule, plan, at, i, c, v);
+    if laid::count(b) == 0 {
         return 0;
     }
-    item_atom(l, nodes, edges, plan, j, x, t.from)
+    laid::atom(b, 0)
 }
 
 // Labels compared.
@@ -176,113 +135,93 @@ pub enum Agrees {
     Differs,
 }
 
-// Whether label a has, from a place on, the value of variable v.
-fn variable_agrees(
-    l: Layout,
-    nodes: &[u8],
-    edges: &[u8],
-    rule: &[u8],
-    plan: &[usize; At::LENGTH],
-    at: &[usize; Room::ITEMS],
-    i: usize,
-    c: usize,
-    v: usize,
-    a: Label,
-    from: usize,
-) -> Agrees
-    requires { ⌜ Legal l (now nodes) (now edges) ⌝ }
-    requires { ⌜ HasValue (hostOf l (now nodes) (now edges)) (now rule) (now plan) (now at) i c v ⌝ }
-    requires { ⌜ Held a × (from ≤ a .len) ⌝ }
-    ensures { λ r. ⌜ ((w : HasValue (hostOf l (now (nodes .entry)) (now (edges .entry))) (now (rule .entry)) (now (plan .entry)) (now (at .entry)) i c v) → AgreesFrom (atomsIn a) from (assigned (hostOf l (now (nodes .entry)) (now (edges .entry))) (w .trial .rule) (w .trial .placed) v) r) ⌝ }
+// Whether label a has, from a place on, the atoms of label b.
+fn part_agrees(a: &[u8], from: usize, b: &[u8]) -> Agrees
+    requires { ⌜ from ≤ length (laid (now a)) ⌝ }
+    ensures { λ r. ⌜ AgreesFrom (laid (now (a .entry))) from (laid (now (b .entry))) r ⌝ }
 {
-    let j = plan[At::FIRST + v];
-    let b = item_label(l, nodes, edges, plan, j, slot_of(at, i, c, j));
-    let t = part_of(rule, plan, v, b.len);
-    if labels::has_part(a, from, b, t.from, t.n) {
-        return Agrees::Upto(from + t.n);
+    if laid::has_part(a, from, b) {
+        return Agrees::Upto(from + laid::count(b));
     }
     Agrees::Differs
 }
 
-// Whether label a has, from a place on, the atoms that a left element stands for.
-fn element_agrees(
+// Whether label a has, from a place on, the atoms that a left element stands for: a constant's lie in the rule, a variable's in a
+// table.
+fn element_agrees<'a>(
     l: Layout,
-    nodes: &[u8],
-    edges: &[u8],
+    nodes: &'a [u8],
+    edges: &'a [u8],
     rule: &[u8],
     plan: &[usize; At::LENGTH],
     at: &[usize; Room::ITEMS],
     i: usize,
     c: usize,
-    e: Element,
-    a: Label,
+    tag: u8,
+    p: &[u8],
+    a: &[u8],
     from: usize,
 ) -> Agrees
     requires { ⌜ Legal l (now nodes) (now edges) ⌝ }
-    requires { ⌜ HasElement (hostOf l (now nodes) (now edges)) (now rule) (now plan) (now at) i c e ⌝ }
-    requires { ⌜ Held a × (from ≤ a .len) ⌝ }
-    ensures { λ r. ⌜ ((w : HasElement (hostOf l (now (nodes .entry)) (now (edges .entry))) (now (rule .entry)) (now (plan .entry)) (now (at .entry)) i c e) → AgreesFrom (atomsIn a) from (atomsOf (assigned (hostOf l (now (nodes .entry)) (now (edges .entry))) (w .trial .rule) (w .trial .placed)) e) r) ⌝ }
+    requires { ⌜ HasElement (hostOf l (now nodes) (now edges)) (now rule) (now plan) (now at) i c tag (now p) ⌝ }
+    requires { ⌜ from ≤ length (laid (now a)) ⌝ }
+    ensures { λ r. ⌜ ((w : HasElement (hostOf l (now (nodes .entry)) (now (edges .entry))) (now (rule .entry)) (now (plan .entry)) (now (at .entry)) i c tag (now (p .entry))) → AgreesFrom (laid (now (a .entry))) from (atomsOf (assigned (hostOf l (now (nodes .entry)) (now (edges .entry))) (w .trial .rule) (w .trial .placed)) (w .element)) r) ⌝ }
 {
-    match e {
-        Element::Constant(x) => {
-            if labels::has_atom(a, from, x) {
-                return Agrees::Upto(from + 1);
-            }
-            Agrees::Differs
-        }
-        Element::Variable(v) => variable_agrees(l, nodes, edges, rule, plan, at, i, c, v, a, from),
-        Element::Sum(x, y) => Agrees::Upto(from),
-        Element::Difference(x, y) => Agrees::Upto(from),
+    if tag == Tag::CONSTANT {
+        return part_agrees(a, from, p);
     }
+    if tag == Tag::VARIABLE {
+        let v = parts::number_at(p, 0);
+        let b = value(l, nodes, edges, rule, plan, at, i, c, v);
+        return part_agrees(a, from, b);
+    }
+    Agrees::Upto(from)
 }
 
 // Whether label a is what the elements of p stand for.
-fn elements_agree(
+fn elements_agree<'a>(
     l: Layout,
-    nodes: &[u8],
-    edges: &[u8],
+    nodes: &'a [u8],
+    edges: &'a [u8],
     rule: &[u8],
     plan: &[usize; At::LENGTH],
     at: &[usize; Room::ITEMS],
     i: usize,
     c: usize,
     p: &[u8],
-    a: Label,
+    a: &[u8],
 ) -> bool
     requires { ⌜ Legal l (now nodes) (now edges) ⌝ }
     requires { ⌜ HasElements (hostOf l (now nodes) (now edges)) (now rule) (now plan) (now at) i c (now p) ⌝ }
-    requires { ⌜ Held a ⌝ }
-    ensures { λ r. ⌜ ((w : HasElements (hostOf l (now (nodes .entry)) (now (edges .entry))) (now (rule .entry)) (now (plan .entry)) (now (at .entry)) i c (now (p .entry))) → r ≡ same (atomsIn a) (instance (assigned (hostOf l (now (nodes .entry)) (now (edges .entry))) (w .trial .rule) (w .trial .placed)) (w .elements))) ⌝ }
+    ensures { λ r. ⌜ ((w : HasElements (hostOf l (now (nodes .entry)) (now (edges .entry))) (now (rule .entry)) (now (plan .entry)) (now (at .entry)) i c (now (p .entry))) → r ≡ same (laid (now (a .entry))) (instance (assigned (hostOf l (now (nodes .entry)) (now (edges .entry))) (w .trial .rule) (w .trial .placed)) (w .elements))) ⌝ }
 {
-    let mut rest = p;
+    let mut next: usize = 0;
     let mut from: usize = 0;
-    loop {
-        let front = parts::elements::first_element(rest);
-        match front {
-            Front::First(e, end) => {
-                let next = element_agrees(l, nodes, edges, rule, plan, at, i, c, e, a, from);
-                match next {
-                    Agrees::Upto(k) => {
-                        from = k;
-                        rest = &rest[end..];
-                    }
-                    Agrees::Differs => {
-                        return false;
-                    }
-                }
+    while next < p.len() {
+        let found = fields::read_field(p, next);
+        let Found::Field(tag, start, end) = found else {
+            return false;
+        };
+        let part = fields::part(p, start, end);
+        let agrees = element_agrees(l, nodes, edges, rule, plan, at, i, c, tag, part, a, from);
+        match agrees {
+            Agrees::Upto(k) => {
+                from = k;
+                next = end;
             }
-            Front::Nothing => {
-                return from == a.len;
+            Agrees::Differs => {
+                return false;
             }
         }
     }
+    from == laid::count(a)
 }
 
 // Whether the label in slot c can agree with that of item i, by its length and, where that is one constant, by its atom.
-pub fn label_likely(
+pub fn label_likely<'a>(
     l: Layout,
-    nodes: &[u8],
-    edges: &[u8],
+    nodes: &'a [u8],
+    edges: &'a [u8],
     rule: &[u8],
     plan: &[usize; At::LENGTH],
     i: usize,
@@ -292,23 +231,22 @@ pub fn label_likely(
     requires { ⌜ Candidate (hostOf l (now nodes) (now edges)) (now rule) (now plan) i c ⌝ }
     ensures { λ b. ⌜ ((w : Known (now (rule .entry)) (now (plan .entry))) → Guessed (w .rule) (getD (now (plan .entry)) (sortAt + i) 0) (labelOf (w .rule) i) (labelAt (hostOf l (now (nodes .entry)) (now (edges .entry))) (leftNodes (w .rule)) i c) b) ⌝ }
 {
-    let n = item_length(l, nodes, edges, plan, i, c);
-    if parts::elements::length_fits(plan::counts(plan, i), n) {
+    let a = item_label(l, nodes, edges, plan, i, c);
+    if parts::elements::length_fits(plan::counts(plan, i), laid::count(a)) {
         if plan[At::SORT + i] == Sorted::CONSTANT {
-            let x = item_atom(l, nodes, edges, plan, i, c, 0);
-            return x as usize == plan[At::CONSTANT + i];
+            return laid::atom(a, 0) as usize == plan[At::CONSTANT + i];
         }
         return true;
     }
     false
 }
 
-// Whether the label in slot c is what the pattern of item i stands for: the label is copied out, and the pattern's elements are
-// compared with it where they lie.
-pub fn compared(
+// Whether the label in slot c is what the pattern of item i stands for. Both are compared where they lie, the label in its table
+// and the pattern in the rule, element by element.
+pub fn compared<'a>(
     l: Layout,
-    nodes: &[u8],
-    edges: &[u8],
+    nodes: &'a [u8],
+    edges: &'a [u8],
     rule: &[u8],
     plan: &[usize; At::LENGTH],
     at: &[usize; Room::ITEMS],

@@ -26,12 +26,12 @@ pub struct Choice {
 
 // The first of the rules of these numbers that has a match, with that match. Room is lent for the plan of a rule and for the
 // values of the match's variables.
-pub fn first_rule(
+pub fn first_rule<'a>(
     l: Layout,
     image: &[u8],
     numbers: &[u8],
-    nodes: &[u8],
-    edges: &[u8],
+    nodes: &'a [u8],
+    edges: &'a [u8],
     plan: &mut [usize; At::LENGTH],
     lens: &mut [usize; Room::VARIABLES],
     atoms: &mut [u32; Room::ATOMS],

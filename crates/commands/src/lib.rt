@@ -40,6 +40,24 @@ fn run_set(
     calling::call(l, image, p, nodes, edges, journal, spent)
 }
 
+// A rule set inside other commands. The compiler puts it in the place of its call, and then what it lends shares the frame of
+// run_command with what is lent to the commands inside, and is not kept beside it.
+fn run_nested_set(
+    l: Layout,
+    image: &[u8],
+    p: &[u8],
+    nodes: &mut [u8],
+    edges: &mut [u8],
+    journal: &mut [u8],
+    t: Tally,
+) -> Ran
+    requires { ⌜ Begun l (now nodes) (now edges) (now journal) t ⌝ }
+    requires { ⌜ Known (now image) ruleSetTag (now p) ⌝ }
+    ensures { λ r. ⌜ Comes l (Known (now (image .entry)) ruleSetTag (now (p .entry))) (runsCommand l) (now (nodes .entry)) (now (edges .entry)) (now (journal .entry)) t r (now (nodes .exit)) (now (edges .exit)) (now (journal .exit)) ⌝ }
+{
+    run_set(l, image, p, nodes, edges, journal, t)
+}
+
 // Enters and runs a command, from its tag and payload.
 fn run_command(
     l: Layout,
@@ -56,7 +74,7 @@ fn run_command(
     ensures { λ r. ⌜ Comes l (Known (now (image .entry)) tag (now (p .entry))) (runsCommand l) (now (nodes .entry)) (now (edges .entry)) (now (journal .entry)) t r (now (nodes .exit)) (now (edges .exit)) (now (journal .exit)) ⌝ }
 {
     if tag == Tag::RULE_SET {
-        return run_set(l, image, p, nodes, edges, journal, t);
+        return run_nested_set(l, image, p, nodes, edges, journal, t);
     }
     let fuel = t.fuel;
     if fuel == 0 {

@@ -221,10 +221,10 @@ fn can_go(
 // Candidates.
 
 // Whether slot c can stand for left node i, of this mark and root flag and in a rule of this mode, as far as the slot alone tells.
-fn node_like(
+fn node_like<'a>(
     l: Layout,
-    nodes: &[u8],
-    edges: &[u8],
+    nodes: &'a [u8],
+    edges: &'a [u8],
     rule: &[u8],
     plan: &[usize; At::LENGTH],
     mark: u8,
@@ -252,10 +252,10 @@ fn node_like(
 }
 
 // The first slot from c to n that can, n if there is none.
-pub fn next_like(
+pub fn next_like<'a>(
     l: Layout,
-    nodes: &[u8],
-    edges: &[u8],
+    nodes: &'a [u8],
+    edges: &'a [u8],
     rule: &[u8],
     plan: &[usize; At::LENGTH],
     i: usize,
@@ -281,10 +281,10 @@ pub fn next_like(
 }
 
 // Whether slot c, which is like left node i, can stand for it beside the nodes placed, by all but label and tests.
-pub fn node_likely(
+pub fn node_likely<'a>(
     l: Layout,
-    nodes: &[u8],
-    edges: &[u8],
+    nodes: &'a [u8],
+    edges: &'a [u8],
     rule: &[u8],
     plan: &[usize; At::LENGTH],
     at: &[usize; Room::ITEMS],
@@ -308,10 +308,10 @@ pub fn node_likely(
 }
 
 // Whether slot c can stand for the left edge that is item i, whose ends are at slots s and t, by all but label and tests.
-pub fn edge_likely(
+pub fn edge_likely<'a>(
     l: Layout,
-    nodes: &[u8],
-    edges: &[u8],
+    nodes: &'a [u8],
+    edges: &'a [u8],
     rule: &[u8],
     plan: &[usize; At::LENGTH],
     at: &[usize; Room::ITEMS],

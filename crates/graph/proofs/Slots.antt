@@ -1,24 +1,24 @@
 -- Laws of slots in hand: where a slot of a legal host's tables lies, and what its bytes say of the node or the edge that it
 -- holds. The bytes of a free slot are zeros, and say what a free slot has. Rests on Graph, on slots' States
 -- and on laws' Pieces and Layout.
-use Prim.Native.Nat.{ℕ, zero, suc, _+_, _/_, _^_, _<_, _≤_}
+use Prim.Native.Nat.{ℕ, zero, suc, _+_, _*_, _/_, _^_, _<_, _≤_}
 use mathlib.Core.Path.{_≡_, refl, sym, _∙_, ap}
 use mathlib.Core.List.{List, [], _∷_, map}
 use mathlib.Core.Bool.{true}
 use native.Mathlib.Nat.{zero-mul}
 use native.Mathlib.Omega.{arith}
 use native.Mathlib.Decide.{ℕ-discrete}
-use lib.ListN.{length, getD, set, take, drop}
+use lib.ListN.{length, getD, take, drop, length-drop}
 use lib.Seq.{getD-drop}
-use Rattle.meaning.specs.Numbers.{number, whole}
-use Rattle.meaning.specs.Layout.{Slot, free, isLive, Node, Edge, Sized, statePlace, markPlace, rootPlace, lengthPlace, headLength, mostAtoms, sourcePlace, targetPlace, edgeAtoms, nodeLength, edgeLength, pieces, cut, readAtoms, readNode, readEdge, readNodes, readEdges, keepsNode, keepsEdge}
+use Rattle.meaning.specs.Numbers.{number}
+use Rattle.meaning.specs.Layout.{Slot, free, isLive, Node, Edge, Sized, statePlace, markPlace, rootPlace, lengthPlace, headLength, atomLength, mostAtoms, sourcePlace, targetPlace, edgeAtoms, nodeLength, edgeLength, pieces, cut, readAtoms, readNode, readEdge, readNodes, readEdges, keepsNode, keepsEdge}
 use Rattle.meaning.specs.Matching.{nodeIn, edgeIn}
 use Rattle.laws.specs.Pieces.{getD-map, length-pieces, length-read}
 use Rattle.laws.specs.Layout.{getD-zeros, length-atoms, readNode-free, readNode-live, keepsNode-free, keepsNode-live, readEdge-free, readEdge-live, keepsEdge-free, keepsEdge-live, kept-node, kept-edge}
 use Rattle.meaning.specs.declared.Layout.{Layout}
-use Rattle.labels.specs.Labels.{Holds}
-use Rattle.labels.specs.Laws.{Filled, filled-more, filled-all}
-use Rattle.slots.specs.Slots.{stateOf}
+use Rattle.slots.specs.Laid.{laid}
+use Rattle.slots.specs.Comparing.{laid-front}
+use Rattle.slots.specs.Slots.{stateOf, labelEnd}
 use Rattle.slots.specs.States.{state-node, state-edge}
 use Rattle.graph.specs.Graph.{Legal}
 
@@ -68,10 +68,6 @@ pub record NodeBytes (L : Layout) (b : List ℕ) (s : Slot Node) : Type 0 where
   pub size : getD b lengthPlace 0 ≤ L .atoms
   pub label : readAtoms (getD b lengthPlace 0) (drop headLength b) ≡ nodeIn s .label
 
--- the length of its label among it
-pub node-long : {L : Layout} {b : List ℕ} {s : Slot Node} → NodeBytes L b s → getD b lengthPlace 0 ≡ length (nodeIn s .label)
-node-long {L} {b} h = sym (length-atoms (getD b lengthPlace 0) (drop headLength b)) ∙ ap length (h .label)
-
 kept-node-bytes : (L : Layout) (b : List ℕ) → keepsNode L b ≡ true → NodeBytes L b (readNode b)
 unfolding nodeIn
 kept-node-bytes L b k = at (ℕ-discrete (getD b statePlace 0) 0)
@@ -108,10 +104,6 @@ pub record EdgeBytes (L : Layout) (b : List ℕ) (s : Slot Edge) : Type 0 where
   pub target : number (take (L .width) (drop (targetPlace L) b)) ≡ edgeIn s .target
   pub size : getD b lengthPlace 0 ≤ L .atoms
   pub label : readAtoms (getD b lengthPlace 0) (drop (edgeAtoms L) b) ≡ edgeIn s .label
-
--- the length of its label among it
-pub edge-long : {L : Layout} {b : List ℕ} {s : Slot Edge} → EdgeBytes L b s → getD b lengthPlace 0 ≡ length (edgeIn s .label)
-edge-long {L} {b} h = sym (length-atoms (getD b lengthPlace 0) (drop (edgeAtoms L) b)) ∙ ap length (h .label)
 
 kept-edge-bytes : (L : Layout) (nodes : List (Slot Node)) (b : List ℕ) → keepsEdge L nodes b ≡ true → EdgeBytes L b (readEdge L b)
 unfolding edgeIn
@@ -167,13 +159,11 @@ module _ {L : Layout} {nodes edges : List ℕ} (h : Legal L nodes edges) (x : �
       let k : keepsEdge L (readNodes L nodes) b ≡ true = rw q (kept-edge L nodes edges (h .keeps) x j) in
       rw (slot-read (readEdge L) (h .sized .edge) edges x free i, ← e) (kept-edge-bytes L (readNodes L nodes) b k)
 
--- Copying a slot's label out: one atom more, and all of them.
+-- A slot's label, in its own bytes.
 
-module _ (b : List ℕ) (start n j : ℕ) (l : List ℕ) (few : n ≤ mostAtoms) (f : Filled (readAtoms n (drop start b)) j l) (e : n ≡ getD b lengthPlace 0) where
-  pub read-more : (v : ℕ) → v ≡ getD (readAtoms (getD b lengthPlace 0) (drop start b)) j 0 → v < whole → j < n → Filled (readAtoms n (drop start b)) (j + 1) (set l j v)
-  read-more v q s k =
-      let i = length-atoms n (drop start b) in
-      filled-more _ l j v f (omega arith) (omega arith) s (rw e q)
-
-  pub read-all : j ≡ n → Holds (readAtoms (getD b lengthPlace 0) (drop start b)) (record { len = n; atoms = l })
-  read-all q = rw (← e) (filled-all _ l n (rw q at f) few (sym (length-atoms n (drop start b))))
+pub label-lies : (b : List ℕ) (start : ℕ) {r m : List ℕ} → r ≡ take (atomLength * getD b lengthPlace 0) (drop start b)
+    → readAtoms (getD b lengthPlace 0) (drop start b) ≡ m → labelEnd start b ≤ length b → getD b lengthPlace 0 ≤ mostAtoms → (laid r ≡ m) × (length (laid r) ≤ mostAtoms)
+label-lies b start {r} {m} q e inside few =
+    let n = getD b lengthPlace 0 in
+    let d : laid r ≡ m = rw q (laid-front n (drop start b) (omega (arith, length-drop start b)) ∙ e) in
+    (d, rw d (omega (arith, length-atoms n (drop start b), ap length e)))

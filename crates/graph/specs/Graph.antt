@@ -10,7 +10,7 @@ use Rattle.graph.specs.declared.Incidence.{Incidence}
 use Rattle.graph.specs.declared.Incidence.the-variants.{Leaving, Arriving, Touching}
 
 module _ (L : Layout) (nodes edges : List ℕ) where
-  -- the tables keep a layout whose labels can be copied out
+  -- the tables keep a layout whose labels have no more atoms than there is room for
   pub record Legal : Type 0 where
     pub sized : Sized L
     pub few : L .atoms ≤ mostAtoms

@@ -1,14 +1,12 @@
 // The host graph in lent tables, by slot number: marks, roots, labels, ends, and the counts of edges that tests ask for.
 ghost use mathlib.Core.Path.{_≡_};
 ghost use Prim.Native.Nat.{_<_, _≤_};
-ghost use lib.ListN.{length, getD, drop};
+ghost use lib.ListN.{length};
 ghost use Rattle.meaning.specs.Basics.{exists, count};
-ghost use Rattle.meaning.specs.Layout.{Sized, lengthPlace, mostAtoms, readAtoms, liveAt, readNodes, readEdges, hostOf};
+ghost use Rattle.meaning.specs.Layout.{Sized, mostAtoms, liveAt, readNodes, readEdges, hostOf};
 ghost use Rattle.meaning.specs.Matching.{nodeAt, edgeAt, edgeRuns, edgeLeaves, edgeArrives, inDegree, outDegree, edgeTouches};
-ghost use Rattle.labels.specs.Labels.{Holds};
-ghost use Rattle.slots.specs.Slots.{labelEnd};
+ghost use Rattle.slots.specs.Laid.{laid};
 ghost use Rattle.graph.specs.Graph.{Legal, counts};
-use labels::Label;
 use meaning::Layout;
 use slots::held;
 use slots::held::Place;
@@ -18,24 +16,6 @@ pub enum Incidence {
     Leaving,
     Arriving,
     Touching,
-}
-
-// The label of a slot whose atoms begin at a place, copied out.
-fn read_label(b: &[u8], start: usize) -> Label
-    requires { ⌜ (lengthPlace < length (now b)) × (getD (now b) lengthPlace 0 ≤ mostAtoms) × (labelEnd start (now b) ≤ length (now b)) ⌝ }
-    ensures { λ r. ⌜ Holds (readAtoms (getD (now (b .entry)) lengthPlace 0) (drop start (now (b .entry)))) r ⌝ }
-{
-    let len = held::atom_count(b);
-    let mut atoms = [0u32; labels::MOST];
-    let mut j: usize = 0;
-    while j < len {
-        atoms[j] = held::atom(b, start, j);
-        j += 1;
-    }
-    Label {
-        len: len,
-        atoms: atoms,
-    }
 }
 
 // Nodes.
@@ -72,30 +52,13 @@ pub fn node_root(l: Layout, nodes: &[u8], edges: &[u8], x: usize) -> u8
     held::root(slots::slot(nodes, l.node, x))
 }
 
-pub fn node_label(l: Layout, nodes: &[u8], edges: &[u8], x: usize) -> Label
+// Its label, where it lies.
+pub fn node_label<'a>(l: Layout, nodes: &'a [u8], edges: &[u8], x: usize) -> &'a [u8]
     requires { ⌜ Legal l (now nodes) (now edges) ⌝ }
     requires { ⌜ x < length (hostOf l (now nodes) (now edges) .nodes) ⌝ }
-    ensures { λ r. ⌜ Holds (nodeAt (hostOf l (now (nodes .entry)) (now (edges .entry))) x .label) r ⌝ }
+    ensures { λ r. ⌜ (laid (now r) ≡ nodeAt (hostOf l (now (nodes .entry)) (now (edges .entry))) x .label) × (length (laid (now r)) ≤ mostAtoms) ⌝ }
 {
-    read_label(slots::slot(nodes, l.node, x), Place::NODE_ATOMS)
-}
-
-// How many atoms its label has.
-pub fn node_length(l: Layout, nodes: &[u8], edges: &[u8], x: usize) -> usize
-    requires { ⌜ Legal l (now nodes) (now edges) ⌝ }
-    requires { ⌜ x < length (hostOf l (now nodes) (now edges) .nodes) ⌝ }
-    ensures { λ r. ⌜ (r ≡ length (nodeAt (hostOf l (now (nodes .entry)) (now (edges .entry))) x .label)) × (r ≤ mostAtoms) ⌝ }
-{
-    held::atom_count(slots::slot(nodes, l.node, x))
-}
-
-// Atom k of its label.
-pub fn node_atom(l: Layout, nodes: &[u8], edges: &[u8], x: usize, k: usize) -> u32
-    requires { ⌜ Legal l (now nodes) (now edges) ⌝ }
-    requires { ⌜ (x < length (hostOf l (now nodes) (now edges) .nodes)) × (k < length (nodeAt (hostOf l (now nodes) (now edges)) x .label)) ⌝ }
-    ensures { λ r. ⌜ r ≡ getD (nodeAt (hostOf l (now (nodes .entry)) (now (edges .entry))) x .label) k 0 ⌝ }
-{
-    held::atom(slots::slot(nodes, l.node, x), Place::NODE_ATOMS, k)
+    held::label(slots::slot(nodes, l.node, x), Place::NODE_ATOMS)
 }
 
 // Edges.
@@ -140,30 +103,13 @@ pub fn edge_target(l: Layout, nodes: &[u8], edges: &[u8], x: usize) -> usize
     held::target(l, slots::slot(edges, l.edge, x))
 }
 
-pub fn edge_label(l: Layout, nodes: &[u8], edges: &[u8], x: usize) -> Label
+// Its label, where it lies.
+pub fn edge_label<'a>(l: Layout, nodes: &[u8], edges: &'a [u8], x: usize) -> &'a [u8]
     requires { ⌜ Legal l (now nodes) (now edges) ⌝ }
     requires { ⌜ x < length (hostOf l (now nodes) (now edges) .edges) ⌝ }
-    ensures { λ r. ⌜ Holds (edgeAt (hostOf l (now (nodes .entry)) (now (edges .entry))) x .label) r ⌝ }
+    ensures { λ r. ⌜ (laid (now r) ≡ edgeAt (hostOf l (now (nodes .entry)) (now (edges .entry))) x .label) × (length (laid (now r)) ≤ mostAtoms) ⌝ }
 {
-    read_label(slots::slot(edges, l.edge, x), held::edge_atoms(l))
-}
-
-// How many atoms its label has.
-pub fn edge_length(l: Layout, nodes: &[u8], edges: &[u8], x: usize) -> usize
-    requires { ⌜ Legal l (now nodes) (now edges) ⌝ }
-    requires { ⌜ x < length (hostOf l (now nodes) (now edges) .edges) ⌝ }
-    ensures { λ r. ⌜ (r ≡ length (edgeAt (hostOf l (now (nodes .entry)) (now (edges .entry))) x .label)) × (r ≤ mostAtoms) ⌝ }
-{
-    held::atom_count(slots::slot(edges, l.edge, x))
-}
-
-// Atom k of its label.
-pub fn edge_atom(l: Layout, nodes: &[u8], edges: &[u8], x: usize, k: usize) -> u32
-    requires { ⌜ Legal l (now nodes) (now edges) ⌝ }
-    requires { ⌜ (x < length (hostOf l (now nodes) (now edges) .edges)) × (k < length (edgeAt (hostOf l (now nodes) (now edges)) x .label)) ⌝ }
-    ensures { λ r. ⌜ r ≡ getD (edgeAt (hostOf l (now (nodes .entry)) (now (edges .entry))) x .label) k 0 ⌝ }
-{
-    held::atom(slots::slot(edges, l.edge, x), held::edge_atoms(l), k)
+    held::label(slots::slot(edges, l.edge, x), held::edge_atoms(l))
 }
 
 // What an edge does.

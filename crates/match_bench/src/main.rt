@@ -14,9 +14,9 @@ use meaning::Room;
 use plan::At;
 
 // The first match of the first rule, asked for n times, and at least once.
-fn repeated(
-    nodes: &[u8],
-    edges: &[u8],
+fn repeated<'a>(
+    nodes: &'a [u8],
+    edges: &'a [u8],
     image: &[u8],
     n: u32,
     plan: &mut [usize; At::LENGTH],
@@ -36,7 +36,7 @@ fn repeated(
     pairs::rule_match(nodes, edges, image, 0, plan, lens, atoms)
 }
 
-fn match_first(nodes: &[u8], edges: &[u8], image: &[u8], n: u32)
+fn match_first<'a>(nodes: &'a [u8], edges: &'a [u8], image: &[u8], n: u32)
     requires { ⌜ doesStart (now nodes) (now edges) (now image) ≡ true ⌝ }
     requires { ⌜ For (program (now image)) (λ p. 0 < length (p .rules)) ⌝ }
 {

@@ -10,7 +10,7 @@ ghost use Rattle.pairs.specs.Pairs.{starts as doesStart};
 use meaning::Room;
 use plan::At;
 
-fn match_rule(nodes: &[u8], edges: &[u8], image: &[u8], i: usize)
+fn match_rule<'a>(nodes: &'a [u8], edges: &'a [u8], image: &[u8], i: usize)
     requires { ⌜ doesStart (now nodes) (now edges) (now image) ≡ true ⌝ }
     requires { ⌜ For (program (now image)) (λ p. i < length (p .rules)) ⌝ }
 {
@@ -21,7 +21,7 @@ fn match_rule(nodes: &[u8], edges: &[u8], image: &[u8], i: usize)
     pairs::write_match(parts::rule_part(image, i), found, lens, atoms);
 }
 
-fn match_rules(nodes: &[u8], edges: &[u8], image: &[u8])
+fn match_rules<'a>(nodes: &'a [u8], edges: &'a [u8], image: &[u8])
     requires { ⌜ doesStart (now nodes) (now edges) (now image) ≡ true ⌝ }
 {
     let n = parts::rule_count(image);

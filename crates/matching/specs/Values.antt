@@ -7,7 +7,8 @@ use mathlib.Core.Option.{some}
 use mathlib.Core.List.{List}
 use lib.ListN.{length, getD, take}
 use Rattle.meaning.specs.Basics.{absent}
-use Rattle.meaning.specs.Layout.{Host, hostOf, mostAtoms}
+use Rattle.meaning.specs.Numbers.{whole}
+use Rattle.meaning.specs.Layout.{Host, hostOf}
 use Rattle.meaning.specs.Image.{Rule, rule, mostItems}
 use Rattle.meaning.specs.References.{labels, names}
 use Rattle.meaning.specs.FirstMatch.{firstWith, firstMatch}
@@ -19,11 +20,12 @@ use Rattle.meaning.specs.Matching.{total}
 use Rattle.matching.specs.declared.Outcome.the-variants.{Match}
 use Rattle.matching.specs.declared.Matched.{Matched}
 
--- as many numbers as a label has room for are copied to a place, and nothing else
+-- atoms are copied to a place, and nothing else changes
 pub record Copied (start : ℕ) (new before after : List ℕ) : Type 0 where
   pub room : length after ≡ valuesRoom
-  pub inside : (j : ℕ) → j < mostAtoms → getD after (start + j) 0 ≡ getD new j 0
-  pub outside : (x : ℕ) → (x < start) ⊎ (start + mostAtoms ≤ x) → getD after x 0 ≡ getD before x 0
+  pub words : (j : ℕ) → j < length new → getD new j 0 < whole
+  pub inside : (j : ℕ) → j < length new → getD after (start + j) 0 ≡ getD new j 0
+  pub outside : (x : ℕ) → (x < start) ⊎ (start + length new ≤ x) → getD after x 0 ≡ getD before x 0
 
 -- each of the first n variables that a left item has got the value that the placement p gives it
 abbrev pub HasValues : Host → Rule → List ℕ → ℕ → List ℕ → List ℕ → Type 0

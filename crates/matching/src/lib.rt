@@ -6,18 +6,19 @@ ghost use lib.ListN.{length, getD, take, replicate};
 ghost use Rattle.meaning.specs.Image.{mostItems};
 ghost use Rattle.meaning.specs.FirstMatch.{nodeFits, complete as isComplete};
 ghost use Rattle.graph.specs.Graph.{Legal};
-ghost use Rattle.meaning.specs.Layout.{hostOf, mostAtoms};
+ghost use Rattle.meaning.specs.Layout.{hostOf};
+ghost use Rattle.slots.specs.Laid.{laid};
 ghost use Rattle.plan.specs.Plan.{IsRule, edgesAt, nodesAt, planLength, sortAt};
 ghost use Rattle.matching.specs.Next.{Handed, Ready, Of, endOf, Meets, NextSlot, NextLikely, IsStep};
 ghost use Rattle.meaning.specs.Matching.{total};
 ghost use Rattle.values.specs.Values.{Stored, valuesRoom};
 ghost use Rattle.matching.specs.Values.{Copied, HasValues, Sought, IsFirst};
 ghost use Rattle.matching.specs.declared.Outcome.the-variants.{Match, NoMatch};
-use labels::Label;
 use meaning::Layout;
 use meaning::Room;
 use plan::At;
 use plan::Side;
+use slots::laid;
 
 // The next slot that fits, or none.
 pub enum Next {
@@ -39,8 +40,8 @@ pub enum Outcome {
 
 // The slots stand beside the outcome, and mean something where it is Match: node slots in left order, then edge slots.
 pub struct Matched {
-    pub outcome: Outcome,
     pub slots: [usize; Room::ITEMS],
+    pub outcome: Outcome,
 }
 
 impl Matched {
@@ -182,10 +183,10 @@ fn next_candidate(
 // The next slot.
 
 // The first slot at c or above that is likely for left node i.
-fn next_node(
+fn next_node<'a>(
     l: Layout,
-    nodes: &[u8],
-    edges: &[u8],
+    nodes: &'a [u8],
+    edges: &'a [u8],
     rule: &[u8],
     plan: &[usize; At::LENGTH],
     at: &[usize; Room::ITEMS],
@@ -220,10 +221,10 @@ fn next_node(
 }
 
 // The first slot at c or above that is likely for the left edge that is item i.
-fn next_edge(
+fn next_edge<'a>(
     l: Layout,
-    nodes: &[u8],
-    edges: &[u8],
+    nodes: &'a [u8],
+    edges: &'a [u8],
     rule: &[u8],
     plan: &[usize; At::LENGTH],
     at: &[usize; Room::ITEMS],
@@ -251,10 +252,10 @@ fn next_edge(
 }
 
 // The first slot at c or above that is likely for item i, behind at[..i].
-fn next_likely(
+fn next_likely<'a>(
     l: Layout,
-    nodes: &[u8],
-    edges: &[u8],
+    nodes: &'a [u8],
+    edges: &'a [u8],
     rule: &[u8],
     plan: &[usize; At::LENGTH],
     at: &[usize; Room::ITEMS],
@@ -272,10 +273,10 @@ fn next_likely(
 }
 
 // The first that fits.
-fn next_slot(
+fn next_slot<'a>(
     l: Layout,
-    nodes: &[u8],
-    edges: &[u8],
+    nodes: &'a [u8],
+    edges: &'a [u8],
     rule: &[u8],
     plan: &[usize; At::LENGTH],
     at: &[usize; Room::ITEMS],
@@ -306,10 +307,10 @@ fn next_slot(
 // The levels of the search.
 
 // Whether a full placement is a match: nothing is left dangling, and the tests hold.
-fn complete(
+fn complete<'a>(
     l: Layout,
-    nodes: &[u8],
-    edges: &[u8],
+    nodes: &'a [u8],
+    edges: &'a [u8],
     rule: &[u8],
     plan: &[usize; At::LENGTH],
     at: &[usize; Room::ITEMS],
@@ -326,10 +327,10 @@ fn complete(
 }
 
 // What to do at level i, where the slots from c on are left to try.
-fn advance(
+fn advance<'a>(
     l: Layout,
-    nodes: &[u8],
-    edges: &[u8],
+    nodes: &'a [u8],
+    edges: &'a [u8],
     rule: &[u8],
     plan: &[usize; At::LENGTH],
     at: &[usize; Room::ITEMS],
@@ -355,24 +356,24 @@ fn advance(
 
 // The values of the variables.
 
-// Copies the atoms of label a to a place.
-fn put_atoms(atoms: &mut [u32; Room::ATOMS], start: usize, a: Label)
-    requires { ⌜ (start + mostAtoms ≤ valuesRoom) × (length (now atoms) ≡ valuesRoom) ⌝ }
-    ensures { λ r. ⌜ Copied start (a .atoms) (now (atoms .entry)) (now (atoms .exit)) ⌝ }
+// Copies the atoms of a label out of its table, to a place.
+fn put_atoms(atoms: &mut [u32; Room::ATOMS], start: usize, a: &[u8])
+    requires { ⌜ (start + length (laid (now a)) ≤ valuesRoom) × (length (now atoms) ≡ valuesRoom) ⌝ }
+    ensures { λ _. ⌜ Copied start (laid (now (a .entry))) (now (atoms .entry)) (now (atoms .exit)) ⌝ }
 {
-    let from = a.atoms;
+    let n = laid::count(a);
     let mut j: usize = 0;
-    while j < labels::MOST {
-        atoms[start + j] = from[j];
+    while j < n {
+        atoms[start + j] = laid::atom(a, j);
         j += 1;
     }
 }
 
 // Writes the values that a full placement gives the variables: variable v has lens[v] atoms, from atoms[labels::MOST * v] on.
-fn assign(
+fn assign<'a>(
     l: Layout,
-    nodes: &[u8],
-    edges: &[u8],
+    nodes: &'a [u8],
+    edges: &'a [u8],
     rule: &[u8],
     plan: &[usize; At::LENGTH],
     at: &[usize; Room::ITEMS],
@@ -390,7 +391,7 @@ fn assign(
     while v < n {
         if plan[At::FIRST + v] < m {
             let a = agreeing::value(l, nodes, edges, rule, plan, at, Room::ITEMS, 0, v);
-            lens[v] = a.len;
+            lens[v] = laid::count(a);
             put_atoms(atoms, labels::MOST * v, a);
             v += 1;
         } else {
@@ -402,10 +403,10 @@ fn assign(
 // The search.
 
 // The first placement of the left items, with the values of the variables.
-fn search(
+fn search<'a>(
     l: Layout,
-    nodes: &[u8],
-    edges: &[u8],
+    nodes: &'a [u8],
+    edges: &'a [u8],
     rule: &[u8],
     plan: &[usize; At::LENGTH],
     lens: &mut [usize; Room::VARIABLES],
@@ -432,7 +433,10 @@ fn search(
             }
         }
         if i == 0 {
-            return Matched::none();
+            return Matched {
+                slots: at,
+                outcome: Outcome::NoMatch,
+            };
         }
         i -= 1;
         c = at[i] + 1;
@@ -443,10 +447,10 @@ fn search(
 
 // The first match of a rule, from its part of the image. The caller lends room for the rule's plan and for the values of its
 // variables.
-pub fn first_match(
+pub fn first_match<'a>(
     l: Layout,
-    nodes: &[u8],
-    edges: &[u8],
+    nodes: &'a [u8],
+    edges: &'a [u8],
     rule: &[u8],
     plan: &mut [usize; At::LENGTH],
     lens: &mut [usize; Room::VARIABLES],

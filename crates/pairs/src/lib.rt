@@ -30,9 +30,9 @@ pub fn starts(nodes: &[u8], edges: &[u8], image: &[u8]) -> bool
 }
 
 // The first match of the rule of number i. Room is lent for the rule's plan and for the values of its variables.
-pub fn rule_match(
-    nodes: &[u8],
-    edges: &[u8],
+pub fn rule_match<'a>(
+    nodes: &'a [u8],
+    edges: &'a [u8],
     image: &[u8],
     i: usize,
     plan: &mut [usize; At::LENGTH],

@@ -167,7 +167,7 @@ module _ (tag : ℕ) (bs : List ℕ) where
       let v : negated ≡ x .negated = hn ∙ sym (i .negated) in
       rw (v, w)
 
--- what is read from the field of a number, of a label or of tests
+-- what is read from the field of a number in a row
 pub item-nth : {A : Type 0} (item : ℕ → List ℕ → Option A) (most : ℕ) (bs : List ℕ) (n tag : ℕ) (part : List ℕ) (r : A) → tag ≡ nthTag n bs → part ≡ nthPart n bs → For (item tag part) (λ a. r ≡ a) → For (only passesAll item most bs) (λ l. n < length l → (d : A) → r ≡ getD l n d)
 item-nth item most bs n tag part r g h q l e k d =
     q (getD l n d) (rw (g, h) (nth-item bs item l n d (only-series passesAll item item (λ t b a p x. x) most bs l e) k))

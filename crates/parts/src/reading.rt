@@ -2,10 +2,8 @@
 ghost use mathlib.Core.Path.{_≡_};
 ghost use Prim.Native.Nat.{_<_};
 ghost use lib.ListN.{length, getD};
-ghost use Rattle.meaning.specs.Image.{only, passesAll, operand, element, label, condition, test};
+ghost use Rattle.meaning.specs.Image.{only, passesAll, operand, element, condition, test};
 ghost use Rattle.meaning.specs.declared.Operand.{Operand};
-ghost use Rattle.meaning.specs.declared.Element.{Element};
-ghost use Rattle.meaning.specs.declared.Test.{Test};
 ghost use Rattle.parts.specs.Series.{For};
 ghost use Rattle.parts.specs.Reading.{relationOf};
 use meaning::Condition;
@@ -48,13 +46,6 @@ pub fn read_element(tag: u8, p: &[u8]) -> Element
     Element::Difference(a, b)
 }
 
-// The element of number n of a label.
-pub fn element_at(p: &[u8], n: usize) -> Element
-    ensures { λ r. ⌜ For (label (now (p .entry))) (λ l. n < length l → (d : Element) → r ≡ getD l n d) ⌝ }
-{
-    read_element(crate::nth_tag(p, n), crate::nth_part(p, n))
-}
-
 // Equal or less, and two operands.
 pub fn read_relation(p: &[u8]) -> Condition
     ensures { λ r. ⌜ For (relationOf (now (p .entry))) (λ c. r ≡ c) ⌝ }
@@ -94,11 +85,4 @@ pub fn read_test(tag: u8, p: &[u8]) -> Test
         negated: crate::flag(p),
         condition: c,
     }
-}
-
-// The test of number n of a rule's tests.
-pub fn test_at(p: &[u8], n: usize) -> Test
-    ensures { λ r. ⌜ For (only passesAll test 4 (now (p .entry))) (λ l. n < length l → (d : Test) → r ≡ getD l n d) ⌝ }
-{
-    read_test(crate::nth_tag(p, n), crate::nth_part(p, n))
 }

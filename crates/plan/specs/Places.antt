@@ -8,18 +8,17 @@ use native.Mathlib.Omega.{arith}
 use native.Mathlib.Decide.{decLt}
 use lib.ListN.{length, getD, take, drop, length-drop}
 use lib.Seq.{length-take-le, take-nil, take-take, drop-drop, drop-cons, getD-take, getD-drop}
-use Rattle.meaning.specs.Image.{RuleNode, RuleEdge, Rule, only, passesAll, label, ruleNode, ruleEdge, test}
+use Rattle.meaning.specs.Image.{RuleNode, RuleEdge, Rule, label, ruleNode, ruleEdge}
 use Rattle.meaning.specs.References.{labels}
 use Rattle.meaning.specs.Matching.{leftNode, leftEdge, leftNodes, leftEdges}
-use Rattle.fields.specs.Parsed.{ruleNode-is, ruleEdge-is, test-is}
+use Rattle.fields.specs.Parsed.{ruleNode-is, ruleEdge-is}
 use Rattle.laws.specs.Assignment.{label-node, label-edge}
-use Rattle.meaning.specs.declared.Test.{Test}
 use Rattle.fields.specs.Fields.{nthField}
 use Rattle.fields.specs.declared.Found.{Found}
 use Rattle.fields.specs.declared.Found.the-variants.{Field}
-use Rattle.parts.specs.Series.{Series, only-series, nthPart, nthTag, nth-item, part-field, tag-field}
+use Rattle.parts.specs.Series.{part-field}
 use Rattle.parts.proofs.Loops.{NoField, no-part, nth-in}
-use Rattle.plan.specs.Plan.{Placed, testOf, Laid, HasItem, HasNode, HasEdge, Marked, edgeEnd, endPlace, Part, edgesAt, endAt, nodesAt, startAt, testsEndAt, testsStartAt}
+use Rattle.plan.specs.Plan.{Placed, Laid, HasItem, HasNode, HasEdge, Marked, edgeEnd, endPlace, Part, edgesAt, endAt, nodesAt, startAt}
 use Rattle.plan.specs.declared.Side.{Side}
 use Rattle.plan.specs.declared.Side.the-variants.{Source, Target}
 
@@ -202,7 +201,7 @@ module _ {bs plan : List ℕ} {j : ℕ} (w : HasItem bs plan j) where
       at (yes h) = let i = node-inside h in omega arith
       at (no h) = let i = edge-inside (omega arith) in omega arith
 
--- The parts of a rule, and its tests, by number.
+-- The parts of a rule by number, and its tests.
 
 pub place-none : (bs : List ℕ) (n : ℕ) (f : Found) → f ≡ nthField n bs 0 → NoField f → Part bs n 0 0
 place-none bs n f e k = record { ordered = omega arith; inside = omega arith; is = no-part bs f (nthField n bs 0) e k }
@@ -211,22 +210,3 @@ pub place-there : (bs : List ℕ) (n : ℕ) {f : Found} {tag start end : ℕ} �
 place-there bs n {f} {tag} {start} {end} e g =
     let i = nth-in bs n e g in
     record { ordered = i .0; inside = i .1; is = sym (part-field bs (nthField n bs 0) tag start end (sym e ∙ g)) }
-
-no-test : (tag : ℕ) (p : List ℕ) (t : Test) → [] ≡ p → test tag p ≡ some t → ⊥
-no-test tag p t e q = omega (arith, test-is tag p t q .long, ap length e)
-
-module _ {bs : List ℕ} {r : Rule} {plan : List ℕ} (l : Laid bs r plan) (p : List ℕ) (is : p ≡ take (getD plan testsEndAt 0 - getD plan testsStartAt 0) (drop (getD plan testsStartAt 0) bs)) where
-  pub tests-series : Series test (r .tests) [] p
-  tests-series = only-series passesAll test test (λ tag cs a h e. e) 4 p (r .tests) (ap (only passesAll test 4) is ∙ l .tests .is)
-
-  module _ (t : ℕ) (h : t < length (r .tests)) where
-    numbered : test (nthTag t p) (nthPart t p) ≡ some (testOf r t)
-    numbered = nth-item p test (r .tests) t _ tests-series h
-
-    pub test-none : (f : Found) → f ≡ nthField t p 0 → NoField f → ⊥
-    test-none f e k = no-test _ _ _ (no-part p f (nthField t p 0) e k) numbered
-
-    pub test-there : {f : Found} {tag s e : ℕ} {q : List ℕ} → f ≡ nthField t p 0 → f ≡ Field tag s e → q ≡ take (e - s) (drop s p) → test tag q ≡ some (testOf r t)
-    test-there {f} {tag} {s} {e} {q} k g m =
-        let n = sym k ∙ g in
-        rw (m, ← (part-field p (nthField t p 0) tag s e n), ← (tag-field (nthField t p 0) tag s e n)) numbered

@@ -6,13 +6,10 @@ ghost use mathlib.Core.Option.{some};
 ghost use mathlib.Core.List.{[]};
 ghost use Prim.Native.Nat.{_+_, _<_, max};
 ghost use lib.ListN.{length, getD};
-ghost use Rattle.meaning.specs.Image.{mostItems, label};
+ghost use Rattle.meaning.specs.Image.{mostItems, only, passesAll, label, test, limits};
 ghost use Rattle.meaning.specs.References.{labels};
 ghost use Rattle.meaning.specs.Matching.{leftNode, leftEdge};
-ghost use Rattle.plan.specs.Plan.{planLength, elementsAt, listsAt, IsLaid, HasItem, HasNode, HasEdge, For, Marked, edgeEnd, endPlace, testOf};
-use fields::Found;
-use meaning::Condition;
-use meaning::Test;
+ghost use Rattle.plan.specs.Plan.{planLength, elementsAt, listsAt, IsLaid, HasItem, HasNode, HasEdge, For, Marked, edgeEnd, endPlace};
 use parts::Counts;
 
 // How many numbers a plan has, and the places of those that there are one or two of, or the first of for each item, variable
@@ -152,22 +149,14 @@ pub fn types<'a>(rule: &'a [u8], plan: &[usize; At::LENGTH]) -> &'a [u8]
     fields::part(rule, start, end)
 }
 
-// Test number t.
-pub fn test(rule: &[u8], plan: &[usize; At::LENGTH], t: usize) -> Test
+// The tests.
+pub fn tests<'a>(rule: &'a [u8], plan: &[usize; At::LENGTH]) -> &'a [u8]
     requires { ⌜ IsLaid (now rule) (now plan) ⌝ }
-    ensures { λ x. ⌜ For (now (rule .entry)) (now (plan .entry)) (λ r. t < length (r .tests) → x ≡ testOf r t) ⌝ }
+    ensures { λ p. ⌜ For (now (rule .entry)) (now (plan .entry)) (λ r. only passesAll test (limits .tests) (now p) ≡ some (r .tests)) ⌝ }
 {
     let start = plan[At::TESTS_START];
     let end = plan[At::TESTS_END];
-    let tests = fields::part(rule, start, end);
-    let found = fields::nth_field(tests, t);
-    let Found::Field(tag, s, e) = found else {
-        return Test {
-            negated: false,
-            condition: Condition::Edge(0, 0),
-        };
-    };
-    parts::reading::read_test(tag, fields::part(tests, s, e))
+    fields::part(rule, start, end)
 }
 
 // The counts of the label of item j.

@@ -8,7 +8,7 @@ use native.Mathlib.Omega.{arith}
 use native.Mathlib.Decide.{ℕ-discrete}
 use lib.ListN.{length, getD, set, take, drop, length-drop}
 use Rattle.meaning.specs.Basics.{concat}
-use Rattle.meaning.specs.Image.{Rule, field, test, mostItems, limits}
+use Rattle.meaning.specs.Image.{Rule, field, only, passesAll, test, mostItems, limits}
 use Rattle.meaning.specs.References.{operandNames, conditionOperands, conditionNodes, labels}
 use Rattle.meaning.specs.Matching.{leftNodes}
 use Rattle.meaning.specs.FirstMatch.{firstWith, highest, decidedAt}
@@ -21,11 +21,11 @@ use Rattle.meaning.specs.declared.Condition.{Condition}
 use Rattle.meaning.specs.declared.Condition.the-variants.{Edge, InDegree, OutDegree, Equal, Less}
 use Rattle.meaning.specs.declared.Test.{Test}
 use Rattle.fields.specs.Laws.{Lies}
-use Rattle.parts.specs.Series.{Series, series-none, series-some, series-there}
-use Rattle.plan.specs.Plan.{testOf, Planned, decidesAt, firstAt, testsEndAt, testsStartAt, testsAt}
+use Rattle.parts.specs.Series.{Series, only-series, series-none, series-some, series-there}
+use Rattle.plan.specs.Plan.{testOf, Planned, decidesAt, firstAt, testsAt}
 use Rattle.planning.specs.Planning.{Named, AllLabelled, Valued, Decides, operandDecided, decidedBy}
 use Rattle.plan.specs.Tests.{nodes-exist, variables-exist}
-use Rattle.plan.specs.Places.{drop-head, tests-series}
+use Rattle.plan.specs.Places.{drop-head}
 use Rattle.planning.proofs.Variables.{first-low}
 use Rattle.planning.proofs.Stores.{other, stored, all-kept}
 
@@ -147,8 +147,14 @@ pub record Deciding (bs : List ℕ) (r : Rule) (plan p : List ℕ) (at t : ℕ) 
   pub few : t ≤ length (r .tests)
   pub left : Series test (drop t (r .tests)) [] (drop at p)
 
-pub deciding-start : {bs : List ℕ} {r : Rule} {plan p : List ℕ} → AllLabelled bs r plan → p ≡ take (getD plan testsEndAt 0 - getD plan testsStartAt 0) (drop (getD plan testsStartAt 0) bs) → Deciding bs r plan p 0 0
-deciding-start {p = p} w e = record { labelled = w; decided = λ u h. absurd (omega arith); few = omega arith; left = tests-series (w .named .laid) p e }
+pub deciding-start : {bs : List ℕ} {r : Rule} {plan p : List ℕ} → AllLabelled bs r plan → only passesAll test (limits .tests) p ≡ some (r .tests) → Deciding bs r plan p 0 0
+deciding-start {r = r} {p = p} w e =
+    record {
+      labelled = w;
+      decided = λ u h. absurd (omega arith);
+      few = omega arith;
+      left = only-series passesAll test test (λ tag cs a h e. e) (limits .tests) p (r .tests) e;
+    }
 
 module _ {bs : List ℕ} {r : Rule} {plan p : List ℕ} {at t : ℕ} (w : Deciding bs r plan p at t) where
   pub deciding-cut : at < length p → field (drop at p) ≡ none → ⊥

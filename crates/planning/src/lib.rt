@@ -265,9 +265,7 @@ fn plan_tests(rule: &[u8], plan: &mut [usize; At::LENGTH])
     requires { ⌜ IsLabelled (now rule) (now plan) ⌝ }
     ensures { λ u. ⌜ ((r : Rule) → AllLabelled (now (rule .entry)) r (now (plan .entry)) → Planned (now (rule .entry)) r (now (plan .exit))) ⌝ }
 {
-    let start = plan[At::TESTS_START];
-    let end = plan[At::TESTS_END];
-    let tests = fields::part(rule, start, end);
+    let tests = plan::tests(rule, &*plan);
     let mut at: usize = 0;
     let mut t: usize = 0;
     while at < tests.len() {

@@ -2,3 +2,5 @@ pub mod Slots
 pub mod States
 pub mod Held
 pub mod Parts
+pub mod Laid
+pub mod Comparing

@@ -5,7 +5,7 @@ ghost use Prim.Native.Nat.{_+_, _-_, _*_, _<_, _≤_};
 ghost use lib.ListN.{length, getD, take, drop, replicate};
 ghost use Rattle.meaning.specs.Basics.{zeros};
 ghost use Rattle.meaning.specs.Numbers.{number};
-ghost use Rattle.meaning.specs.Layout.{Sized, live, isLive, statePlace, markPlace, rootPlace, lengthPlace, headLength, sourcePlace, targetPlace, edgeAtoms, atomLength, readAtoms, nodeLength, edgeLength, atomBytes, writeNode, writeEdge};
+ghost use Rattle.meaning.specs.Layout.{Sized, live, isLive, statePlace, markPlace, rootPlace, lengthPlace, headLength, sourcePlace, targetPlace, edgeAtoms, atomLength, nodeLength, edgeLength, atomBytes, writeNode, writeEdge};
 ghost use Rattle.slots.specs.Slots.{stateOf, labelEnd};
 use meaning::Layout;
 
@@ -111,13 +111,13 @@ pub fn edge_atoms(l: Layout) -> usize
     Place::SOURCE + 2 * l.width
 }
 
-// Atom k of its label, whose atoms begin at a place.
-pub fn atom(b: &[u8], start: usize, k: usize) -> u32
-    requires { ⌜ labelEnd start (now b) ≤ length (now b) ⌝ }
-    requires { ⌜ k < getD (now b) lengthPlace 0 ⌝ }
-    ensures { λ r. ⌜ r ≡ getD (readAtoms (getD (now (b .entry)) lengthPlace 0) (drop start (now (b .entry)))) k 0 ⌝ }
+// The bytes of its label, whose atoms begin at a place.
+pub fn label(b: &[u8], start: usize) -> &[u8]
+    requires { ⌜ (lengthPlace < length (now b)) × (labelEnd start (now b) ≤ length (now b)) ⌝ }
+    ensures { λ r. ⌜ now r ≡ take (atomLength * getD (now (b .entry)) lengthPlace 0) (drop start (now (b .entry))) ⌝ }
 {
-    fields::number4(b, start + Size::ATOM * k) as u32
+    let end = start + Size::ATOM * atom_count(b);
+    &b[start..end]
 }
 
 // Whether it is zero behind its label, whose atoms begin at a place.

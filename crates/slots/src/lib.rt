@@ -1,6 +1,6 @@
 // Slots of host tables and of the journal in lent bytes: where a slot lies, storing and freeing one, zeroing some in a row, and
-// which are free. What a slot of a host table holds is in `held`, bytes and numbers are in `bytes`. Where a slot starts is
-// reckoned here alone.
+// which are free. What a slot of a host table holds is in `held`, its label where it lies in `laid`, bytes and numbers are in
+// `bytes`. Where a slot starts is reckoned here alone.
 ghost use mathlib.Core.Path.{_≡_};
 ghost use mathlib.Core.List.{[]};
 ghost use Prim.Native.Nat.{_+_, _*_, _/_, _<_, _≤_};
@@ -13,6 +13,7 @@ use meaning::Layout;
 
 pub mod bytes;
 pub mod held;
+pub mod laid;
 
 // Whether a table's length is a multiple of its slot's, with at most so many slots.
 pub fn fits_table(table: &[u8], w: usize, most: usize) -> bool

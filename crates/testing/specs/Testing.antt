@@ -1,10 +1,12 @@
 -- What operands, conditions and tests need of a placement: that their nodes are placed and their variables have values.
--- Rests on agreeing's Placed and Agreeing.
+-- Rests on agreeing's Placed and Agreeing and on the meaning's Image.
+use mathlib.Core.Path.{_≡_}
+use mathlib.Core.Option.{some}
 use mathlib.Core.List.{List}
 use Prim.Native.Nat.{ℕ, _<_}
 use lib.ListN.{length}
 use Rattle.meaning.specs.Layout.{Host}
-use Rattle.meaning.specs.Image.{Rule}
+use Rattle.meaning.specs.Image.{Rule, operand, condition}
 use Rattle.meaning.specs.References.{operandNames, conditionOperands, conditionNodes}
 use Rattle.meaning.specs.Laws.Every.{Every}
 use Rattle.meaning.specs.declared.Operand.{Operand}
@@ -23,12 +25,18 @@ pub record Decided (r : Rule) (q : List ℕ) (k : Condition) : Type 0 where
   pub operands : Every (OperandValued r q) (conditionOperands k)
 
 module _ (h : Host) (bs plan at : List ℕ) (i c : ℕ) where
-  pub record HasOperand (o : Operand) : Type 0 where
+  -- the tag and the bytes are read as an operand that has its value
+  pub record HasOperand (tag : ℕ) (p : List ℕ) : Type 0 where
     pub trial : Trial h bs plan at i c
+    pub o : Operand
+    pub is : operand tag p ≡ some o
     pub valued : OperandValued (trial .rule) (trial .placed) o
 
-  pub record HasCondition (k : Condition) : Type 0 where
+  -- or as a condition that is decided
+  pub record HasCondition (tag : ℕ) (p : List ℕ) : Type 0 where
     pub trial : Trial h bs plan at i c
+    pub k : Condition
+    pub is : condition tag p ≡ some k
     pub decided : Decided (trial .rule) (trial .placed) k
 
   pub record HasTest (t : ℕ) : Type 0 where

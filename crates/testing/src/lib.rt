@@ -1,10 +1,11 @@
-// Tests of a rule at a placement, and what is left of a candidate's test where the slot is likely: its label, where the label's
-// length and atom leave it open, and the tests that it decides.
+// Tests of a rule at a placement, evaluated where their bytes lie, and what is left of a candidate's test where the slot is
+// likely: its label, where the label's length and atom leave it open, and the tests that it decides.
 ghost use mathlib.Core.Path.{_≡_};
 ghost use mathlib.Core.Bool.{true};
 ghost use Prim.Native.Nat.{_+_};
 ghost use lib.ListN.{length, getD, take};
 ghost use Rattle.meaning.specs.Image.{mostItems};
+ghost use Rattle.meaning.specs.Tags.{relationTag};
 ghost use Rattle.meaning.specs.Basics.{every};
 ghost use Rattle.meaning.specs.Layout.{hostOf};
 ghost use Rattle.meaning.specs.Matching.{atomOf, conditionHolds, testHolds};
@@ -16,78 +17,111 @@ ghost use Rattle.agreeing.specs.Placed.{Known, Inside, Tried, Full};
 ghost use Rattle.agreeing.specs.Candidates.{Candidate, Likely};
 ghost use Rattle.testing.specs.Testing.{HasOperand, HasCondition, HasTest};
 use agreeing::slot_of;
-use meaning::Condition;
+use fields::Found;
 use meaning::Layout;
-use meaning::Operand;
 use meaning::Room;
+use meaning::tags::Relation;
+use meaning::tags::Tag;
 use plan::At;
 use plan::Sorted;
 
-// One test.
+// One test, from its bytes.
 
-// An operand's atom.
-fn atom(
+// An operand's atom, from its tag and payload.
+fn atom<'a>(
     l: Layout,
-    nodes: &[u8],
-    edges: &[u8],
+    nodes: &'a [u8],
+    edges: &'a [u8],
     rule: &[u8],
     plan: &[usize; At::LENGTH],
     at: &[usize; Room::ITEMS],
     i: usize,
     c: usize,
-    o: Operand,
+    tag: u8,
+    p: &[u8],
 ) -> u32
     requires { ⌜ Legal l (now nodes) (now edges) ⌝ }
-    requires { ⌜ HasOperand (hostOf l (now nodes) (now edges)) (now rule) (now plan) (now at) i c o ⌝ }
-    ensures { λ r. ⌜ ((w : HasOperand (hostOf l (now (nodes .entry)) (now (edges .entry))) (now (rule .entry)) (now (plan .entry)) (now (at .entry)) i c o) → r ≡ atomOf (assigned (hostOf l (now (nodes .entry)) (now (edges .entry))) (w .trial .rule) (w .trial .placed)) o) ⌝ }
+    requires { ⌜ HasOperand (hostOf l (now nodes) (now edges)) (now rule) (now plan) (now at) i c tag (now p) ⌝ }
+    ensures { λ r. ⌜ ((w : HasOperand (hostOf l (now (nodes .entry)) (now (edges .entry))) (now (rule .entry)) (now (plan .entry)) (now (at .entry)) i c tag (now (p .entry))) → r ≡ atomOf (assigned (hostOf l (now (nodes .entry)) (now (edges .entry))) (w .trial .rule) (w .trial .placed)) (w .o)) ⌝ }
 {
-    match o {
-        Operand::Constant(x) => x,
-        Operand::Variable(v) => agreeing::variable_atom(l, nodes, edges, rule, plan, at, i, c, v),
+    if tag == Tag::CONSTANT {
+        return parts::word_of(p);
     }
+    let v = parts::number_at(p, 0);
+    agreeing::variable_atom(l, nodes, edges, rule, plan, at, i, c, v)
 }
 
-fn condition_holds(
+// Whether two operands are equal, or the first is less, from the payload of a relation behind the test's flag.
+fn relation_holds<'a>(
     l: Layout,
-    nodes: &[u8],
-    edges: &[u8],
+    nodes: &'a [u8],
+    edges: &'a [u8],
     rule: &[u8],
     plan: &[usize; At::LENGTH],
     at: &[usize; Room::ITEMS],
     i: usize,
     c: usize,
-    k: Condition,
+    p: &[u8],
 ) -> bool
     requires { ⌜ Legal l (now nodes) (now edges) ⌝ }
-    requires { ⌜ HasCondition (hostOf l (now nodes) (now edges)) (now rule) (now plan) (now at) i c k ⌝ }
-    ensures { λ r. ⌜ ((w : HasCondition (hostOf l (now (nodes .entry)) (now (edges .entry))) (now (rule .entry)) (now (plan .entry)) (now (at .entry)) i c k) → r ≡ conditionHolds (hostOf l (now (nodes .entry)) (now (edges .entry))) (w .trial .placed) (assigned (hostOf l (now (nodes .entry)) (now (edges .entry))) (w .trial .rule) (w .trial .placed)) k) ⌝ }
+    requires { ⌜ HasCondition (hostOf l (now nodes) (now edges)) (now rule) (now plan) (now at) i c relationTag (now p) ⌝ }
+    ensures { λ r. ⌜ ((w : HasCondition (hostOf l (now (nodes .entry)) (now (edges .entry))) (now (rule .entry)) (now (plan .entry)) (now (at .entry)) i c relationTag (now (p .entry))) → r ≡ conditionHolds (hostOf l (now (nodes .entry)) (now (edges .entry))) (w .trial .placed) (assigned (hostOf l (now (nodes .entry)) (now (edges .entry))) (w .trial .rule) (w .trial .placed)) (w .k)) ⌝ }
 {
-    match k {
-        Condition::Edge(a, b) => graph::any_runs(
-            l,
-            nodes,
-            edges,
-            slot_of(at, i, c, a),
-            slot_of(at, i, c, b),
-        ),
-        Condition::InDegree(a, n) => graph::in_degree(l, nodes, edges, slot_of(at, i, c, a)) == n,
-        Condition::OutDegree(a, n) => graph::out_degree(l, nodes, edges, slot_of(at, i, c, a)) == n,
-        Condition::Equal(a, b) => {
-            atom(l, nodes, edges, rule, plan, at, i, c, a)
-                == atom(l, nodes, edges, rule, plan, at, i, c, b)
-        }
-        Condition::Less(a, b) => {
-            labels::height(atom(l, nodes, edges, rule, plan, at, i, c, a))
-                < labels::height(atom(l, nodes, edges, rule, plan, at, i, c, b))
-        }
+    let found = fields::read_field(p, 1);
+    let Found::Field(tag, start, end) = found else {
+        return false;
+    };
+    let next = fields::read_field(p, end);
+    let Found::Field(other, from, to) = next else {
+        return false;
+    };
+    let first = fields::part(p, start, end);
+    let a = atom(l, nodes, edges, rule, plan, at, i, c, tag, first);
+    let second = fields::part(p, from, to);
+    let b = atom(l, nodes, edges, rule, plan, at, i, c, other, second);
+    if parts::byte_at(p, 0) == Relation::EQUAL {
+        return a == b;
     }
+    labels::height(a) < labels::height(b)
+}
+
+// Whether a condition holds, from its tag and the bytes behind the test's flag.
+fn condition_holds<'a>(
+    l: Layout,
+    nodes: &'a [u8],
+    edges: &'a [u8],
+    rule: &[u8],
+    plan: &[usize; At::LENGTH],
+    at: &[usize; Room::ITEMS],
+    i: usize,
+    c: usize,
+    tag: u8,
+    p: &[u8],
+) -> bool
+    requires { ⌜ Legal l (now nodes) (now edges) ⌝ }
+    requires { ⌜ HasCondition (hostOf l (now nodes) (now edges)) (now rule) (now plan) (now at) i c tag (now p) ⌝ }
+    ensures { λ r. ⌜ ((w : HasCondition (hostOf l (now (nodes .entry)) (now (edges .entry))) (now (rule .entry)) (now (plan .entry)) (now (at .entry)) i c tag (now (p .entry))) → r ≡ conditionHolds (hostOf l (now (nodes .entry)) (now (edges .entry))) (w .trial .placed) (assigned (hostOf l (now (nodes .entry)) (now (edges .entry))) (w .trial .rule) (w .trial .placed)) (w .k)) ⌝ }
+{
+    if tag == Tag::RELATION {
+        return relation_holds(l, nodes, edges, rule, plan, at, i, c, p);
+    }
+    let s = slot_of(at, i, c, parts::number_at(p, 0));
+    if tag == Tag::EDGE_TEST {
+        let t = slot_of(at, i, c, parts::number_at(p, 1));
+        return graph::any_runs(l, nodes, edges, s, t);
+    }
+    let n = parts::degree_of(p);
+    if tag == Tag::IN_DEGREE {
+        return graph::in_degree(l, nodes, edges, s) == n;
+    }
+    graph::out_degree(l, nodes, edges, s) == n
 }
 
 // Whether test number t holds.
-fn test_holds(
+fn test_holds<'a>(
     l: Layout,
-    nodes: &[u8],
-    edges: &[u8],
+    nodes: &'a [u8],
+    edges: &'a [u8],
     rule: &[u8],
     plan: &[usize; At::LENGTH],
     at: &[usize; Room::ITEMS],
@@ -99,10 +133,15 @@ fn test_holds(
     requires { ⌜ HasTest (hostOf l (now nodes) (now edges)) (now rule) (now plan) (now at) i c t ⌝ }
     ensures { λ r. ⌜ ((w : HasTest (hostOf l (now (nodes .entry)) (now (edges .entry))) (now (rule .entry)) (now (plan .entry)) (now (at .entry)) i c t) → r ≡ testHolds (hostOf l (now (nodes .entry)) (now (edges .entry))) (w .trial .placed) (assigned (hostOf l (now (nodes .entry)) (now (edges .entry))) (w .trial .rule) (w .trial .placed)) (testOf (w .trial .rule) t)) ⌝ }
 {
-    let test = plan::test(rule, plan, t);
-    let k = test.condition;
-    let holds = condition_holds(l, nodes, edges, rule, plan, at, i, c, k);
-    if test.negated {
+    let tests = plan::tests(rule, plan);
+    let found = fields::nth_field(tests, t);
+    let Found::Field(tag, start, end) = found else {
+        return false;
+    };
+    let p = fields::part(tests, start, end);
+    let rest = parts::behind(p, 1);
+    let holds = condition_holds(l, nodes, edges, rule, plan, at, i, c, tag, rest);
+    if parts::flag(p) {
         return !holds;
     }
     holds
@@ -111,10 +150,10 @@ fn test_holds(
 // The tests of a placement.
 
 // Whether the tests that item i decides hold.
-fn tests_so_far(
+fn tests_so_far<'a>(
     l: Layout,
-    nodes: &[u8],
-    edges: &[u8],
+    nodes: &'a [u8],
+    edges: &'a [u8],
     rule: &[u8],
     plan: &[usize; At::LENGTH],
     at: &[usize; Room::ITEMS],
@@ -140,10 +179,10 @@ fn tests_so_far(
     true
 }
 
-pub fn all_tests(
+pub fn all_tests<'a>(
     l: Layout,
-    nodes: &[u8],
-    edges: &[u8],
+    nodes: &'a [u8],
+    edges: &'a [u8],
     rule: &[u8],
     plan: &[usize; At::LENGTH],
     at: &[usize; Room::ITEMS],
@@ -164,10 +203,10 @@ pub fn all_tests(
 }
 
 // Whether slot c, which is likely for item i, fits it.
-pub fn rest_fits(
+pub fn rest_fits<'a>(
     l: Layout,
-    nodes: &[u8],
-    edges: &[u8],
+    nodes: &'a [u8],
+    edges: &'a [u8],
     rule: &[u8],
     plan: &[usize; At::LENGTH],
     at: &[usize; Room::ITEMS],

@@ -4,8 +4,8 @@ use mathlib.Core.List.{List, [], _∷_, _++_, map}
 use Prim.Native.Nat.{ℕ, _+_, _-_, _<_, _≤_}
 use native.Mathlib.Numerals.{add-one}
 use native.Mathlib.Omega.{arith}
-use lib.ListN.{length, getD, take, drop, length-take, drop-of-length-le, List·getD-eq-default}
-use lib.Seq.{drop-cons, getD-take}
+use lib.ListN.{length, getD, drop, drop-of-length-le, List·getD-eq-default}
+use lib.Seq.{drop-cons}
 use Rattle.meaning.specs.Numbers.{half, whole}
 use Rattle.meaning.specs.Tags.{anyMark}
 use Rattle.meaning.specs.Laws.Tests.{choose-lt, choose-le, choose-eq, choose-ne}
@@ -56,13 +56,11 @@ module _ {before between after : List ℕ} {at p end : ℕ} (w : ℕ) where
 
 -- The atoms of a label.
 
-pub atoms-next : (l : List ℕ) (n j : ℕ) → j < n → n ≤ length l
-    → onward (map signed (drop j (take n l))) ≡ (space ∷ signed (getD l j 0)) ++ onward (map signed (drop (j + 1) (take n l)))
+pub atoms-next : (l : List ℕ) (j : ℕ) → j < length l
+    → onward (map signed (drop j l)) ≡ (space ∷ signed (getD l j 0)) ++ onward (map signed (drop (j + 1) l))
 unfolding onward
-atoms-next l n j h k =
-    let i : j < length (take n l) = rw (length-take n l) (omega arith) in
-    rw (add-one j, drop-cons (take n l) j 0 i, getD-take n l j 0 h)
+atoms-next l j h = rw (add-one j, drop-cons l j 0 h)
 
-pub atoms-end : (l : List ℕ) (n j : ℕ) → n ≤ j → onward (map signed (drop j (take n l))) ≡ lineFeed ∷ []
+pub atoms-end : (l : List ℕ) (j : ℕ) → length l ≤ j → onward (map signed (drop j l)) ≡ lineFeed ∷ []
 unfolding onward
-atoms-end l n j h = rw (drop-of-length-le (take n l) {i = j} (rw (length-take n l) (omega arith)))
+atoms-end l j h = rw (drop-of-length-le l {i = j} h)

@@ -1,4 +1,5 @@
--- The words of a text, as lists of bytes, and the most bytes that the words of a line have. Rests on the meaning's Numbers.
+-- The words of a text, as lists of bytes, and the most bytes that the words of a line have. Rests on the meaning's Numbers
+-- and Layout.
 use mathlib.Core.List.{List, [], _∷_, _++_}
 use Prim.Native.Char.{code}
 use Prim.Native.String.{String, [] as empty, _∷_ as _before_}
@@ -7,6 +8,7 @@ use lib.ListN.{getD}
 use lib.Dec.{eqb, ltb}
 use Rattle.meaning.specs.Basics.{choose}
 use Rattle.meaning.specs.Numbers.{half, whole}
+use Rattle.meaning.specs.Layout.{mostAtoms}
 
 -- Bytes.
 
@@ -72,6 +74,6 @@ markSize = 7
 abbrev pub rootSize : ℕ
 rootSize = 6
 
--- the atoms that a copied label has room for, and the line's end
+-- the most atoms of a label, and the line's end
 abbrev pub labelSize : ℕ
-labelSize = 8 * atomSize + 1
+labelSize = mostAtoms * atomSize + 1

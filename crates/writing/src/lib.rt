@@ -3,12 +3,13 @@
 ghost use mathlib.Core.List.{_∷_, map};
 ghost use Prim.Native.Nat.{_+_, _≤_};
 ghost use lib.ListN.{length};
-ghost use Rattle.labels.specs.Labels.{Held, atomsIn};
+ghost use Rattle.meaning.specs.Layout.{mostAtoms};
+ghost use Rattle.slots.specs.Laid.{laid};
 ghost use Rattle.writing.specs.Words.{space, decimal, signed, markName, rootName, numberSize, atomSize, markSize, rootSize, labelSize};
 ghost use Rattle.writing.specs.Lines.{onward};
 ghost use Rattle.writing.specs.Text.{Adds};
-use labels::Label;
 use meaning::tags::Mark;
+use slots::laid;
 
 // Decimal numbers: the most digits of one of eight bytes.
 pub struct Digits {}
@@ -99,18 +100,17 @@ pub fn put_root(out: &mut [u8], at: usize, root: u8) -> usize
     put(out, at, b" root")
 }
 
-// The atoms of a label as words of a line, and the line's end.
-pub fn put_label(out: &mut [u8], start: usize, label: Label) -> usize
-    requires { ⌜ Held label ⌝ }
+// The atoms of a label that lies in a table as words of a line, and the line's end.
+pub fn put_label(out: &mut [u8], start: usize, label: &[u8]) -> usize
+    requires { ⌜ length (laid (now label)) ≤ mostAtoms ⌝ }
     requires { ⌜ start + labelSize ≤ length (now out) ⌝ }
-    ensures { λ r. ⌜ Adds labelSize (onward (map signed (atomsIn label))) (now (out .entry)) start (now (out .exit)) r ⌝ }
+    ensures { λ r. ⌜ Adds labelSize (onward (map signed (laid (now (label .entry))))) (now (out .entry)) start (now (out .exit)) r ⌝ }
 {
-    let atoms = label.atoms;
-    let n = label.len;
+    let n = laid::count(label);
     let mut at = start;
     let mut j: usize = 0;
     while j < n {
-        at = put_atom(out, at, atoms[j]);
+        at = put_atom(out, at, laid::atom(label, j));
         j += 1;
     }
     put(out, at, b"\n")

@@ -1,82 +1,69 @@
--- `elements_agree` meets its contract. The loop's invariant: what the elements passed stand for is there, and the rest spells the
--- others, which have values. The measure is the rest's length.
-use Prim.Native.Nat.{_≤_}
+-- `elements_agree` meets its contract. The loop's invariant: what the elements before the place stand for is there, and those
+-- behind it have values. The measure is what is left of the bytes.
+use Prim.Native.Nat.{_-_, _≤_}
 use lib.ListN.{length}
-use mathlib.Core.Path.{sym}
-use Rattle.labels.specs.Labels.{atomsIn}
-use Rattle.labels.specs.Laws.{held-length}
-use Rattle.parts.specs.Walks.{opens-first, opens-nothing, shorter}
 use Rattle.meaning.specs.Layout.{hostOf}
+use Rattle.slots.specs.Laid.{laid}
+use Rattle.parts.proofs.Loops.{a-field, nearer, no-field, part-in}
 use Rattle.agreeing.specs.Agreeing.{HasElements}
-use Rattle.agreeing.proofs.Agreeing.{upto-within, Comparing, comparing-start, comparing-element, comparing-fails, comparing-next, comparing-end}
+use Rattle.agreeing.proofs.Agreeing.{upto-within, Comparing, comparing-start, comparing-there, comparing-element, comparing-fails, comparing-next, comparing-end}
 use borrow.Author.Needs.{needs}
 use native.Mathlib.Omega.{arith}
 use Rattle.agreeing.proofs.elements_agree.Statement.{statement}
 use Rattle.agreeing.proofs.elements_agree.Tie as tie
 
 abbrev Inv-loop : tie.InvT-loop
-Inv-loop l nodes edges rule plan at i c p a rest₀ from₀ rest from = (from ≤ a .len) × ((w : HasElements (hostOf l nodes edges) rule plan at i c p) → Comparing w (atomsIn a) rest from)
+Inv-loop l nodes edges rule plan at i c p a next₀ from₀ next from = (from ≤ length (laid a)) × ((w : HasElements (hostOf l nodes edges) rule plan at i c p) → Comparing w (laid a) next from)
 
 abbrev μ-loop : tie.MeasureT-loop
-μ-loop l nodes edges rule plan at i c p a rest₀ from₀ rest from = length rest
+μ-loop l nodes edges rule plan at i c p a next₀ from₀ next from = length p - next
 
 loop-holds : tie.Need-loop-holds Inv-loop μ-loop
 loop-holds c = (omega arith, λ w. comparing-start w _)
 
-first-element-requires : tie.Need-first-element-requires Inv-loop μ-loop
-first-element-requires c κs = search needs
+read-field-requires : tie.Need-read-field-requires Inv-loop μ-loop
+read-field-requires c κs = search needs
 
-enum-known-front : tie.Need-enum-known-front Inv-loop μ-loop
-enum-known-front c = search needs
+enum-known-found : tie.Need-enum-known-found Inv-loop μ-loop
+enum-known-found c = search needs
+
+returns : tie.Need-returns Inv-loop μ-loop
+returns c = λ w. absurd (comparing-there (c .before .before .before .loop .inv .1 w) (c .before .before .loop-test .taken) (no-field _ _ _ (c .before .read-field .ensures) (c .match .keys2)))
+
+part-requires : tie.Need-part-requires Inv-loop μ-loop
+part-requires c κs = part-in (a-field _ _ (c .before .before .before .read-field .ensures) (c .before .found .given .1))
 
 element-agrees-requires : tie.Need-element-agrees-requires Inv-loop μ-loop
-element-agrees-requires c κs =
-    let start = c .before .before .before .before .before .before .before .before .before in
-    let b = opens-first _ _ _ _ (c .before .before .before .first-element .ensures) (c .before .front .given .1) in
-    (start .pre .0, (comparing-element (c .before .before .before .before .loop .inv .1 (start .pre .1 .0)) b, (start .pre .1 .1, c .before .before .before .before .loop .inv .0)))
+element-agrees-requires c κs = (c .before .before .before .before .before .before .before .before .before .before .before .before .pre .0, (comparing-element (c .before .before .before .before .before .before .loop .inv .1 (c .before .before .before .before .before .before .before .before .before .before .before .before .pre .1)) (c .before .before .before .before .before .loop-test .taken) (a-field _ _ (c .before .before .before .before .read-field .ensures) (c .before .before .found .given .1)) (c .part .ensures), c .before .before .before .before .before .before .loop .inv .0))
 
-enum-known-next : tie.Need-enum-known-next Inv-loop μ-loop
-enum-known-next c = search needs
-
-sub-rest : tie.Need-sub-rest Inv-loop μ-loop
-sub-rest c = opens-first _ _ _ _ (c .before .before .before .before .before .before .before .first-element .ensures) (c .before .before .before .before .before .front .given .1) .inside
-
-part-rest-start : tie.Need-part-rest-start Inv-loop μ-loop
-part-rest-start c = opens-first _ _ _ _ (c .before .before .before .before .before .before .before .first-element .ensures) (c .before .before .before .before .before .front .given .1) .inside
-
-part-rest-end : tie.Need-part-rest-end Inv-loop μ-loop
-part-rest-end c = search needs
+enum-known-agrees : tie.Need-enum-known-agrees Inv-loop μ-loop
+enum-known-agrees c = search needs
 
 loop-less : tie.Need-loop-less Inv-loop μ-loop
-loop-less c =
-    let b = opens-first _ _ _ _ (c .before .before .before .before .before .before .before .before .first-element .ensures) (c .before .before .before .before .before .before .front .given .1) in
-    omega (arith, shorter b, b .onward, b .inside)
+loop-less c = nearer (a-field _ _ (c .before .before .before .before .before .before .before .before .read-field .ensures) (c .before .before .before .before .before .before .found .given .1))
 
 loop-again : tie.Need-loop-again Inv-loop μ-loop
 loop-again c =
-    let start = c .before .before .before .before .before .before .before .before .before .before .before .before .before .before in
-    let b = opens-first _ _ _ _ (c .before .before .before .before .before .before .before .before .first-element .ensures) (c .before .before .before .before .before .before .front .given .1) in (
-      rw (held-length _ (start .pre .1 .1)) at (upto-within _ _ _ _ _ (c .before .before .before .before .element-agrees .ensures (comparing-element (c .before .before .before .before .before .before .before .before .before .loop .inv .1 (start .pre .1 .0)) b)) (c .before .before .next .given .1)),
-      λ w. let t = c .before .before .before .before .before .before .before .before .before .loop .inv .1 w in comparing-next t b (c .before .before .before .before .element-agrees .ensures (comparing-element t b)) (c .before .before .next .given .1),
+    let f = (a-field _ _ (c .before .before .before .before .before .before .before .before .read-field .ensures) (c .before .before .before .before .before .before .found .given .1)) in (
+      upto-within _ _ _ _ _ (c .before .before .before .element-agrees .ensures (comparing-element (c .before .before .before .before .before .before .before .before .before .before .loop .inv .1 (c .before .before .before .before .before .before .before .before .before .before .before .before .before .before .before .before .pre .1)) (c .before .before .before .before .before .before .before .before .before .loop-test .taken) f (c .before .before .before .before .part .ensures))) (c .before .agrees .given .1),
+      λ w. let t = c .before .before .before .before .before .before .before .before .before .before .loop .inv .1 w in comparing-next t (c .before .before .before .before .before .before .before .before .before .loop-test .taken) f (c .before .before .before .before .part .ensures) (c .before .before .before .element-agrees .ensures (comparing-element t (c .before .before .before .before .before .before .before .before .before .loop-test .taken) f (c .before .before .before .before .part .ensures))) (c .before .agrees .given .1),
     )
 
 enum-told : tie.Need-enum-told Inv-loop μ-loop
 enum-told c = search needs
 
-returns : tie.Need-returns Inv-loop μ-loop
-returns c =
-    λ w.
-    let b = opens-first _ _ _ _ (c .before .before .before .before .before .before .first-element .ensures) (c .before .before .before .before .front .given .1) in
-    let t = c .before .before .before .before .before .before .before .loop .inv .1 w in
-    comparing-fails t b (c .before .before .element-agrees .ensures (comparing-element t b)) (c .enum-told .given .1)
-
-enum-told-2 : tie.Need-enum-told-2 Inv-loop μ-loop
-enum-told-2 c = search needs
-
 returns-2 : tie.Need-returns-2 Inv-loop μ-loop
 returns-2 c =
     λ w.
-    comparing-end (c .before .before .before .before .loop .inv .1 w) (opens-nothing _ _ (c .before .before .before .first-element .ensures) (c .before .enum-told2 .given .1)) _ (sym (held-length _ (c .before .before .before .before .before .before .before .before .before .pre .1 .1))) (c .before .before .before .before .loop .inv .0)
+    let f = (a-field _ _ (c .before .before .before .before .before .before .before .read-field .ensures) (c .before .before .before .before .before .found .given .1)) in
+    let t = c .before .before .before .before .before .before .before .before .before .loop .inv .1 w in
+    comparing-fails t (c .before .before .before .before .before .before .before .before .loop-test .taken) f (c .before .before .before .part .ensures) (c .before .before .element-agrees .ensures (comparing-element t (c .before .before .before .before .before .before .before .before .loop-test .taken) f (c .before .before .before .part .ensures))) (c .enum-told .given .1)
+
+count-requires : tie.Need-count-requires Inv-loop μ-loop
+count-requires c κs = search needs
+
+returns-3 : tie.Need-returns-3 Inv-loop μ-loop
+returns-3 c = λ w. rw (c .count .ensures) (comparing-end (c .before .before .loop .inv .1 w) (c .before .loop-test .left) (c .before .before .loop .inv .0))
 
 pub elements-agree-spec : {M : Type 1} → statement M
 elements-agree-spec =
@@ -85,16 +72,15 @@ elements-agree-spec =
     Inv-loop
     μ-loop
     loop-holds
-    first-element-requires
-    enum-known-front
+    read-field-requires
+    enum-known-found
+    returns
+    part-requires
     element-agrees-requires
-    enum-known-next
-    sub-rest
-    part-rest-start
-    part-rest-end
+    enum-known-agrees
     loop-less
     loop-again
     enum-told
-    returns
-    enum-told-2
-    returns-2)
+    returns-2
+    count-requires
+    returns-3)

@@ -35,7 +35,7 @@ use Rattle.parts.proofs.behind.Reads as behind-reads
 use Rattle.parts.proofs.nth_part.Reads as nth-part-reads
 use Rattle.parts.proofs.nth_tag.Reads as nth-tag-reads
 use Rattle.tally.proofs.entered.Reads as entered-reads
-use Rattle.commands.proofs.run_set.Reads as run-set-reads
+use Rattle.commands.proofs.run_nested_set.Reads as run-nested-set-reads
 use Rattle.commands.proofs.+run_command+run_guarded+run_loop+run_row.{statement}
 use Rattle.commands.proofs.+run_command+run_guarded+run_loop+run_row.Tie.{close}
 
@@ -81,7 +81,7 @@ abbrev run-row-below : ℕ → In 5 run-row-kinds.ps
 run-row-below t = and 5 run-row-kinds.ps (falls 5 run-row-kinds.ps _<_ μ-run-row t) run-row.Pre
 
 abbrev run-command-claims : ℕ → run-command-lts.Claims
-run-command-claims t = (run-set-reads.Asked, run-set-reads.Learnt, entered-reads.Asked, entered-reads.Learnt, kind-of-reads.Asked, kind-of-reads.Learnt, run-row-below t, run-row.Post, behind-reads.Asked, behind-reads.Learnt, run-guarded-below t, run-guarded.Post, run-loop-below t, run-loop.Post)
+run-command-claims t = (run-nested-set-reads.Asked, run-nested-set-reads.Learnt, entered-reads.Asked, entered-reads.Learnt, kind-of-reads.Asked, kind-of-reads.Learnt, run-row-below t, run-row.Post, behind-reads.Asked, behind-reads.Learnt, run-guarded-below t, run-guarded.Post, run-loop-below t, run-loop.Post)
 
 abbrev run-guarded-claims : ℕ → run-guarded-lts.Claims
 run-guarded-claims t = (nth-part-reads.Asked, nth-part-reads.Learnt, nth-tag-reads.Asked, nth-tag-reads.Learnt, run-command-below t, run-command.Post, part-after-reads.Asked, part-after-reads.Learnt, settle-reads.Asked, settle-reads.Learnt)
@@ -92,8 +92,8 @@ run-loop-claims t = (nth-tag-reads.Asked, nth-tag-reads.Learnt, nth-part-reads.A
 abbrev run-row-claims : ℕ → run-row-lts.Claims
 run-row-claims t = (read-field-reads.Asked, read-field-reads.Learnt, part-reads.Asked, part-reads.Learnt, run-command-below t, run-command.Post, goes-on-reads.Asked, goes-on-reads.Learnt)
 
-run-command-run-set-requires : (t : ℕ) → run-command-lts.Need-run-set-requires (run-command-claims t) (run-command-at t) run-command.Post
-run-command-run-set-requires t c κs = (c .before .before .before .before .before .before .before .before .before .pre .1 .0, rw (c .before .before .before .if1 .taken) at (c .before .before .before .before .before .before .before .before .before .pre .1 .1))
+run-command-run-nested-set-requires : (t : ℕ) → run-command-lts.Need-run-nested-set-requires (run-command-claims t) (run-command-at t) run-command.Post
+run-command-run-nested-set-requires t c κs = (c .before .before .before .before .before .before .before .before .before .pre .1 .0, rw (c .before .before .before .if1 .taken) at (c .before .before .before .before .before .before .before .before .before .pre .1 .1))
 
 run-command-same-length : (t : ℕ) → run-command-lts.Need-same-length (run-command-claims t) (run-command-at t) run-command.Post
 run-command-same-length t c = search needs
@@ -105,7 +105,7 @@ run-command-same-length-3 : (t : ℕ) → run-command-lts.Need-same-length-3 (ru
 run-command-same-length-3 t c = search needs
 
 run-command-returns : (t : ℕ) → run-command-lts.Need-returns (run-command-claims t) (run-command-at t) run-command.Post
-run-command-returns t c = rw (sym (c .before .before .before .before .before .before .before .before .before .before .if1 .taken)) at (c .before .before .before .before .before .before .run-set .ensures)
+run-command-returns t c = rw (sym (c .before .before .before .before .before .before .before .before .before .before .if1 .taken)) at (c .before .before .before .before .before .before .run-nested-set .ensures)
 
 run-command-returns-2 : (t : ℕ) → run-command-lts.Need-returns-2 (run-command-claims t) (run-command-at t) run-command.Post
 run-command-returns-2 t c = out-of-fuel _ (c .if2 .taken) (c .before .before .before .before .before .before .before .pre .1 .0)
@@ -355,7 +355,7 @@ pub +run-command+run-guarded+run-loop+run-row-spec : {M : Type 1} → statement 
     close μ-run-command μ-run-guarded μ-run-loop μ-run-row (λ t. run-command-lts.spec (run-command-claims t)
     (run-command-at t)
     run-command.Post
-    (run-command-run-set-requires t)
+    (run-command-run-nested-set-requires t)
     (run-command-same-length t)
     (run-command-same-length-2 t)
     (run-command-same-length-3 t)

@@ -2,7 +2,7 @@
 use mathlib.Core.Path.{sym, _∙_}
 use native.Mathlib.Omega.{arith}
 use borrow.Author.Needs.{needs}
-use Rattle.labels.specs.Labels.{atomsIn}
+use Rattle.slots.specs.Laid.{laid}
 use Rattle.writing.specs.Words.{letters}
 use Rattle.writing.specs.Laws.Rows.{nothing}
 use Rattle.lines.proofs.Lines.{node-said}
@@ -38,7 +38,7 @@ put-root-requires : tie.Need-put-root-requires
 put-root-requires c κs = omega (arith, c .before .before .before .before .before .before .before .before .before .before .before .before .before .before .before .before .before .before .before .before .before .before .pre .1 .1, c .before .before .before .before .before .before .before .before .before .before .before .put .ensures .short, c .before .before .before .before .before .before .before .put-number .ensures .short, c .before .before .before .put-mark .ensures .short)
 
 put-label-requires : tie.Need-put-label-requires
-put-label-requires c κs = (c .before .before .before .before .before .before .before .before .before .before .before .before .before .before .before .before .before .before .node-label .ensures .held, omega (arith, c .before .before .before .before .before .before .before .before .before .before .before .before .before .before .before .before .before .before .before .before .before .before .before .before .before .before .pre .1 .1, c .before .before .before .before .before .before .before .before .before .before .before .before .before .before .before .put .ensures .short, c .before .before .before .before .before .before .before .before .before .before .before .put-number .ensures .short, c .before .before .before .before .before .before .before .put-mark .ensures .short, c .before .before .before .put-root .ensures .short))
+put-label-requires c κs = (c .before .before .before .before .before .before .before .before .before .before .before .before .before .before .before .before .before .before .node-label .ensures .1, omega (arith, c .before .before .before .before .before .before .before .before .before .before .before .before .before .before .before .before .before .before .before .before .before .before .before .before .before .before .pre .1 .1, c .before .before .before .before .before .before .before .before .before .before .before .before .before .before .before .put .ensures .short, c .before .before .before .before .before .before .before .before .before .before .before .put-number .ensures .short, c .before .before .before .before .before .before .before .put-mark .ensures .short, c .before .before .before .put-root .ensures .short))
 
 same-length : tie.Need-same-length
 same-length c = search needs
@@ -47,7 +47,7 @@ returns : tie.Need-returns
 unfolding letters
 returns c =
     rw (slot-node (c .before .before .before .before .before .before .before .before .before .before .before .before .before .before .before .before .before .before .before .before .before .before .before .before .before .before .before .before .before .args .x) _ (sym (c .before .before .before .before .before .before .before .before .before .before .before .before .before .before .before .before .before .before .before .before .before .before .before .before .before .node-live .ensures) ∙ c .before .before .before .before .before .before .before .before .before .before .before .before .before .before .before .before .before .before .before .before .before .before .before .before .if1 .taken))
-    (node-said (c .before .before .before .before .before .before .before .before .before .before .before .before .before .before .before .before .before .before .before .before .before .before .before .before .before .before .before .before .before .args .x) (c .before .before .before .before .before .before .before .before .before .before .before .before .before .before .before .before .before .before .before .before .before .before .before .node-mark .result) (c .before .before .before .before .before .before .before .before .before .before .before .before .before .before .before .before .before .before .before .before .before .before .node-root .result) (atomsIn (c .before .before .before .before .before .before .before .before .before .before .before .before .before .before .before .before .before .before .before .before .before .node-label .result)) _ (c .before .before .before .before .before .before .before .before .before .before .before .before .before .before .before .before .before .before .before .before .before .before .before .node-mark .ensures) (c .before .before .before .before .before .before .before .before .before .before .before .before .before .before .before .before .before .before .before .before .before .before .node-root .ensures) (c .before .before .before .before .before .before .before .before .before .before .before .before .before .before .before .before .before .before .before .before .before .node-label .ensures .atoms) (c .before .before .before .before .before .before .before .before .before .before .before .before .before .before .before .before .before .before .put .ensures) (c .before .before .before .before .before .before .before .before .before .before .before .before .before .before .put-number .ensures) (c .before .before .before .before .before .before .before .before .before .before .put-mark .ensures) (c .before .before .before .before .before .before .put-root .ensures) (c .before .before .put-label .ensures))
+    (node-said (c .before .before .before .before .before .before .before .before .before .before .before .before .before .before .before .before .before .before .before .before .before .before .before .before .before .before .before .before .before .args .x) (c .before .before .before .before .before .before .before .before .before .before .before .before .before .before .before .before .before .before .before .before .before .before .before .node-mark .result) (c .before .before .before .before .before .before .before .before .before .before .before .before .before .before .before .before .before .before .before .before .before .before .node-root .result) (laid (c .before .before .before .before .before .before .before .before .before .before .before .before .before .before .before .before .before .before .before .before .before .node-label .result .now)) _ (c .before .before .before .before .before .before .before .before .before .before .before .before .before .before .before .before .before .before .before .before .before .before .before .node-mark .ensures) (c .before .before .before .before .before .before .before .before .before .before .before .before .before .before .before .before .before .before .before .before .before .before .node-root .ensures) (c .before .before .before .before .before .before .before .before .before .before .before .before .before .before .before .before .before .before .before .before .before .node-label .ensures .0) (c .before .before .before .before .before .before .before .before .before .before .before .before .before .before .before .before .before .before .put .ensures) (c .before .before .before .before .before .before .before .before .before .before .before .before .before .before .put-number .ensures) (c .before .before .before .before .before .before .before .before .before .before .put-mark .ensures) (c .before .before .before .before .before .before .put-root .ensures) (c .before .before .put-label .ensures))
 
 returns-2 : tie.Need-returns-2
 returns-2 c = rw (slot-free _ (c .before .before .before .before .before .args .x) _ (sym (c .before .node-live .ensures) ∙ c .if1 .left)) (nothing _ _ _)

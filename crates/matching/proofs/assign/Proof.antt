@@ -5,10 +5,8 @@ use native.Mathlib.Omega.{arith}
 use borrow.Author.Needs.{needs}
 use lib.ListN.{length, take}
 use Rattle.meaning.specs.Image.{limits}
-use Rattle.meaning.specs.Assigned.{assigned}
-use Rattle.labels.specs.Labels.{Holds}
+use Rattle.slots.specs.Laid.{laid}
 use Rattle.meaning.specs.Layout.{hostOf}
-use Rattle.agreeing.specs.Placed.{Known}
 use Rattle.matching.specs.Next.{Of}
 use Rattle.meaning.specs.Matching.{total}
 use Rattle.values.specs.Values.{Stored}
@@ -42,8 +40,7 @@ loop-holds : tie.Need-loop-holds Inv-loop μ-loop
 loop-holds c = (
   c .before .before .before .before .before .before .pre .1,
   omega arith,
-  λ w. ap length
-      (c .before .before .types .ensures (w .rule) (w .planned .laid)),
+  λ w. ap length (c .before .before .types .ensures (w .rule) (w .planned .laid)),
   λ w u k. absurd (omega arith),
 )
 
@@ -51,49 +48,31 @@ add-if1 : tie.Need-add-if1 Inv-loop μ-loop
 add-if1 c = search needs
 
 mul-if1 : tie.Need-mul-if1 Inv-loop μ-loop
-mul-if1 c =
-    let s = c .before .before .before .before .before .before .before .before in
-    omega (arith, c .before .loop .inv .2 (s .pre .0 .known), s .pre .0 .known .planned .laid .fewVariables)
+mul-if1 c = omega (arith, c .before .loop .inv .2 (c .before .before .before .before .before .before .before .before .pre .0 .known), c .before .before .before .before .before .before .before .before .pre .0 .known .planned .laid .fewVariables)
 
 element-copy-out-if1 : tie.Need-element-copy-out-if1 Inv-loop μ-loop
-element-copy-out-if1 c =
-    let s = c .before .before .before .before .before .before .before .before in
-    omega (arith, c .before .loop .inv .2 (s .pre .0 .known), s .pre .0 .known .planned .laid .fewVariables)
+element-copy-out-if1 c = omega (arith, c .before .loop .inv .2 (c .before .before .before .before .before .before .before .before .pre .0 .known), c .before .before .before .before .before .before .before .before .pre .0 .known .planned .laid .fewVariables)
 
 value-requires : tie.Need-value-requires Inv-loop μ-loop
-value-requires c κs =
-    let l = c .before .before .before in
-    let s = l .before .before .before .before .before .before .before in
-    let a = s .args in (
-      s .pre .0 .legal,
-      (has-value (hostOf (a .l) (a .nodes .now) (a .edges .now)) _ _ (a .at .now) (s .pre .0 .known) (s .pre .0 .room)
-          (s .pre .0 .inside) (l .loop .v) (omega (arith, c .before .before .loop-test .taken, l .loop .inv .2 (s .pre .0 .known)))
-          (c .if1 .taken)),
-    )
+value-requires c κs = (
+  c .before .before .before .before .before .before .before .before .before .before .pre .0 .legal,
+  has-value (hostOf (c .before .before .before .before .before .before .before .before .before .before .args .l) (c .before .before .before .before .before .before .before .before .before .before .args .nodes .now) (c .before .before .before .before .before .before .before .before .before .before .args .edges .now)) _ _ (c .before .before .before .before .before .before .before .before .before .before .args .at .now) (c .before .before .before .before .before .before .before .before .before .before .pre .0 .known) (c .before .before .before .before .before .before .before .before .before .before .pre .0 .room) (c .before .before .before .before .before .before .before .before .before .before .pre .0 .inside) (c .before .before .before .loop .v) (omega (arith, c .before .before .loop-test .taken, c .before .before .before .loop .inv .2 (c .before .before .before .before .before .before .before .before .before .before .pre .0 .known))) (c .if1 .taken),
+)
+
+count-requires : tie.Need-count-requires Inv-loop μ-loop
+count-requires c κs = search needs
 
 mul-lens : tie.Need-mul-lens Inv-loop μ-loop
-mul-lens c =
-    let s = c .before .before .before .before .before .before .before .before .before .before .before in
-    let loop = c .before .before .before .before .loop in
-    omega (arith, loop .inv .2 (s .pre .0 .known), s .pre .0 .known .planned .laid .fewVariables)
+mul-lens c = omega (arith, c .before .before .before .before .before .loop .inv .2 (c .before .before .before .before .before .before .before .before .before .before .before .before .pre .0 .known), c .before .before .before .before .before .before .before .before .before .before .before .before .pre .0 .known .planned .laid .fewVariables)
 
 element-write-lens : tie.Need-element-write-lens Inv-loop μ-loop
-element-write-lens c =
-    let s = c .before .before .before .before .before .before .before .before .before .before .before in
-    let loop = c .before .before .before .before .loop in
-    omega (arith, loop .inv .2 (s .pre .0 .known), s .pre .0 .known .planned .laid .fewVariables)
+element-write-lens c = omega (arith, c .before .before .before .before .before .loop .inv .2 (c .before .before .before .before .before .before .before .before .before .before .before .before .pre .0 .known), c .before .before .before .before .before .before .before .before .before .before .before .before .pre .0 .known .planned .laid .fewVariables)
 
 mul-put-atoms : tie.Need-mul-put-atoms Inv-loop μ-loop
-mul-put-atoms c =
-    let s = c .before .before .before .before .before .before .before .before .before .before .before .before in
-    let loop = c .before .before .before .before .before .loop in
-    omega (arith, loop .inv .2 (s .pre .0 .known), s .pre .0 .known .planned .laid .fewVariables)
+mul-put-atoms c = omega (arith, c .before .before .before .before .before .before .loop .inv .2 (c .before .before .before .before .before .before .before .before .before .before .before .before .before .pre .0 .known), c .before .before .before .before .before .before .before .before .before .before .before .before .before .pre .0 .known .planned .laid .fewVariables)
 
 put-atoms-requires : tie.Need-put-atoms-requires Inv-loop μ-loop
-put-atoms-requires c κs =
-    let l = c .before .before .before .before .before in
-    let s = l .before .before .before .before .before .before .before in
-    (omega (arith, l .loop .inv .2 (s .pre .0 .known), s .pre .0 .known .planned .laid .fewVariables), l .loop .inv .0 .room)
+put-atoms-requires c κs = (omega (arith, c .before .before .before .before .before .before .loop .inv .2 (c .before .before .before .before .before .before .before .before .before .before .before .before .before .pre .0 .known), c .before .before .before .before .before .before .before .before .before .before .before .before .before .pre .0 .known .planned .laid .fewVariables, c .before .before .value .ensures .0), c .before .before .before .before .before .before .loop .inv .0 .room)
 
 add-v : tie.Need-add-v Inv-loop μ-loop
 add-v c = search needs
@@ -103,28 +82,15 @@ loop-less c = omega arith
 
 loop-again : tie.Need-loop-again Inv-loop μ-loop
 loop-again c =
-    let l = c .before .before .before .before .before .before in
-    let s = l .before .before .before .before .before .before .before in
-    let a = s .args in
-    let put = c .put-atoms in
-    let got = c .before .before .value in
-    let test = c .before .before .before .before .before .loop-test in
-    let low : l .loop .v < limits .variables = omega (arith, l .loop .inv .2 (s .pre .0 .known), s .pre .0 .known .planned .laid .fewVariables) in
-    let held : (w : Known (a .rule .now) (a .plan .now)) → Holds
-    (assigned (hostOf (a .l) (a .nodes .now) (a .edges .now)) (w .rule) (take (total (w .rule)) (a .at .now)) (l .loop .v))
-    (got .result) =
-    λ w. got .ensures (has-value (hostOf (a .l) (a .nodes .now) (a .edges .now)) _ _ (a .at .now) w (s .pre .0 .room)
-    (s .pre .0 .inside) (l .loop .v) (omega (arith, test .taken, l .loop .inv .2 w)) (c .before .before .before .if1 .taken))
-    in (
-      arrays-more (l .loop .v) (l .loop .lens) (l .loop .atoms) (put .last .0) (got .result) low (l .loop .inv .0) (put .ensures)
-          (held (s .pre .0 .known) .held),
-      omega (arith, test .taken),
-      l .loop .inv .2,
+    let low : c .before .before .before .before .before .before .before .loop .v < limits .variables = omega (arith, c .before .before .before .before .before .before .before .loop .inv .2 (c .before .before .before .before .before .before .before .before .before .before .before .before .before .before .pre .0 .known), c .before .before .before .before .before .before .before .before .before .before .before .before .before .before .pre .0 .known .planned .laid .fewVariables) in (
+      arrays-more (c .before .before .before .before .before .before .before .loop .v) (c .before .before .count .result) (c .before .before .before .before .before .before .before .loop .lens) (c .before .before .before .before .before .before .before .loop .atoms) (c .put-atoms .last .0) (laid (c .before .before .before .value .result .now)) low (c .before .before .before .before .before .before .before .loop .inv .0) (c .put-atoms .ensures) (c .before .before .count .ensures) (omega (arith, c .before .before .count .ensures, c .before .before .before .value .ensures .0)),
+      omega (arith, c .before .before .before .before .before .before .loop-test .taken),
+      c .before .before .before .before .before .before .before .loop .inv .2,
       λ w.
-          values-more (l .loop .v) (l .loop .lens) (l .loop .atoms) (put .last .0) (got .result) low (l .loop .inv .0)
-          (put .ensures) (held w .held)
-          (hostOf (a .l) (a .nodes .now) (a .edges .now)) (w .rule) (take (total (w .rule)) (a .at .now)) (held w .atoms)
-          (l .loop .inv .3 w),
+          values-more (c .before .before .before .before .before .before .before .loop .v) (c .before .before .count .result) (c .before .before .before .before .before .before .before .loop .lens) (c .before .before .before .before .before .before .before .loop .atoms) (c .put-atoms .last .0) (laid (c .before .before .before .value .result .now)) low (c .before .before .before .before .before .before .before .loop .inv .0) (c .put-atoms .ensures) (c .before .before .count .ensures) (omega (arith, c .before .before .count .ensures, c .before .before .before .value .ensures .0))
+          (hostOf (c .before .before .before .before .before .before .before .before .before .before .before .before .before .before .args .l) (c .before .before .before .before .before .before .before .before .before .before .before .before .before .before .args .nodes .now) (c .before .before .before .before .before .before .before .before .before .before .before .before .before .before .args .edges .now)) (w .rule) (take (total (w .rule)) (c .before .before .before .before .before .before .before .before .before .before .before .before .before .before .args .at .now))
+          (c .before .before .before .value .ensures .1 (has-value (hostOf (c .before .before .before .before .before .before .before .before .before .before .before .before .before .before .args .l) (c .before .before .before .before .before .before .before .before .before .before .before .before .before .before .args .nodes .now) (c .before .before .before .before .before .before .before .before .before .before .before .before .before .before .args .edges .now)) _ _ (c .before .before .before .before .before .before .before .before .before .before .before .before .before .before .args .at .now) w (c .before .before .before .before .before .before .before .before .before .before .before .before .before .before .pre .0 .room) (c .before .before .before .before .before .before .before .before .before .before .before .before .before .before .pre .0 .inside) (c .before .before .before .before .before .before .before .loop .v) (omega (arith, c .before .before .before .before .before .before .loop-test .taken, c .before .before .before .before .before .before .before .loop .inv .2 w)) (c .before .before .before .before .if1 .taken)))
+          (c .before .before .before .before .before .before .before .loop .inv .3 w),
     )
 
 add-v-2 : tie.Need-add-v-2 Inv-loop μ-loop
@@ -134,29 +100,24 @@ loop-less-2 : tie.Need-loop-less-2 Inv-loop μ-loop
 loop-less-2 c = omega arith
 
 loop-again-2 : tie.Need-loop-again-2 Inv-loop μ-loop
-loop-again-2 c =
-    let l = c .before .before .before in
-    let a = c .before .before .before .before .before .before .before .before .before .before .args in
-    let test = c .before .before .loop-test in (
-      l .loop .inv .0,
-      omega (arith, test .taken),
-      l .loop .inv .2,
-      λ w.
-          values-skip (hostOf (a .l) (a .nodes .now) (a .edges .now)) (w .rule) (take (total (w .rule)) (a .at .now)) (l .loop .v)
-          (l .loop .lens) (l .loop .atoms)
-          (omega (
-            arith,
-            c .if1 .left,
-            levels-of _ _ w,
-            w .planned .first (l .loop .v) (omega (arith, test .taken, l .loop .inv .2 w)) .item,
-          ))
-          (l .loop .inv .3 w),
-    )
+loop-again-2 c = (
+  c .before .before .before .loop .inv .0,
+  omega (arith, c .before .before .loop-test .taken),
+  c .before .before .before .loop .inv .2,
+  λ w.
+      values-skip (hostOf (c .before .before .before .before .before .before .before .before .before .before .args .l) (c .before .before .before .before .before .before .before .before .before .before .args .nodes .now) (c .before .before .before .before .before .before .before .before .before .before .args .edges .now)) (w .rule) (take (total (w .rule)) (c .before .before .before .before .before .before .before .before .before .before .args .at .now)) (c .before .before .before .loop .v)
+      (c .before .before .before .loop .lens) (c .before .before .before .loop .atoms)
+      (omega (
+        arith,
+        c .if1 .left,
+        levels-of _ _ w,
+        w .planned .first (c .before .before .before .loop .v) (omega (arith, c .before .before .loop-test .taken, c .before .before .before .loop .inv .2 w)) .item,
+      ))
+      (c .before .before .before .loop .inv .3 w),
+)
 
 returns : tie.Need-returns Inv-loop μ-loop
-returns c =
-    let loop = c .before .loop in
-    (loop .inv .0, λ w u k l. loop .inv .3 w u (omega (arith, c .loop-test .left, loop .inv .2 w)) l)
+returns c = (c .before .loop .inv .0, λ w u k l. c .before .loop .inv .3 w u (omega (arith, c .loop-test .left, c .before .loop .inv .2 w)) l)
 
 pub assign-spec : {M : Type 1} → statement M
 assign-spec =
@@ -173,6 +134,7 @@ assign-spec =
     mul-if1
     element-copy-out-if1
     value-requires
+    count-requires
     mul-lens
     element-write-lens
     mul-put-atoms

@@ -2,31 +2,31 @@
 use Prim.Native.Nat.{_-_, _≤_}
 use native.Mathlib.Omega.{arith}
 use borrow.Author.Needs.{needs}
-use Rattle.meaning.specs.Layout.{mostAtoms}
+use Rattle.slots.specs.Laid.{laid}
 use Rattle.matching.proofs.Storing.{Copying, copy-none, copy-more, copied-all}
 use Rattle.matching.proofs.put_atoms.Statement.{statement}
 use Rattle.matching.proofs.put_atoms.Tie as tie
 
 abbrev Inv-loop : tie.InvT-loop
-Inv-loop atoms₀ start from j₀ atoms j = (j ≤ mostAtoms) × Copying start j from atoms₀ atoms
+Inv-loop atoms₀ start a n j₀ atoms j = (j ≤ n) × Copying start j (laid a) atoms₀ atoms
 
 abbrev μ-loop : tie.MeasureT-loop
-μ-loop atoms₀ start from j₀ atoms j = mostAtoms - j
+μ-loop atoms₀ start a n j₀ atoms j = n - j
+
+count-requires : tie.Need-count-requires Inv-loop μ-loop
+count-requires c κs = search needs
 
 loop-holds : tie.Need-loop-holds Inv-loop μ-loop
-loop-holds c = (omega arith, copy-none _ _ _ (c .before .pre .1))
+loop-holds c = (omega arith, copy-none _ _ _ (c .before .before .pre .1))
 
-mul-atoms : tie.Need-mul-atoms Inv-loop μ-loop
-mul-atoms c = search needs
-
-array-read-atoms : tie.Need-array-read-atoms Inv-loop μ-loop
-array-read-atoms c = search needs
+atom-requires : tie.Need-atom-requires Inv-loop μ-loop
+atom-requires c κs = search needs
 
 add-atoms : tie.Need-add-atoms Inv-loop μ-loop
 add-atoms c = search needs
 
-mul-atoms-2 : tie.Need-mul-atoms-2 Inv-loop μ-loop
-mul-atoms-2 c = search needs
+mul-atoms : tie.Need-mul-atoms Inv-loop μ-loop
+mul-atoms c = search needs
 
 element-write-atoms : tie.Need-element-write-atoms Inv-loop μ-loop
 element-write-atoms c = search needs
@@ -38,19 +38,13 @@ loop-less : tie.Need-loop-less Inv-loop μ-loop
 loop-less c = omega arith
 
 loop-again : tie.Need-loop-again Inv-loop μ-loop
-loop-again c =
-    let s = c .before .before .before in
-    let loop = c .before .loop in (
-      omega arith,
-      copy-more (s .args .start) (loop .j) (s .args .a .atoms) (s .args .atoms .now) (loop .atoms) (omega arith)
-          (loop .inv .1),
-    )
+loop-again c = (
+  omega arith,
+  copy-more (c .before .before .before .before .before .args .start) (c .before .before .loop .j) (c .atom .result) (laid (c .before .before .before .before .before .args .a .now)) (c .before .before .before .before .before .args .atoms .now) (c .before .before .loop .atoms) (c .atom .ensures) (omega (arith, c .atom .ok)) (omega (arith, c .before .before .before .before .before .pre, c .before .before .before .count .ensures)) (c .before .before .loop .inv .1),
+)
 
 returns : tie.Need-returns Inv-loop μ-loop
-returns c =
-    let s = c .before .before .before in
-    let loop = c .before .loop in
-    copied-all (s .args .start) (loop .j) (s .args .a .atoms) (s .args .atoms .now) (loop .atoms) (omega arith) (loop .inv .1)
+returns c = copied-all (c .before .before .before .before .args .start) (c .before .loop .j) (laid (c .before .before .before .before .args .a .now)) (c .before .before .before .before .args .atoms .now) (c .before .loop .atoms) (omega (arith, c .before .before .count .ensures)) (c .before .loop .inv .1)
 
 pub put-atoms-spec : {M : Type 1} → statement M
 put-atoms-spec =
@@ -58,11 +52,11 @@ put-atoms-spec =
     (tie.spec
     Inv-loop
     μ-loop
+    count-requires
     loop-holds
-    mul-atoms
-    array-read-atoms
+    atom-requires
     add-atoms
-    mul-atoms-2
+    mul-atoms
     element-write-atoms
     add-j
     loop-less

@@ -99,24 +99,19 @@ loop-again c =
 enum-told-2 : tie.Need-enum-told-2 Inv-loop μ-loop Inv-found μ-found
 enum-told-2 c = search needs
 
-none-requires : tie.Need-none-requires Inv-loop μ-loop Inv-found μ-found
-none-requires c κs = search needs
-
 returns : tie.Need-returns Inv-loop μ-loop Inv-found μ-found
 returns c =
-    let l = c .before .before .before .before .before .before in
+    let l = c .before .before .before .before .before in
     let s = l .before .before .before .before .before in
     let a = s .args in
-    rw (c .none .ensures)
-    (record {
-      room = refl;
+    record {
+      room = l .loop .inv .0 (s .pre .0 .known) .room;
       arrays = s .pre .1;
       right = λ w. ended (hostOf (a .l) (a .nodes .now) (a .edges .now)) (w .rule) (few-items w) (l .loop .at) (l .loop .i)
           (l .loop .c) (l .loop .inv .0 w)
-          (rw (c .before .before .enum-told2 .given .1) at (c .before .before .before .before .advance .ensures w))
-          (c .before .if1 .taken);
+          (rw (c .before .enum-told2 .given .1) at (c .before .before .before .advance .ensures w)) (c .if1 .taken);
       values = λ w e. let z : _≡_ {A = ℕ} 0 1 = cc in absurd (omega arith);
-    })
+    }
 
 sub-i : tie.Need-sub-i Inv-loop μ-loop Inv-found μ-found
 sub-i c = search needs
@@ -228,7 +223,6 @@ search-spec =
     loop-less
     loop-again
     enum-told-2
-    none-requires
     returns
     sub-i
     mul-c

@@ -12,26 +12,20 @@ use Rattle.planning.proofs.plan_tests.Statement.{statement}
 use Rattle.planning.proofs.plan_tests.Tie as tie
 
 abbrev Inv-loop : tie.InvT-loop
-Inv-loop rule plan₀ start end tests at₀ t₀ plan at t = (r : Rule) → AllLabelled rule r plan₀ → Deciding rule r plan tests at t
+Inv-loop rule plan₀ tests at₀ t₀ plan at t = (r : Rule) → AllLabelled rule r plan₀ → Deciding rule r plan tests at t
 
 abbrev μ-loop : tie.MeasureT-loop
-μ-loop rule plan₀ start end tests at₀ t₀ plan at t = length tests - at
+μ-loop rule plan₀ tests at₀ t₀ plan at t = length tests - at
 
-element-copy-out-start : tie.Need-element-copy-out-start Inv-loop μ-loop
-element-copy-out-start c = search needs
-
-element-copy-out-end : tie.Need-element-copy-out-end Inv-loop μ-loop
-element-copy-out-end c = search needs
+tests-requires : tie.Need-tests-requires Inv-loop μ-loop
+tests-requires c κs = search needs
 
 -- what a turn reads is a test of the rule
 low : (c : tie.After-decided Inv-loop μ-loop) → c .before .before .before .before .before .before .before .before .before .loop .t < 4
-low c = next-low (c .before .before .before .before .before .before .before .before .before .loop .inv _ (c .before .before .before .before .before .before .before .before .before .before .before .before .before .before .pre .labelled)) (c .before .before .before .before .before .before .before .before .loop-test .taken) (a-field _ _ (c .before .before .before .before .before .before .before .read-field .ensures) (c .before .before .before .before .before .found .given .1)) (c .before .before .before .part2 .ensures) (c .before .before .read-test .ensures)
-
-part-requires : tie.Need-part-requires Inv-loop μ-loop
-part-requires c κs = search needs
+low c = next-low (c .before .before .before .before .before .before .before .before .before .loop .inv _ (c .before .before .before .before .before .before .before .before .before .before .before .before .before .pre .labelled)) (c .before .before .before .before .before .before .before .before .loop-test .taken) (a-field _ _ (c .before .before .before .before .before .before .before .read-field .ensures) (c .before .before .before .before .before .found .given .1)) (c .before .before .before .part .ensures) (c .before .before .read-test .ensures)
 
 loop-holds : tie.Need-loop-holds Inv-loop μ-loop
-loop-holds c = λ r w. deciding-start w (c .part .ensures)
+loop-holds c = λ r w. deciding-start w (c .tests .ensures r (w .named .laid))
 
 read-field-requires : tie.Need-read-field-requires Inv-loop μ-loop
 read-field-requires c κs = search needs
@@ -42,14 +36,14 @@ enum-known-found c = search needs
 returns : tie.Need-returns Inv-loop μ-loop
 returns c = λ r w. absurd (deciding-cut (c .before .before .before .loop .inv r w) (c .before .before .loop-test .taken) (no-field _ _ _ (c .before .read-field .ensures) (c .match .keys2)))
 
-part-requires-2 : tie.Need-part-requires-2 Inv-loop μ-loop
-part-requires-2 c κs = part-in (a-field _ _ (c .before .before .before .read-field .ensures) (c .before .found .given .1))
+part-requires : tie.Need-part-requires Inv-loop μ-loop
+part-requires c κs = part-in (a-field _ _ (c .before .before .before .read-field .ensures) (c .before .found .given .1))
 
 read-test-requires : tie.Need-read-test-requires Inv-loop μ-loop
 read-test-requires c κs = search needs
 
 decided-requires : tie.Need-decided-requires Inv-loop μ-loop
-decided-requires c κs = next-decides (c .before .before .before .before .before .before .before .before .loop .inv _ (c .before .before .before .before .before .before .before .before .before .before .before .before .before .pre .labelled)) (c .before .before .before .before .before .before .before .loop-test .taken) (a-field _ _ (c .before .before .before .before .before .before .read-field .ensures) (c .before .before .before .before .found .given .1)) (c .before .before .part2 .ensures) (c .before .read-test .ensures)
+decided-requires c κs = next-decides (c .before .before .before .before .before .before .before .before .loop .inv _ (c .before .before .before .before .before .before .before .before .before .before .before .before .pre .labelled)) (c .before .before .before .before .before .before .before .loop-test .taken) (a-field _ _ (c .before .before .before .before .before .before .read-field .ensures) (c .before .before .before .before .found .given .1)) (c .before .before .part .ensures) (c .before .read-test .ensures)
 
 add-plan : tie.Need-add-plan Inv-loop μ-loop
 add-plan c = let h = low c in omega arith
@@ -67,7 +61,7 @@ loop-less : tie.Need-loop-less Inv-loop μ-loop
 loop-less c = nearer (a-field _ _ (c .before .before .before .before .before .before .before .read-field .ensures) (c .before .before .before .before .before .found .given .1))
 
 loop-again : tie.Need-loop-again Inv-loop μ-loop
-loop-again c = λ r w. deciding-next (c .before .before .before .before .before .before .before .before .before .loop .inv r w) (c .before .before .before .before .before .before .before .before .loop-test .taken) (a-field _ _ (c .before .before .before .before .before .before .before .read-field .ensures) (c .before .before .before .before .before .found .given .1)) (c .before .before .before .part2 .ensures) (c .before .before .read-test .ensures) (c .decided .ensures)
+loop-again c = λ r w. deciding-next (c .before .before .before .before .before .before .before .before .before .loop .inv r w) (c .before .before .before .before .before .before .before .before .loop-test .taken) (a-field _ _ (c .before .before .before .before .before .before .before .read-field .ensures) (c .before .before .before .before .before .found .given .1)) (c .before .before .before .part .ensures) (c .before .before .read-test .ensures) (c .decided .ensures)
 
 element-write-plan-2 : tie.Need-element-write-plan-2 Inv-loop μ-loop
 element-write-plan-2 c = search needs
@@ -81,14 +75,12 @@ plan-tests-spec =
     (tie.spec
     Inv-loop
     μ-loop
-    element-copy-out-start
-    element-copy-out-end
-    part-requires
+    tests-requires
     loop-holds
     read-field-requires
     enum-known-found
     returns
-    part-requires-2
+    part-requires
     read-test-requires
     decided-requires
     add-plan

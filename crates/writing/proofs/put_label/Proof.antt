@@ -3,7 +3,8 @@ use mathlib.Core.List.{map}
 use Prim.Native.Nat.{_+_, _-_, _*_, _≤_}
 use native.Mathlib.Omega.{arith}
 use borrow.Author.Needs.{needs}
-use lib.ListN.{take, drop}
+use lib.ListN.{drop}
+use Rattle.slots.specs.Laid.{laid}
 use Rattle.writing.specs.Words.{signed, atomSize, labelSize}
 use Rattle.writing.specs.Lines.{onward}
 use Rattle.writing.proofs.Words.{atoms-next, atoms-end}
@@ -12,41 +13,37 @@ use Rattle.writing.proofs.put_label.Statement.{statement}
 use Rattle.writing.proofs.put_label.Tie as tie
 
 abbrev Inv-loop : tie.InvT-loop
-Inv-loop out₀ start atoms n at₀ j₀ t8 out at j =
-    (j ≤ n) × Coming (onward (map signed (take n atoms))) (onward (map signed (drop j (take n atoms)))) out₀ start out at (atomSize * j)
+Inv-loop out₀ start label n at₀ j₀ t7 out at j =
+    (j ≤ n) × Coming (onward (map signed (laid label))) (onward (map signed (drop j (laid label)))) out₀ start out at (atomSize * j)
 
 abbrev μ-loop : tie.MeasureT-loop
-μ-loop out₀ start atoms n at₀ j₀ t8 out at j = n - j
+μ-loop out₀ start label n at₀ j₀ t7 out at j = n - j
+
+count-requires : tie.Need-count-requires Inv-loop μ-loop
+count-requires c κs = search needs
 
 loop-holds : tie.Need-loop-holds Inv-loop μ-loop
-loop-holds c =
-    let s = c .before .before in
-    (omega arith, coming-start (onward (map signed (take (s .args .label .len) (s .args .label .atoms)))) _ _ _)
+loop-holds c = (omega arith, coming-start (onward (map signed (laid (c .before .before .before .args .label .now)))) _ _ _)
 
-mul-put-atom : tie.Need-mul-put-atom Inv-loop μ-loop
-mul-put-atom c = search needs
-
-array-read-put-atom : tie.Need-array-read-put-atom Inv-loop μ-loop
-array-read-put-atom c =
-    let s = c .before .before .before .before .before in
-    omega (arith, s .pre .0 .few, s .pre .0 .room)
+atom-requires : tie.Need-atom-requires Inv-loop μ-loop
+atom-requires c κs = search needs
 
 put-atom-requires : tie.Need-put-atom-requires Inv-loop μ-loop
 put-atom-requires c κs =
-    let loop = c .before .before .loop in
-    omega (arith, loop .inv .1 .adds .short, loop .inv .1 .same, c .before .before .before .before .before .pre .0 .few)
+    let loop = c .before .before .before .loop in
+    omega (arith, loop .inv .1 .adds .short, loop .inv .1 .same, c .before .before .before .before .count .ensures)
 
 add-j : tie.Need-add-j Inv-loop μ-loop
-add-j c = omega (arith, c .before .before .before .before .before .before .before .before .pre .0 .few)
+add-j c = search needs
 
 loop-less : tie.Need-loop-less Inv-loop μ-loop
 loop-less c = omega arith
 
 loop-again : tie.Need-loop-again Inv-loop μ-loop
 loop-again c =
-    let s = c .before .before .before .before .before .before .before .before in
-    let loop = c .before .before .before .before .before .loop in
-    (omega arith, coming-more (loop .inv .1) _ (onward (map signed (drop (loop .j + 1) (take (s .args .label .len) (s .args .label .atoms))))) (atomSize * (loop .j + 1)) (atoms-next (s .args .label .atoms) (s .args .label .len) (loop .j) (search needs) (omega (arith, s .pre .0 .few, s .pre .0 .room))) (search needs) (c .before .before .put-atom .ensures) (omega arith))
+    let s = c .before .before .before .before .before .before .before .before .before .before in
+    let loop = c .before .before .before .before .before .before .loop in
+    (omega arith, coming-more (loop .inv .1) _ (onward (map signed (drop (loop .j + 1) (laid (s .args .label .now))))) (atomSize * (loop .j + 1)) (rw (c .before .before .before .atom .ensures) (atoms-next (laid (s .args .label .now)) (loop .j) (search needs))) (search needs) (c .before .before .put-atom .ensures) (omega arith))
 
 slice-aggregate-put : tie.Need-slice-aggregate-put Inv-loop μ-loop
 slice-aggregate-put c = search needs
@@ -54,16 +51,17 @@ slice-aggregate-put c = search needs
 put-requires : tie.Need-put-requires Inv-loop μ-loop
 put-requires c κs =
     let loop = c .before .before .before .loop in
-    omega (arith, loop .inv .1 .adds .short, loop .inv .1 .same, c .before .before .before .before .before .before .pre .0 .few)
+    omega (arith, loop .inv .1 .adds .short, loop .inv .1 .same, c .before .before .before .before .count .ensures)
 
 same-length : tie.Need-same-length Inv-loop μ-loop
 same-length c = search needs
 
 returns : tie.Need-returns Inv-loop μ-loop
 returns c =
-    let s = c .before .before .before .before .before .before .before .before .before in
+    let s = c .before .before .before .before .before .before .before .before .before .before in
+    let n = c .before .before .before .before .before .before .before .count in
     let loop = c .before .before .before .before .before .before .loop in
-    coming-last (loop .inv .1) labelSize (atoms-end (s .args .label .atoms) (s .args .label .len) (loop .j) (search needs)) (c .before .before .put .ensures) (omega (arith, s .pre .0 .few))
+    coming-last (loop .inv .1) labelSize (atoms-end (laid (s .args .label .now)) (loop .j) (omega (arith, n .ensures))) (c .before .before .put .ensures) (omega (arith, n .ensures))
 
 pub put-label-spec : {M : Type 1} → statement M
 put-label-spec =
@@ -71,9 +69,9 @@ put-label-spec =
     (tie.spec
     Inv-loop
     μ-loop
+    count-requires
     loop-holds
-    mul-put-atom
-    array-read-put-atom
+    atom-requires
     put-atom-requires
     add-j
     loop-less
