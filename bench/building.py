@@ -4,6 +4,8 @@ ARCH says which (aarch64 or x86_64); without it, this machine's own.
 """
 import functools
 import pathlib
+import re
+import shutil
 import subprocess
 import sys
 
@@ -62,3 +64,21 @@ def proved_program(name):
     ready(f"target/module/{name}/module.ll")
     run([ROOT / "tools" / "module", "object", name, ARCH, WORK / f"{name}.o"])
     return gcc(name, [WORK / f"{name}.o"])
+
+
+def counts_here():
+    """Says so and ends where instructions can't be counted here."""
+    if run([PROCESSOR, "own"]).strip() != ARCH:
+        sys.exit("bench: valgrind runs this machine's own code alone")
+    if not shutil.which("valgrind"):
+        sys.exit("bench: valgrind is missing (Debian: valgrind)")
+
+
+def counted(words, options=(), **more):
+    """What a command prints, in bytes, and the instructions that it takes, which valgrind counts and which are the same each time."""
+    counting = ["valgrind", "--tool=callgrind", "--callgrind-out-file=/dev/null", *options, *map(str, words)]
+    done = subprocess.run(counting, capture_output=True, cwd=ROOT, **more)
+    count = re.search(rb"Collected : (\d+)", done.stderr)
+    if done.returncode or not count:
+        sys.exit(f"bench: valgrind counts nothing of {words}:\n{done.stderr.decode()}")
+    return done.stdout, int(count[1])
