@@ -1,5 +1,6 @@
 // Labels of the slots that items are tried at, and how they compare with the labels of a rule's left items: the values that a
-// placement gives the variables, what a label's length and atom tell, and the label compared element by element.
+// placement gives the variables, what a label's length and atom tell, and the label compared element by element. All are looked at
+// where they lie. That may be either table, so both are lent at one lifetime.
 ghost use mathlib.Core.Path.{_≡_};
 ghost use Prim.Native.Nat.{_+_, _<_, _≤_};
 ghost use lib.ListN.{length, getD};

@@ -433,6 +433,7 @@ fn search<'a>(
             }
         }
         if i == 0 {
+            // the array that the other exit hands out too, so that the compiler keeps one
             return Matched {
                 slots: at,
                 outcome: Outcome::NoMatch,
