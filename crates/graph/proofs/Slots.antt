@@ -1,6 +1,6 @@
--- Laws of slots in hand: where a slot of a legal host's tables lies, and what its bytes say of the node or the edge that it
--- holds. The bytes of a free slot are zeros, and say what a free slot has. Rests on Graph, on slots' States
--- and on laws' Pieces and Layout.
+-- Laws of slots in hand: where a slot of a legal host's tables lies, what its bytes say of the node or the edge that it holds,
+-- and its label among them. The bytes of a free slot are zeros, and say what a free slot has. Rests on Graph, on slots' States and
+-- Comparing and on laws' Pieces and Layout.
 use Prim.Native.Nat.{ℕ, zero, suc, _+_, _*_, _/_, _^_, _<_, _≤_}
 use mathlib.Core.Path.{_≡_, refl, sym, _∙_, ap}
 use mathlib.Core.List.{List, [], _∷_, map}
