@@ -1,5 +1,5 @@
 -- Comparing a label with what the elements of a left label stand for, an element at a time; the label of the item that is
--- tried; and what the length of a label and its atom say of it. Rests on Values, on parts' Series and on labels' Comparing.
+-- tried; and what the length of a label and its atom say of it. Rests on Values, on parts' Series and on slots' Comparing.
 use mathlib.Core.Path.{_≡_, refl, sym, _∙_, ap}
 use mathlib.Core.Bool.{Bool, true, false}
 use mathlib.Core.Option.{some, none}
@@ -26,7 +26,7 @@ use Rattle.parts.specs.Series.{Series, Taken, series-none, series-some, series-
 use Rattle.parts.specs.Elements.{Counted}
 use Rattle.parts.specs.Walks.{spells-label}
 use Rattle.parts.specs.declared.Counts.{Counts}
-use Rattle.plan.specs.Plan.{labelOf, constantAt, elementsAt, listsAt, nodesAt, sortAt}
+use Rattle.plan.specs.Plan.{Planned, labelOf, constantAt, elementsAt, listsAt, nodesAt, sortAt}
 use Rattle.agreeing.specs.declared.Agrees.{Agrees}
 use Rattle.agreeing.specs.declared.Agrees.the-variants.{Upto, Differs}
 use Rattle.agreeing.specs.Placed.{Known, slots, labelAt, Tried}
@@ -102,6 +102,11 @@ module _ {h : Host} {bs plan at : List ℕ} {i c : ℕ} {p : List ℕ} {w : HasE
 
 -- The label of the item that is tried.
 
+-- the plan has as many nodes as the rule has on the left
+pub planned-label : {bs : List ℕ} {r : Rule} {plan : List ℕ} → Planned bs r plan → (h : Host) (i c : ℕ)
+    → labelAt h (getD plan nodesAt 0) i c ≡ labelAt h (leftNodes r) i c
+planned-label {r = r} {plan = plan} p h i c = let m : getD plan nodesAt 0 ≡ leftNodes r = p .laid .items .nodes in rw m
+
 module _ {h : Host} {bs plan at : List ℕ} {i c : ℕ} (w : Tried h bs plan at i c) where
   pub last-there : i < total (w .trial .rule)
   last-there = omega (arith, w .last, w .trial .few)
@@ -126,9 +131,6 @@ module _ {h : Host} {bs plan at : List ℕ} {i c : ℕ} (w : Tried h bs plan at 
         spelt = e;
         valued = last-valued;
       }
-
-  pub last-label : labelAt h (getD plan nodesAt 0) i c ≡ labelAt h (leftNodes (w .trial .rule)) i c
-  last-label = let m : getD plan nodesAt 0 ≡ leftNodes (w .trial .rule) = w .trial .planned .laid .items .nodes in rw m
 
 -- What the length of a label says, and its atom where it is to be one constant.
 
@@ -190,13 +192,10 @@ module _ {h : Host} {bs plan : List ℕ} {i c : ℕ} (k : Candidate h bs plan i 
     pub known-constant : getD plan (sortAt + i) 0 ≡ 2 → labelOf (w .rule) i ≡ Constant (getD plan (constantAt + i) 0) ∷ []
     known-constant = w .planned .labelled i (item-there w k) .constant
 
-    pub known-label : labelAt h (getD plan nodesAt 0) i c ≡ labelAt h (leftNodes (w .rule)) i c
-    known-label = let n : getD plan nodesAt 0 ≡ leftNodes (w .rule) = w .planned .laid .items .nodes in rw n
-
     pub known-fits : (s : Counts) (n : ℕ) (g : Bool) → s .elements ≡ getD plan (elementsAt + i) 0 → s .lists ≡ getD plan (listsAt + i) 0
         → n ≡ length (labelAt h (getD plan nodesAt 0) i c) → ((x : Rule) (l : List Element) (m : List ℕ) → Counted x l s → n ≡ length m → g ≡ lengthFits x l m)
         → g ≡ lengthFits (w .rule) (labelOf (w .rule) i) (labelAt h (leftNodes (w .rule)) i c)
-    known-fits s n g e f z t = t (w .rule) _ _ (known-counted s e f) (z ∙ ap length known-label)
+    known-fits s n g e f z t = t (w .rule) _ _ (known-counted s e f) (z ∙ ap length (planned-label (w .planned) h i c))
 
   abbrev pub candidate-known : Known bs plan
   candidate-known = record { rule = k .rule; planned = k .planned }

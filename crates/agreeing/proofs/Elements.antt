@@ -1,5 +1,5 @@
 -- Elements by their tags and bytes: what a trial gives their variables, and the atoms that they stand for. Rests on
--- specs/Agreeing, on labels' Comparing, on fields' Parsed and on the meaning's Matching.
+-- specs/Agreeing, on slots' Laid, on fields' Parsed and on the meaning's Matching.
 use mathlib.Core.Path.{_≡_, refl, sym, _∙_, ap, subst}
 use mathlib.Core.Option.{some}
 use mathlib.Core.List.{List, [], _∷_}
@@ -11,7 +11,7 @@ use lib.Seq.{take-all}
 use Rattle.meaning.specs.Tags.{constantTag, variableTag, sumTag, differenceTag}
 use Rattle.meaning.specs.Numbers.{number}
 use Rattle.meaning.specs.Basics.{same}
-use Rattle.meaning.specs.Layout.{Host, pieces}
+use Rattle.meaning.specs.Layout.{Host, atomLength, pieces}
 use Rattle.meaning.specs.Image.{element}
 use Rattle.meaning.specs.References.{elementNames}
 use Rattle.meaning.specs.Matching.{Assignment, atomsOf}
@@ -24,10 +24,10 @@ use Rattle.agreeing.specs.declared.Agrees.{Agrees}
 use Rattle.agreeing.specs.declared.Agrees.the-variants.{Upto}
 use Rattle.agreeing.specs.Agreeing.{AgreesFrom, Valued, HasValue, HasElement}
 
--- four bytes are one atom
-laid-one : (bs : List ℕ) → length bs ≡ 4 → laid bs ≡ number bs ∷ []
+-- as many bytes as an atom has are one
+laid-one : (bs : List ℕ) → length bs ≡ atomLength → laid bs ≡ number bs ∷ []
 unfolding pieces
-laid-one bs e = rw (e, take-all 4 bs (omega arith))
+laid-one bs e = rw (e, take-all atomLength bs (omega arith))
 
 -- What elements stand for.
 
@@ -36,7 +36,7 @@ module _ (α : Assignment) (tag : ℕ) (bs : List ℕ) (e : Element) (s : elemen
   unfolding atomsOf
   constant-laid h = let t = constant-read tag bs e h s in rw (t .1) (sym (laid-one bs (t .0)))
 
-  pub variable-is : tag ≡ variableTag → e ≡ Variable (getD bs 0 0)
+  variable-is : tag ≡ variableTag → e ≡ Variable (getD bs 0 0)
   variable-is h = variable-read tag bs e h s .1
 
   variable-atoms : tag ≡ variableTag → atomsOf α e ≡ α (getD bs 0 0)

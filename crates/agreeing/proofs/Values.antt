@@ -62,11 +62,6 @@ module _ {h : Host} {bs plan at : List ℕ} {i c v : ℕ} (w : HasValue h bs pla
           in
           t m e ∙ rw (← e, d) (sym q)
 
--- a value of no atoms has no first one
-pub no-atom : (l : List ℕ) → length l ≡ 0 → 0 ≡ getD l 0 0
-no-atom [] e = refl
-no-atom (x ∷ l) e = absurd (omega arith)
-
 -- The elements of a placed item's label have values.
 
 first-le : (v : ℕ) (ls : List (List Element)) (i : ℕ) → has v (getD ls i []) ≡ true → firstWith v ls ≤ i

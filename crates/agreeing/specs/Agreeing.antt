@@ -1,5 +1,6 @@
 -- What a placement gives a value, and what it is for a label to have it: variables, and elements by their bytes; the atoms that a
--- variable takes of its first item's label; and atoms compared from a place on. Rests on Placed and on the meaning's FirstMatch and Assigned.
+-- variable takes of its first item's label; and atoms compared from a place on. Rests on Placed and on the meaning's FirstMatch
+-- and Assigned.
 use mathlib.Core.Path.{_≡_}
 use mathlib.Core.Bool.{true, false}
 use mathlib.Core.Option.{some}

@@ -281,10 +281,10 @@ pub fn next_like<'a>(
 }
 
 // Whether slot c, which is like left node i, can stand for it beside the nodes placed, by all but label and tests.
-pub fn node_likely<'a>(
+pub fn node_likely(
     l: Layout,
-    nodes: &'a [u8],
-    edges: &'a [u8],
+    nodes: &[u8],
+    edges: &[u8],
     rule: &[u8],
     plan: &[usize; At::LENGTH],
     at: &[usize; Room::ITEMS],

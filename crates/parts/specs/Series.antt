@@ -93,6 +93,21 @@ module _ {A : Type 0} (item : ℕ → List ℕ → Option A) (bs : List ℕ) (at
       let d = length-drop at bs in
       absurd (omega arith)
 
+  -- a row that is not empty begins with a field
+  pub series-field : (a : A) (l : List A) → Series item (a ∷ l) [] (drop at bs) → field (drop at bs) ≡ none → ⊥
+  unfolding Series
+  series-field a l r e =
+      let z : _≡_ {A = ℕ} 0 1 = cc (r .there) in
+      omega arith
+
+  -- which is read as its first item, and the row goes on behind it
+  pub series-first : (a : A) (l : List A) → Series item (a ∷ l) [] (drop at bs) → {tag start end : ℕ} → Lies bs at tag start end
+      → (item tag (take (end - start) (drop start bs)) ≡ some a) × Series item l [] (drop end bs)
+  unfolding Series
+  series-first a l r f =
+      let same : r .whole ≡ f .whole = some-inj _ _ (sym (r .there) ∙ f .is) in
+      (rw (← (f .tagged), ← (f .payload), ← same) (r .read), rw (← (f .rest), ← same) (r .more))
+
   pub series-some : (l : List A) → Series item l [] (drop at bs) → at < length bs → (tag start end : ℕ) → Lies bs at tag start end → Taken item l bs tag start end
   unfolding Series
   series-some [] r h tag start end f =
@@ -100,14 +115,8 @@ module _ {A : Type 0} (item : ℕ → List ℕ → Option A) (bs : List ℕ) (at
       let e = length-drop at bs in
       absurd (omega arith)
   series-some (a ∷ l) r h tag start end f =
-      let same : r .whole ≡ f .whole = some-inj _ _ (sym (r .there) ∙ f .is) in
-      record {
-        first = a;
-        others = l;
-        parts = refl;
-        read = rw (← (f .tagged), ← (f .payload), ← same) (r .read);
-        series = rw (← (f .rest), ← same) (r .more);
-      }
+      let t = series-first a l r f in
+      record { first = a; others = l; parts = refl; read = t .0; series = t .1 }
 
   -- a row that has not ended has a field
   pub series-there : (l : List A) → Series item l [] (drop at bs) → at < length bs → field (drop at bs) ≡ none → ⊥
@@ -116,9 +125,7 @@ module _ {A : Type 0} (item : ℕ → List ℕ → Option A) (bs : List ℕ) (at
       let d : length (drop at bs) ≡ 0 = ap length r in
       let k = length-drop at bs in
       omega arith
-  series-there (a ∷ l) r h e =
-      let z : _≡_ {A = ℕ} 0 1 = cc (r .there) in
-      omega arith
+  series-there (a ∷ l) r h e = series-field a l r e
 
 -- A loop that asks the same of every item of a row: `total` is what it is to answer, from what the bytes stand for.
 
@@ -230,9 +237,8 @@ module _ (bs : List ℕ) where
       let d = length-drop at bs in
       let h : at < length bs = omega arith in
       let f = at-field bs at h (r .whole) (r .there) in
-      let k = found-field bs at _ _ _ f in
-      let same : r .whole ≡ k .whole = some-inj _ _ (sym (r .there) ∙ k .is) in
-      (r .whole .tag, at + 3, at + 3 + length (r .whole .payload), sym f, rw (← (k .payload), ← same) (r .read), rw (← (k .rest), ← same) (r .more))
+      let t = series-first item bs at a l r (found-field bs at _ _ _ f) in
+      (r .whole .tag, at + 3, at + 3 + length (r .whole .payload), sym f, t .0, t .1)
 
   nth-series : {A : Type 0} (item : ℕ → List ℕ → Option A) (l : List A) (at n : ℕ) (d : A) → Series item l [] (drop at bs) → n < length l → item (tagOf (nthField n bs at)) (partOf bs (nthField n bs at)) ≡ some (getD l n d)
   unfolding nthField onward

@@ -201,7 +201,7 @@ module _ {bs plan : List ℕ} {j : ℕ} (w : HasItem bs plan j) where
       at (yes h) = let i = node-inside h in omega arith
       at (no h) = let i = edge-inside (omega arith) in omega arith
 
--- The parts of a rule by number, and its tests.
+-- The parts of a rule by number.
 
 pub place-none : (bs : List ℕ) (n : ℕ) (f : Found) → f ≡ nthField n bs 0 → NoField f → Part bs n 0 0
 place-none bs n f e k = record { ordered = omega arith; inside = omega arith; is = no-part bs f (nthField n bs 0) e k }

@@ -38,13 +38,9 @@ laid-front n b h =
 
 -- part of a label
 module _ (b : List ℕ) (from n : ℕ) (fits : from + n ≤ length (laid b)) where
-  part-inside : atomLength * from + atomLength * n ≤ length b
-  part-inside = omega (arith, laid-length b)
-
   pub laid-part : laid (take (atomLength * n) (drop (atomLength * from) b)) ≡ take n (drop from (laid b))
   laid-part =
-      let i = part-inside in
-      laid-front n (drop (atomLength * from) b) (omega (arith, length-drop (atomLength * from) b))
+      laid-front n (drop (atomLength * from) b) (omega (arith, length-drop (atomLength * from) b, laid-length b))
       ∙ ext-getD 0 _ _ (length-atoms n _ ∙ sym long) (λ j h.
       let k : j < n = omega (arith, length-atoms n (drop (atomLength * from) b)) in
       let e : atomLength * from + j * atomLength ≡ (from + j) * atomLength = omega arith in

@@ -1,5 +1,5 @@
 -- Operands, conditions and tests, read from their bytes: what a trial gives their variables and nodes, and what they then stand
--- for. Rests on Testing and Rows, on parts' Reading and on the meaning's Matching.
+-- for. Rests on Testing, on parts' Reading and Series and on the meaning's Matching.
 use mathlib.Core.Path.{_≡_, refl, sym, _∙_, ap}
 use mathlib.Core.Bool.{Bool, not}
 use mathlib.Core.Option.{some}
@@ -13,7 +13,7 @@ use Rattle.meaning.specs.Basics.{choose, exists}
 use Rattle.meaning.specs.Numbers.{height, less}
 use Rattle.meaning.specs.Tags.{constantTag, edgeTestTag, inDegreeTag, relationTag, equalRelation}
 use Rattle.meaning.specs.Layout.{Host}
-use Rattle.meaning.specs.Image.{Pair, mostItems, only, passesAll, constant, operand, twoOperands, relation, condition, test}
+use Rattle.meaning.specs.Image.{Pair, mostItems, limits, only, passesAll, constant, operand, twoOperands, relation, condition, test}
 use Rattle.meaning.specs.References.{operandNames, conditionOperands, conditionNodes}
 use Rattle.meaning.specs.Matching.{Assignment, atomOf, edgeRuns, conditionHolds, testHolds}
 use Rattle.meaning.specs.Laws.Every.{Every}
@@ -26,14 +26,13 @@ use Rattle.fields.specs.declared.Found.{Found}
 use Rattle.fields.specs.declared.Found.the-variants.{Field}
 use Rattle.fields.specs.Image.{condition-relation}
 use Rattle.fields.specs.Parsed.{twoOperands-is, relation-1, relation-2, relation-kind, IsTest, test-is}
-use Rattle.parts.specs.Series.{For, Series, only-series, nthPart, nthTag, nth-item, part-field, tag-field}
+use Rattle.parts.specs.Series.{For, Series, only-series, series-field, series-first, nthPart, nthTag, nth-item, part-field, tag-field}
 use Rattle.parts.specs.Reading.{operand-first, operand-second, condition-edge-is, condition-in-is, condition-out-is}
-use Rattle.parts.proofs.Loops.{NoField, no-part}
+use Rattle.parts.proofs.Loops.{NoField, no-field, a-field, no-part}
 use Rattle.plan.specs.Plan.{testOf}
 use Rattle.agreeing.specs.Placed.{slotOf, Trial}
 use Rattle.agreeing.specs.Agreeing.{Valued, HasValue}
 use Rattle.testing.specs.Testing.{OperandValued, HasOperand, HasCondition, HasTest}
-use Rattle.testing.proofs.Rows.{first-none, first-read, first-next}
 
 -- Relations: two operands, one behind the other.
 
@@ -163,21 +162,24 @@ module _ {h : Host} {bs plan at : List ℕ} {i c : ℕ} where
     right-valued = both .1 .0
 
     pub left-none : {f : Found} → f ≡ fieldAt p 1 → NoField f → ⊥
-    left-none = first-none operand p 1 _ _ (two .row)
+    left-none e n = series-field operand p 1 _ _ (two .row) (no-field p 1 _ e n)
 
     module _ {f : Found} {tag start end : ℕ} (e : f ≡ fieldAt p 1) (g : f ≡ Field tag start end) where
+      pub first : (operand tag (take (end - start) (drop start p)) ≡ some (two .left)) × Series operand (two .right ∷ []) [] (drop end p)
+      first = series-first operand p 1 _ _ (two .row) (a-field p 1 e g)
+
       abbrev pub left-operand : {q : List ℕ} → q ≡ take (end - start) (drop start p) → HasOperand h bs plan at i c tag q
-      left-operand m = record { trial = w .trial; o = two .left; is = first-read operand p 1 _ _ (two .row) e g m; valued = left-valued }
+      left-operand m = record { trial = w .trial; o = two .left; is = ap (operand tag) m ∙ first .0; valued = left-valued }
 
       pub behind : Series operand (two .right ∷ []) [] (drop end p)
-      behind = first-next operand p 1 _ _ (two .row) e g
+      behind = first .1
 
       pub right-none : {n : Found} → n ≡ fieldAt p end → NoField n → ⊥
-      right-none = first-none operand p end _ _ behind
+      right-none k n = series-field operand p end _ _ behind (no-field p end _ k n)
 
       abbrev pub right-operand : {n : Found} {other from to : ℕ} {q : List ℕ} → n ≡ fieldAt p end → n ≡ Field other from to
           → q ≡ take (to - from) (drop from p) → HasOperand h bs plan at i c other q
-      right-operand k l m = record { trial = w .trial; o = two .right; is = first-read operand p end _ _ behind k l m; valued = right-valued }
+      right-operand {other = other} k l m = record { trial = w .trial; o = two .right; is = ap (operand other) m ∙ series-first operand p end _ _ behind (a-field p end k l) .0; valued = right-valued }
 
   -- a relation by its tag
   abbrev pub as-relation : {tag : ℕ} {p : List ℕ} → tag ≡ relationTag → HasCondition h bs plan at i c tag p → HasCondition h bs plan at i c relationTag p
@@ -185,9 +187,9 @@ module _ {h : Host} {bs plan at : List ℕ} {i c : ℕ} where
 
   -- Tests, from the bytes of all.
 
-  module _ {t : ℕ} (w : HasTest h bs plan at i c t) (p : List ℕ) (tests : only passesAll test 4 p ≡ some (w .trial .rule .tests)) {f : Found} (k : f ≡ nthField t p 0) where
+  module _ {t : ℕ} (w : HasTest h bs plan at i c t) (p : List ℕ) (tests : only passesAll test (limits .tests) p ≡ some (w .trial .rule .tests)) {f : Found} (k : f ≡ nthField t p 0) where
     numbered : IsTest (nthTag t p) (nthPart t p) (testOf (w .trial .rule) t)
-    numbered = test-is _ _ _ (nth-item p test _ t _ (only-series passesAll test test (λ tag cs a x e. e) 4 p _ tests) (w .there))
+    numbered = test-is _ _ _ (nth-item p test _ t _ (only-series passesAll test test (λ tag cs a x e. e) (limits .tests) p _ tests) (w .there))
 
     pub test-none : NoField f → ⊥
     test-none n = omega (arith, numbered .long, ap length (no-part p f (nthField t p 0) k n))

@@ -1,7 +1,8 @@
 -- `label_likely` meets its contract.
 use mathlib.Core.Path.{sym, _∙_, ap}
 use lib.ListN.{length}
-use Rattle.agreeing.proofs.Agreeing.{constant-one, guessed-no, guessed-yes, guessed-constant, candidate-inside, candidate-known, candidate-simple, known-fits, known-constant, known-label}
+use Rattle.meaning.specs.Layout.{hostOf}
+use Rattle.agreeing.proofs.Agreeing.{constant-one, guessed-no, guessed-yes, guessed-constant, candidate-inside, candidate-known, candidate-simple, known-fits, known-constant, planned-label}
 use borrow.Author.Needs.{needs}
 use native.Mathlib.Omega.{arith}
 use Rattle.agreeing.proofs.label_likely.Statement.{statement}
@@ -32,7 +33,7 @@ atom-requires : tie.Need-atom-requires
 atom-requires c κs =
     let w = candidate-known (c .before .before .before .before .before .before .before .before .before .before .pre .1) in
     let e = constant-one _ _ _ _ (known-constant (c .before .before .before .before .before .before .before .before .before .before .pre .1) w (c .if2 .taken)) (sym (c .before .before .if1 .taken) ∙ known-fits (c .before .before .before .before .before .before .before .before .before .before .pre .1) w _ _ _ (c .before .before .before .before .before .counts .ensures .0) (c .before .before .before .before .before .counts .ensures .1) (c .before .before .before .before .count .ensures ∙ ap length (c .before .before .before .before .before .before .item-label .ensures .0)) (c .before .before .before .length-fits .ensures)) in
-    rw (c .before .before .before .before .before .before .item-label .ensures .0, known-label (c .before .before .before .before .before .before .before .before .before .before .pre .1) w) (omega arith)
+    rw (c .before .before .before .before .before .before .item-label .ensures .0, planned-label (w .planned) (hostOf (c .before .before .before .before .before .before .before .before .before .before .args .l) (c .before .before .before .before .before .before .before .before .before .before .args .nodes .now) (c .before .before .before .before .before .before .before .before .before .before .args .edges .now)) (c .before .before .before .before .before .before .before .before .before .before .args .i) (c .before .before .before .before .before .before .before .before .before .before .args .c)) (omega arith)
 
 cast-result : tie.Need-cast-result
 cast-result c = search needs
@@ -49,7 +50,7 @@ element-copy-out-result c = search needs
 returns : tie.Need-returns
 returns c =
     λ w.
-    guessed-constant _ _ _ _ (known-constant (c .before .before .before .before .before .before .before .before .before .before .before .before .pre .1) w (c .before .before .if2 .taken)) (sym (c .before .before .before .before .if1 .taken) ∙ known-fits (c .before .before .before .before .before .before .before .before .before .before .before .before .pre .1) w _ _ _ (c .before .before .before .before .before .before .before .counts .ensures .0) (c .before .before .before .before .before .before .before .counts .ensures .1) (c .before .before .before .before .before .before .count .ensures ∙ ap length (c .before .before .before .before .before .before .before .before .item-label .ensures .0)) (c .before .before .before .before .before .length-fits .ensures)) _ _ (rw (c .before .atom .ensures, c .before .before .before .before .before .before .before .before .item-label .ensures .0, known-label (c .before .before .before .before .before .before .before .before .before .before .before .before .pre .1) w))
+    guessed-constant _ _ _ _ (known-constant (c .before .before .before .before .before .before .before .before .before .before .before .before .pre .1) w (c .before .before .if2 .taken)) (sym (c .before .before .before .before .if1 .taken) ∙ known-fits (c .before .before .before .before .before .before .before .before .before .before .before .before .pre .1) w _ _ _ (c .before .before .before .before .before .before .before .counts .ensures .0) (c .before .before .before .before .before .before .before .counts .ensures .1) (c .before .before .before .before .before .before .count .ensures ∙ ap length (c .before .before .before .before .before .before .before .before .item-label .ensures .0)) (c .before .before .before .before .before .length-fits .ensures)) _ _ (rw (c .before .atom .ensures, c .before .before .before .before .before .before .before .before .item-label .ensures .0, planned-label (w .planned) (hostOf (c .before .before .before .before .before .before .before .before .before .before .before .before .args .l) (c .before .before .before .before .before .before .before .before .before .before .before .before .args .nodes .now) (c .before .before .before .before .before .before .before .before .before .before .before .before .args .edges .now)) (c .before .before .before .before .before .before .before .before .before .before .before .before .args .i) (c .before .before .before .before .before .before .before .before .before .before .before .before .args .c)))
 
 returns-2 : tie.Need-returns-2
 returns-2 c = λ w. guessed-yes _ _ _ _ (sym (c .before .before .if1 .taken) ∙ known-fits (c .before .before .before .before .before .before .before .before .before .before .pre .1) w _ _ _ (c .before .before .before .before .before .counts .ensures .0) (c .before .before .before .before .before .counts .ensures .1) (c .before .before .before .before .count .ensures ∙ ap length (c .before .before .before .before .before .before .item-label .ensures .0)) (c .before .before .before .length-fits .ensures)) (c .if2 .left)

@@ -2,9 +2,9 @@
 use mathlib.Core.Path.{sym, _∙_, ap}
 use mathlib.Core.List.{List}
 use Prim.Native.Nat.{ℕ}
-use lib.ListN.{getD}
+use lib.ListN.{getD, List·getD-eq-default}
 use Rattle.slots.specs.Laid.{laid}
-use Rattle.agreeing.proofs.Values.{no-atom}
+use native.Mathlib.Omega.{arith}
 use borrow.Author.Needs.{needs}
 use Rattle.agreeing.proofs.variable_atom.Statement.{statement}
 use Rattle.agreeing.proofs.variable_atom.Tie as tie
@@ -16,7 +16,7 @@ count-requires : tie.Need-count-requires
 count-requires c κs = search needs
 
 returns : tie.Need-returns
-returns c = λ w. rw (← (c .before .before .value .ensures .1 w)) (no-atom (laid (c .before .before .value .result .now)) (sym (c .before .count .ensures) ∙ c .if1 .taken))
+returns c = λ w. rw (← (c .before .before .value .ensures .1 w)) (sym (List·getD-eq-default (laid (c .before .before .value .result .now)) 0 {n = 0} (omega (arith, c .before .count .ensures, c .if1 .taken))))
 
 atom-requires : tie.Need-atom-requires
 atom-requires c κs = search needs

@@ -1,15 +1,11 @@
 -- `held::label` meets its contract: as many bytes as its atoms have.
-use Prim.Native.Nat.{ℕ, _+_, _-_, _*_}
-use mathlib.Core.Path.{_≡_}
-use native.Mathlib.Omega.{arith}
+use Prim.Native.Nat.{_*_}
+use native.Mathlib.Nat.{add-sub-cancel-left}
 use borrow.Author.Needs.{needs}
 use lib.ListN.{getD}
 use Rattle.meaning.specs.Layout.{lengthPlace, atomLength}
 use Rattle.slots.proofs.held.label.Statement.{statement}
 use Rattle.slots.proofs.held.label.Tie as tie
-
-counted : (start n : ℕ) → start + atomLength * n - start ≡ atomLength * n
-counted start n = omega arith
 
 atom-count-requires : tie.Need-atom-count-requires
 atom-count-requires c κs = search needs
@@ -30,7 +26,7 @@ part-result-end : tie.Need-part-result-end
 part-result-end c = search needs
 
 returns : tie.Need-returns
-returns c = rw (c .before .atom-count .ensures, counted (c .before .before .before .args .start) (getD (c .before .before .before .args .b .now) lengthPlace 0))
+returns c = rw (c .before .atom-count .ensures, add-sub-cancel-left (c .before .before .before .args .start) (atomLength * getD (c .before .before .before .args .b .now) lengthPlace 0))
 
 pub label-spec : {M : Type 1} → statement M
 label-spec =

@@ -1,15 +1,12 @@
 -- `laid::part` meets its contract.
-use Prim.Native.Nat.{ℕ, _+_, _-_, _*_}
-use mathlib.Core.Path.{_≡_}
+use Prim.Native.Nat.{_*_}
+use native.Mathlib.Nat.{add-sub-cancel-left}
 use native.Mathlib.Omega.{arith}
 use borrow.Author.Needs.{needs}
 use Rattle.meaning.specs.Layout.{atomLength}
 use Rattle.slots.specs.Comparing.{laid-length, laid-part}
 use Rattle.slots.proofs.laid.part.Statement.{statement}
 use Rattle.slots.proofs.laid.part.Tie as tie
-
-counted : (from n : ℕ) → atomLength * from + atomLength * n - atomLength * from ≡ atomLength * n
-counted from n = omega arith
 
 mul-start : tie.Need-mul-start
 mul-start c = omega (arith, laid-length (c .args .a .now), c .pre, c .good)
@@ -30,7 +27,7 @@ part-result-end : tie.Need-part-result-end
 part-result-end c = omega (arith, laid-length (c .args .a .now), c .pre)
 
 returns : tie.Need-returns
-returns c = rw (counted (c .before .args .from) (c .before .args .n)) (laid-part (c .before .args .a .now) (c .before .args .from) (c .before .args .n) (c .before .pre))
+returns c = rw (add-sub-cancel-left (atomLength * c .before .args .from) (atomLength * c .before .args .n)) (laid-part (c .before .args .a .now) (c .before .args .from) (c .before .args .n) (c .before .pre))
 
 pub part-spec : {M : Type 1} → statement M
 part-spec =
