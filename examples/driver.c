@@ -96,9 +96,10 @@ static enum next handle(uint32_t answer)
         return GIVE_UP;
     case NHIEMAVUT_BAD_HOST: /* 15: the tables were damaged before the call */
         return GIVE_UP;
-    case NHIEMAVUT_BAD_FORM: /* 16 to 18: the image is damaged, or was not made by the assembler */
+    case NHIEMAVUT_BAD_FORM: /* 16 to 19: the image is damaged, or was not made by the assembler */
     case NHIEMAVUT_BAD_REFERENCES:
     case NHIEMAVUT_BAD_PLACEMENT:
+    case NHIEMAVUT_BAD_DEPTH:
         return GIVE_UP;
     default:
         return GIVE_UP;

@@ -56,8 +56,9 @@ enum {
     NHIEMAVUT_IMAGE_TOO_LONG = 14, /* run: the image has over 8,192 bytes */
     NHIEMAVUT_BAD_HOST = 15,       /* run: a slot of either table breaks the layout */
     NHIEMAVUT_BAD_FORM = 16,       /* run: the image isn't a program, or has if and try in the old form (0x52, 0x53) */
-    NHIEMAVUT_BAD_REFERENCES = 17, /* run: a rule, a variable or a node that it names isn't there or is misused */
-    NHIEMAVUT_BAD_PLACEMENT = 18,  /* run: a break isn't in a loop body, or a guard is between them */
+    NHIEMAVUT_BAD_REFERENCES = 17, /* run: a rule, a procedure, a variable or a node that it names isn't there or is misused */
+    NHIEMAVUT_BAD_PLACEMENT = 18,  /* run: a break isn't in a loop body of its own procedure, or a guard is between them */
+    NHIEMAVUT_BAD_DEPTH = 19,      /* run: calls of procedures form a ring, or nest commands over 16 deep */
     NHIEMAVUT_BAD_RECORDS = 20     /* undo: the count is over the journal's records, or a counted record has a kind
                                       other than 1 or 2, a second byte other than 0, or a slot outside its table */
 };
@@ -69,7 +70,7 @@ enum {
  * Answers 0, with the result in both tables, a record of each change from the journal's front and zeros behind, and
  * steps and records in the report: nhiemavut_undo with that count of records gives the graph back. Answers 1 to 6 where
  * the run comes to no result: both tables are as they came, the journal is all zero, and the report has the steps and 0
- * records. Or the lowest of 9 to 18 that applies, before anything is run. A refused call leaves both tables and the
+ * records. Or the lowest of 9 to 19 that applies, before anything is run. A refused call leaves both tables and the
  * journal as they were, and writes zeros in the report, except on 9.
  */
 uint32_t nhiemavut_run(uint8_t *nodes, size_t nodes_length,

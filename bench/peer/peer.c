@@ -44,10 +44,11 @@ struct rule {
 struct program {
     unsigned rules;
     struct rule rule[32];
-    const uint8_t *main; /* the main command's field */
+    unsigned procedures;
+    const uint8_t *procedure[16], *main; /* the fields of the commands of procedures, and of the main command */
 };
 
-/* What is wrong with an image: the numbers 16, 17 and 18. */
+/* What is wrong with an image: the numbers 16, 17 and 18. 19 is asked of images without these alone. */
 struct faults {
     int form, references, placement;
 };
@@ -310,15 +311,18 @@ static int rule_fine(const struct rule *r)
     return used == known && known < 1u << 8;
 }
 
-/* The tag of a guarded command, which has a byte before its three commands: 1 where a successful guard's changes stay, or 0. */
-enum { GUARDED = 0x59 };
+/*
+ * The tags of a call, which has the number of a procedure, and of a guarded command, which has a byte before its three
+ * commands: 1 where a successful guard's changes stay, or 0.
+ */
+enum { CALL = 0x58, GUARDED = 0x59 };
 
 static int is_command(int tag)
 {
-    return tag == 0x50 || tag == 0x51 || (tag >= 0x54 && tag <= 0x57) || tag == GUARDED;
+    return tag == 0x50 || tag == 0x51 || (tag >= 0x54 && tag <= GUARDED);
 }
 
-/* Commands: form, rule numbers and breaks, in one walk. */
+/* Commands: form, numbers of rules and procedures, and breaks, in one walk. */
 static void read_command(int tag, struct reader p, const struct program *q, int depth, int in_loop, struct faults *f)
 {
     if (depth > 16 || !is_command(tag)) {
@@ -337,6 +341,11 @@ static void read_command(int tag, struct reader p, const struct program *q, int 
         f->placement |= tag == 0x57 && !in_loop;
         return;
     }
+    if (tag == CALL) {
+        f->form |= left(&p) != 1;
+        f->references |= left(&p) > 0 && *p.at >= q->procedures;
+        return;
+    }
     if (tag == GUARDED && (left(&p) == 0 || *p.at++ > 1)) {
         f->form = 1;
         return;
@@ -353,6 +362,18 @@ static void read_command(int tag, struct reader p, const struct program *q, int 
         f->form = 1;
 }
 
+/* One command and nothing behind it. */
+static void read_whole(struct reader p, const struct program *q, struct faults *f)
+{
+    struct reader part;
+    int tag = next(&p, &part);
+    if (tag < 0 || left(&p) > 0) {
+        f->form = 1;
+        return;
+    }
+    read_command(tag, part, q, 1, 0, f);
+}
+
 static void read_program(struct reader p, struct program *q, struct faults *f)
 {
     struct reader part;
@@ -364,13 +385,61 @@ static void read_program(struct reader p, struct program *q, struct faults *f)
         }
         f->references |= !rule_fine(&q->rule[q->rules++]);
     }
-    q->main = p.at;
-    int tag = next(&p, &part);
-    if (tag < 0 || left(&p) > 0) {
-        f->form = 1;
-        return;
+    struct reader body[16];
+    q->procedures = 0;
+    while (left(&p) > 0 && p.at[0] == 0x17 && q->procedures < 16) {
+        f->form |= next(&p, &body[q->procedures]) < 0;
+        if (f->form)
+            return;
+        q->procedures++;
     }
-    read_command(tag, part, q, 1, 0, f);
+    q->main = p.at;
+    read_whole(p, q, f);
+    for (unsigned i = 0; i < q->procedures; i++) {
+        q->procedure[i] = body[i].at;
+        read_whole(body[i], q, f);
+    }
+}
+
+/*
+ * How many levels commands come to with each call replaced by its procedure, in an image in which nothing else is wrong.
+ * `levels` has those of the procedures that are known, and DEEP for those that are being looked into, so that a ring is too deep.
+ */
+enum { UNKNOWN = 0, DEEP = 17 };
+
+static unsigned procedure_height(const struct program *q, unsigned n, unsigned *levels);
+
+static unsigned height(const struct program *q, const uint8_t *p, unsigned *levels)
+{
+    const uint8_t *at = p + 3, *end = at + number(p + 1, 2);
+    unsigned most = 0;
+    if (p[0] == CALL)
+        return 1 + procedure_height(q, *at, levels);
+    if (p[0] == 0x50)
+        return 1;
+    for (at += p[0] == GUARDED; at < end; at += 3 + number(at + 1, 2)) {
+        unsigned inside = height(q, at, levels);
+        most = inside > most ? inside : most;
+    }
+    return 1 + most;
+}
+
+static unsigned procedure_height(const struct program *q, unsigned n, unsigned *levels)
+{
+    if (levels[n] == UNKNOWN) {
+        levels[n] = DEEP;
+        levels[n] = height(q, q->procedure[n], levels);
+    }
+    return levels[n];
+}
+
+static int too_deep(const struct program *q)
+{
+    unsigned levels[16] = {UNKNOWN};
+    for (unsigned n = 0; n < q->procedures; n++)
+        if (procedure_height(q, n, levels) >= DEEP)
+            return 1;
+    return height(q, q->main, levels) >= DEEP;
 }
 
 /* Hosts. */
@@ -912,6 +981,8 @@ static unsigned command(struct run *run, const uint8_t *p)
         return DONE;
     case 0x56:
         return FAILED;
+    case CALL:
+        return command(run, run->program->procedure[*body]);
     default:
         return BROKE;
     }
@@ -944,7 +1015,7 @@ static unsigned refusal(const struct host *h, size_t nodes, size_t edges, size_t
     if (!keeps_layout(h))
         return 15;
     read_program(image, program, &f);
-    return f.form ? 16 : f.references ? 17 : f.placement ? 18 : 0;
+    return f.form ? 16 : f.references ? 17 : f.placement ? 18 : too_deep(program) ? 19 : 0;
 }
 
 uint32_t peer_run(uint8_t *nodes, size_t nodes_length, uint8_t *edges, size_t edges_length, uint8_t *journal,

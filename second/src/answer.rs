@@ -17,4 +17,5 @@ pub const LAYOUT: u32 = 15;
 pub const FORM: u32 = 16;
 pub const REFERENCES: u32 = 17;
 pub const PLACEMENT: u32 = 18;
+pub const DEPTH: u32 = 19;
 pub const UNDO: u32 = 20;

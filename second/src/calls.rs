@@ -8,7 +8,7 @@ use crate::journal::{can_be_stored, journal, store_back};
 use crate::layout::Layout;
 use crate::observer::{Observer, Unobserved};
 use crate::tree::{self, Program};
-use crate::{decode, placement, references};
+use crate::{decode, depth, placement, references};
 
 /// The most fuel that a run takes.
 pub const MOST_FUEL: u32 = 1_000_000;
@@ -108,7 +108,7 @@ impl RunCall {
         untouched(&self.nodes, &self.edges, &self.journal, &self.report)
     }
 
-    /// The checks 9 to 18 in their order: the host and the program, or the lowest number that applies.
+    /// The checks 9 to 19 in their order: the host and the program, or the lowest number that applies.
     fn checked(&self, layout: &Layout) -> Result<(Host, Program), u32> {
         lengths_are_right(layout, &self.untouched())?;
         if self.fuel > MOST_FUEL {
@@ -123,6 +123,7 @@ impl RunCall {
         if !placement::check(&program) {
             return Err(answer::PLACEMENT);
         }
+        depth::check(&program).map_err(|_| answer::DEPTH)?;
         Ok((host, program))
     }
 

@@ -42,13 +42,13 @@ impl State {
 pub enum Ending {
     Success(State),
     Fail,
-    /// On the way to the loop around it. Placement keeps it from ending a guard or the whole run.
+    /// On the way to the loop around it. Placement keeps it from ending a guard, a procedure or the whole run.
     Break(State),
     /// One of the answers 2 to 6, which end the whole run.
     Stop(u32),
 }
 
-/// A run of a program whose form, references and placement are right.
+/// A run of a program whose form, references, placement and depth are right.
 pub struct Run<'a> {
     pub program: &'a Program,
     pub layout: &'a Layout,
@@ -80,6 +80,7 @@ impl Run<'_> {
             Command::Skip => Ending::Success(state),
             Command::Fail => Ending::Fail,
             Command::Break => Ending::Break(state),
+            Command::Procedure(number) => self.call(*number, state),
         }
     }
 
@@ -145,6 +146,15 @@ impl Run<'_> {
                 Ending::Stop(answer) => return Ending::Stop(answer),
             }
         }
+    }
+
+    /// A call ends as its procedure does. Placement keeps a break from ending a procedure.
+    fn call(&mut self, number: u8, state: State) -> Ending {
+        let program = self.program;
+        let ending = self.command(&program.procedures[usize::from(number)], state);
+        let failed = matches!(ending, Ending::Fail);
+        self.observer.sees(Event::Returned { failed });
+        ending
     }
 
     /// Runs a guard or a loop body on a copy of the state, so that its changes can be given back.

@@ -1,9 +1,10 @@
-//! Random runner images for comparing interpreters: mostly legal programs that match, apply, fail, go back, loop
-//! and break, and a share of damaged inputs. A seed gives the same images on any machine.
+//! Random runner images for comparing interpreters: mostly legal programs that match, apply, fail, go back, loop,
+//! break and call, and a share of damaged inputs. A seed gives the same images on any machine.
 //!
 //! A corpus is one file of images, each behind a field 0x06: the tag, a length of two bytes, the image. It begins
 //! with the cases of document 01 and one input for each clause of the refusals.
 
+mod broken_calls;
 mod broken_inputs;
 mod broken_modes;
 mod broken_programs;
@@ -22,7 +23,9 @@ mod lefts;
 mod mode_programs;
 mod modes;
 mod narrow;
+mod outlining;
 mod palette;
+mod procedures;
 mod rights;
 mod rules;
 mod statistics;
@@ -40,6 +43,7 @@ use fixed::fixed_images;
 pub use command_line::{main, write_files};
 pub use groupings::groupings;
 pub use mode_programs::mode_programs;
+pub use procedures::procedures;
 pub use rules::draw_mode;
 pub use statistics::{Counter, Statistics};
 
@@ -51,7 +55,7 @@ pub const IMAGE_TAG: u8 = 0x06;
 
 /// The seed of the stored corpus, and how many of its images come from there.
 pub const STORED_SEED: u64 = 1;
-pub const STORED_COUNT: u64 = 2614;
+pub const STORED_COUNT: u64 = 2844;
 
 /// One image among so many is a large one.
 const LARGE_EVERY: u64 = 200;
@@ -93,7 +97,7 @@ fn random_image(seed: u64, index: u64) -> Vec<u8> {
         return large::large(&mut random, index / LARGE_EVERY % large::KINDS);
     }
     let draft = Draft::draw(&mut random);
-    if random.chance(5) {
+    if random.chance(7) {
         return damage::damaged(&mut random, draft);
     }
     let mut input = draft.input();
@@ -103,7 +107,7 @@ fn random_image(seed: u64, index: u64) -> Vec<u8> {
     runner_input(&input)
 }
 
-/// A program whose form, references and placement of break are right.
+/// A program whose form, references, placement of break and depth are right.
 pub fn legal_program(random: &mut Random) -> Program {
     Draft::draw(random).program
 }

@@ -1,5 +1,5 @@
-//! Reading a program image into its tree: the *form* of document 01, but with if and try as one guarded command and with a
-//! mode that a rule may have, and with every limit. An image of any length is read; that it has at most 8,192 bytes is asked by the call.
+//! Reading a program image into its tree: the *form* of document 01, but with if and try as one guarded command, with a
+//! mode that a rule may have, with procedures and calls of them, and with every limit. An image of any length is read; that it has at most 8,192 bytes is asked by the call.
 
 use crate::build;
 use crate::tree::*;
@@ -17,16 +17,19 @@ pub struct Damage {
 
 pub type Read<T> = Result<T, Damage>;
 
-/// What a form of images says of guarded commands, in which alone forms differ.
+/// What a form of images says of procedures and of guarded commands, in which alone forms differ.
 pub struct Form {
     /// The commands that there are, in words.
     pub commands: &'static str,
+    /// Whether there are procedures, and calls of them.
+    pub procedures: bool,
     /// Whether a guarded command that stands next keeps a successful guard's changes, and a reader of its three commands.
     pub guarded: for<'a> fn(&mut Reader<'a>) -> Read<Option<(bool, Reader<'a>)>>,
 }
 
 const TODAY: Form = Form {
-    commands: "a command: tag 0x50, 0x51, 0x54 to 0x57, or 0x59",
+    commands: "a command: tag 0x50, 0x51, or 0x54 to 0x59",
+    procedures: true,
     guarded,
 };
 
@@ -35,15 +38,36 @@ pub fn program(image: &[u8]) -> Read<Program> {
     program_of(image, &TODAY)
 }
 
-/// The tree of an image of this form: 0 to 32 rules, one command, nothing behind it.
+/// The tree of an image of this form: 0 to 32 rules, 0 to 16 procedures, one command, nothing behind it.
 pub fn program_of(image: &[u8], form: &Form) -> Read<Program> {
     let mut reader = Reader::whole(image);
     let is_rule = |reader: &Reader| reader.tag() == Some(0x10);
     let most = "at most 32 rules, then a command";
     let rules = reader.items(is_rule, limit::RULES, most, rule)?;
+    let is_procedure = |reader: &Reader| form.procedures && reader.tag() == Some(0x17);
+    let most = "at most 16 procedures, then a command";
+    let procedures = reader.items(is_procedure, limit::PROCEDURES, most, |reader| {
+        procedure(reader, form)
+    })?;
     let main = command(&mut reader, 1, form)?;
     reader.ended("nothing behind the command")?;
-    Ok(Program { rules, main })
+    Ok(Program {
+        rules,
+        procedures,
+        main,
+    })
+}
+
+fn procedure(reader: &mut Reader, form: &Form) -> Read<Command> {
+    let mut parts = reader.field(0x17, "procedure")?;
+    one_command(&mut parts, 1, form)
+}
+
+/// The whole of a payload: one command of this depth.
+fn one_command(parts: &mut Reader, depth: usize, form: &Form) -> Read<Command> {
+    let command = command(parts, depth, form)?;
+    parts.ended("one command and nothing more")?;
+    Ok(command)
 }
 
 fn rule(reader: &mut Reader) -> Read<Rule> {
@@ -257,6 +281,7 @@ fn command(reader: &mut Reader, depth: usize, form: &Form) -> Read<Command> {
         Some(0x55) => empty_command(reader, 0x55, "skip", Command::Skip),
         Some(0x56) => empty_command(reader, 0x56, "fail", Command::Fail),
         Some(0x57) => empty_command(reader, 0x57, "break", Command::Break),
+        Some(0x58) if form.procedures => call(reader),
         _ => Err(reader.damage(form.commands)),
     }
 }
@@ -298,9 +323,15 @@ fn guarded_command(keep: bool, mut parts: Reader, depth: usize, form: &Form) -> 
 
 fn loop_command(reader: &mut Reader, depth: usize, form: &Form) -> Read<Command> {
     let mut parts = reader.field(0x54, "loop")?;
-    let body = command(&mut parts, depth + 1, form)?;
-    parts.ended("one command and nothing more")?;
+    let body = one_command(&mut parts, depth + 1, form)?;
     Ok(Command::Loop(Box::new(body)))
+}
+
+fn call(reader: &mut Reader) -> Read<Command> {
+    let mut parts = reader.field(0x58, "call")?;
+    let number = parts.byte("the number of a procedure")?;
+    parts.ended("one byte and nothing more")?;
+    Ok(Command::Procedure(number))
 }
 
 fn empty_command(

@@ -14,9 +14,15 @@ pub fn field(tag: u8, payload: &[u8]) -> Vec<u8> {
 }
 
 pub fn program(program: &Program) -> Vec<u8> {
-    let mut bytes: Vec<u8> = program.rules.iter().flat_map(rule).collect();
-    bytes.extend(command(&program.main));
-    bytes
+    let rules = program.rules.iter().flat_map(rule);
+    let procedures = program.procedures.iter().flat_map(procedure);
+    let main = command(&program.main);
+    rules.chain(procedures).chain(main).collect()
+}
+
+/// The field of a procedure with this command.
+pub fn procedure(body: &Command) -> Vec<u8> {
+    field(0x17, &command(body))
 }
 
 pub fn rule(rule: &Rule) -> Vec<u8> {
@@ -128,6 +134,7 @@ pub fn command(tree: &Command) -> Vec<u8> {
         Command::Skip => field(0x55, &[]),
         Command::Fail => field(0x56, &[]),
         Command::Break => field(0x57, &[]),
+        Command::Procedure(number) => field(0x58, &[*number]),
     }
 }
 

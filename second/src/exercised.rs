@@ -15,6 +15,10 @@ pub struct Exercised {
     /// Failing loop bodies given back after a rule was applied in them.
     pub bodies_undone: u64,
     pub breaks: u64,
+    /// Calls of procedures entered, those entered inside of another, and those whose procedure failed.
+    pub calls: u64,
+    pub calls_in_calls: u64,
+    pub calls_failed: u64,
     /// New nodes and right edges that took a slot which the same application had freed.
     pub slots_reused: u64,
     /// Placements that keep rules 1 to 4 and break the dangling condition.
@@ -43,6 +47,8 @@ pub struct Exercised {
     pub root_flags_kept: u64,
     /// For each guard and body that has begun and not ended, the applications before it.
     applications_before: Vec<u64>,
+    /// The calls that have begun and not ended.
+    calls_underway: u64,
 }
 
 #[derive(Clone, Debug, Default, PartialEq, Eq)]
@@ -69,6 +75,7 @@ impl Observer for Exercised {
             Event::Entered(command) => self.entered(command),
             Event::Attempted => self.applications_before.push(self.applications),
             Event::Kept => drop(self.applications_before.pop()),
+            Event::Returned { failed } => self.returned(failed),
             Event::GuardUndone => self.guards_undone += u64::from(self.applied_in_last()),
             Event::BodyUndone => self.bodies_undone += u64::from(self.applied_in_last()),
             Event::Dangled => self.dangling_refusals += 1,
@@ -91,8 +98,20 @@ impl Exercised {
             Command::Guarded { keep: false, .. } => self.ifs += 1,
             Command::Guarded { keep: true, .. } => self.tries += 1,
             Command::Break => self.breaks += 1,
+            Command::Procedure(_) => self.called(),
             _ => {}
         }
+    }
+
+    fn called(&mut self) {
+        self.calls += 1;
+        self.calls_in_calls += u64::from(self.calls_underway > 0);
+        self.calls_underway += 1;
+    }
+
+    fn returned(&mut self, failed: bool) {
+        self.calls_failed += u64::from(failed);
+        self.calls_underway -= 1;
     }
 
     /// Whether a rule was applied in the guard or body that began last, which has ended.
@@ -213,6 +232,21 @@ mod tests {
         let exercised = seen(&entered);
         assert_eq!((exercised.ifs, exercised.tries), (1, 2));
         assert_eq!((exercised.steps, exercised.breaks), (4, 0));
+    }
+
+    #[test]
+    fn calls_count_inside_of_others_and_where_they_fail() {
+        let call = Command::Procedure(0);
+        let entered = Event::Entered(&call);
+        let returned = |failed| Event::Returned { failed };
+        let one_behind_the_other = [entered, returned(false), entered, returned(true)];
+        let exercised = seen(&one_behind_the_other);
+        assert_eq!((exercised.calls, exercised.calls_in_calls), (2, 0));
+        assert_eq!((exercised.steps, exercised.calls_failed), (2, 1));
+        let inside = [entered, entered, returned(true), entered, returned(false)];
+        let exercised = seen(&inside);
+        assert_eq!((exercised.calls, exercised.calls_in_calls), (3, 2));
+        assert_eq!(exercised.calls_failed, 1);
     }
 
     #[test]

@@ -18,6 +18,7 @@ pub mod applying;
 pub mod calls;
 pub mod commands;
 pub mod decode;
+pub mod depth;
 pub mod host;
 pub mod journal;
 pub mod layout;

@@ -12,6 +12,8 @@ pub enum Event<'a> {
     Attempted,
     /// The changes of what was attempted last stay.
     Kept,
+    /// The procedure of the call that was entered last and hasn't returned yet has ended, with a fail or otherwise.
+    Returned { failed: bool },
     /// A guard's changes are given back.
     GuardUndone,
     /// A failing loop body's changes are given back.

@@ -1,11 +1,12 @@
 //! The old form of images, in which if (0x52) and try (0x53) were commands of their own, with nothing but three commands in
-//! them. All else is as in today's form, and so an image of it has a tree.
+//! them, and there were no procedures. All else is as in today's form, and so an image of it has a tree.
 
 use crate::decode::{program_of, Form, Read, Reader};
 use crate::tree::Program;
 
 const OLD: Form = Form {
     commands: "a command of the old form: tag 0x50 to 0x57",
+    procedures: false,
     guarded,
 };
 

@@ -1,14 +1,17 @@
-//! The *placement* of break: each break lies in a loop body with no guard between them.
+//! The *placement* of break: each break lies in a loop body of its own procedure, or of the main command, with no guard between
+//! them. A loop around a call does not reach into the procedure.
 
 use crate::tree::{Command, Program};
 
 pub fn check(program: &Program) -> bool {
-    breaks_are_placed(&program.main, false)
+    program
+        .commands()
+        .all(|command| breaks_are_placed(command, false))
 }
 
 /// Whether each break of the command is placed, where `in_body` says that a break may stand at the
 /// command itself.
-fn breaks_are_placed(command: &Command, in_body: bool) -> bool {
+pub fn breaks_are_placed(command: &Command, in_body: bool) -> bool {
     if *command == Command::Break {
         return in_body;
     }

@@ -22,6 +22,11 @@ impl Random {
         Random::new(start)
     }
 
+    /// A source of its own, which takes no number of this one.
+    pub fn beside(&self) -> Random {
+        Random::new(mixed(self.state))
+    }
+
     pub fn next(&mut self) -> u64 {
         self.state = self.state.wrapping_add(STEP);
         mixed(self.state)
@@ -100,6 +105,19 @@ mod tests {
         assert_eq!(first, Random::of_index(1, 0).next());
         assert_ne!(first, Random::of_index(1, 1).next());
         assert_ne!(first, Random::of_index(2, 0).next());
+    }
+
+    #[test]
+    fn a_source_beside_another_leaves_it_as_it_was() {
+        let mut random = Random::new(7);
+        let mut beside = random.beside();
+        let drawn: Vec<u64> = (0..3).map(|_| beside.next()).collect();
+        let mut again = Random::new(7);
+        for _ in 0..3 {
+            let next = random.next();
+            assert_eq!(next, again.next());
+            assert!(!drawn.contains(&next));
+        }
     }
 
     #[test]

@@ -3,12 +3,15 @@
 
 use crate::tree::*;
 
-/// All requirements, rule by rule, then those of the command.
+/// All requirements, rule by rule, then those of the commands, procedure by procedure and the main one.
 pub fn check(program: &Program) -> Result<(), String> {
     for (number, rule) in program.rules.iter().enumerate() {
         check_rule(rule).map_err(|reason| format!("rule {number}: {reason}"))?;
     }
-    named_rules_exist(&program.main, program.rules.len())
+    for (number, body) in program.procedures.iter().enumerate() {
+        check_command(body, program).map_err(|reason| format!("procedure {number}: {reason}"))?;
+    }
+    check_command(&program.main, program)
 }
 
 /// The requirements of one rule.
@@ -25,19 +28,34 @@ pub fn check_rule(rule: &Rule) -> Result<(), String> {
     right_any_stands_on_interface_nodes_that_are_any_on_the_left(rule)
 }
 
+/// The requirements of a command and of those inside of it.
+fn check_command(command: &Command, program: &Program) -> Result<(), String> {
+    named_rules_exist(command, program.rules.len())?;
+    named_procedure_exists(command, program.procedures.len())?;
+    let mut parts = command.parts().into_iter();
+    parts.try_for_each(|part| check_command(part, program))
+}
+
 /// Named rules exist.
 pub fn named_rules_exist(command: &Command, rules: usize) -> Result<(), String> {
+    let Command::RuleSet(numbers) = command else {
+        return Ok(());
+    };
+    match numbers.iter().find(|n| usize::from(**n) >= rules) {
+        Some(number) => Err(format!(
+            "a rule set names rule {number}, but there are {rules} rules"
+        )),
+        None => Ok(()),
+    }
+}
+
+/// The procedure that a call names exists.
+pub fn named_procedure_exists(command: &Command, procedures: usize) -> Result<(), String> {
     match command {
-        Command::RuleSet(numbers) => match numbers.iter().find(|n| usize::from(**n) >= rules) {
-            Some(number) => Err(format!(
-                "a rule set names rule {number}, but there are {rules} rules"
-            )),
-            None => Ok(()),
-        },
-        _ => command
-            .parts()
-            .into_iter()
-            .try_for_each(|part| named_rules_exist(part, rules)),
+        Command::Procedure(number) if usize::from(*number) >= procedures => Err(format!(
+            "a call names procedure {number}, but there are {procedures} procedures"
+        )),
+        _ => Ok(()),
     }
 }
 

@@ -1,10 +1,12 @@
 //! Inputs that are refused, one for each clause of document 01 that can refuse: each stands beside an
 //! accepted input from which it differs in that clause alone. The numbers come from the table of answers.
 
+mod depth;
 mod form;
 mod form_of_commands;
 mod form_of_graphs;
 mod form_of_mode;
+mod form_of_procedures;
 mod form_of_tests;
 mod full_images;
 mod placement;
@@ -71,6 +73,7 @@ pub fn of_run() -> Vec<Refusal<RunCall>> {
     refusals.push(full_images::old_form());
     refusals.extend(programs::refusals(17, references::images_of_references()));
     refusals.extend(programs::refusals(18, placement::images_of_placement()));
+    refusals.extend(programs::refusals(19, depth::images_of_depth()));
     refusals
 }
 
@@ -82,7 +85,7 @@ pub fn runner_inputs() -> Vec<(String, RunnerInput, u32)> {
         .collect()
 }
 
-/// A call of run that is refused for each of these numbers from 9 to 18 and for no other.
+/// A call of run that is refused for each of these numbers from 9 to 19 and for no other.
 pub fn run_refused_for(numbers: &[u32]) -> RunCall {
     let mut call = accepted_run();
     let given = |number: u32| numbers.contains(&number);
@@ -94,7 +97,7 @@ pub fn run_refused_for(numbers: &[u32]) -> RunCall {
     if given(13) {
         call.fuel = calls::MOST_FUEL + 1;
     }
-    call.program = program_refused_for(given(14), given(16), given(17), given(18));
+    call.program = program_refused_for(&given);
     call
 }
 
@@ -111,19 +114,24 @@ fn break_lengths(numbers: &[u32], report: &mut Vec<u8>, tables: [&mut Vec<u8>; 3
     }
 }
 
-fn program_refused_for(length: bool, form: bool, references: bool, placement: bool) -> Vec<u8> {
-    let mut commands = vec![Command::RuleSet(vec![if references { 1 } else { 0 }])];
-    if placement {
+/// A program with those things wrong that are refused by a given number from 14 to 19.
+fn program_refused_for(given: &dyn Fn(u32) -> bool) -> Vec<u8> {
+    let mut commands = vec![Command::RuleSet(vec![if given(17) { 1 } else { 0 }])];
+    if given(18) {
         commands.push(Command::Break);
     }
-    if length {
+    if given(14) {
         commands.push(programs::command_of_bytes(tree::limit::IMAGE_BYTES));
     }
     let mut image = encode::program(&Program {
         rules: vec![programs::rule()],
+        procedures: given(19)
+            .then_some(Command::Procedure(0))
+            .into_iter()
+            .collect(),
         main: Command::Sequence(commands),
     });
-    if form {
+    if given(16) {
         image.push(0);
     }
     image

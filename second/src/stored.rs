@@ -120,12 +120,16 @@ fn hexadecimal(bytes: &[u8]) -> String {
 }
 
 /// Calls of run: refused ones, then their accepted twins and drawn ones, the shortest first, each once and as many as are read. The
-/// line of a case is the number that refuses it, 0 where the run starts.
+/// line of a case is the number that refuses it, 0 where the run starts. Where the image is what is refused, empty tables are lent, so
+/// that more are read.
 pub fn refusal_cases() -> Stored {
     let mut calls: Vec<RunCall> = Vec::new();
     for refusal in refusals::of_run() {
-        calls.push(refusal.accepted);
-        calls.push(refusal.refused);
+        let twins = [refusal.accepted, refusal.refused];
+        match refusal.answer >= answer::FORM {
+            true => calls.extend(twins.map(on_empty_tables)),
+            false => calls.extend(twins),
+        }
     }
     calls.extend(drawn_calls());
     calls.sort_by_cached_key(|call| {
@@ -144,6 +148,10 @@ pub fn refusal_cases() -> Stored {
         writeln!(stdout, "{}", refused_by(call)).expect("a string takes all");
     }
     Stored { stdin, stdout }
+}
+
+fn on_empty_tables(call: RunCall) -> RunCall {
+    RunCall { nodes: Vec::new(), edges: Vec::new(), journal: Vec::new(), ..call }
 }
 
 /// The number that refuses a run, 0 where it starts.

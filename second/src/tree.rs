@@ -1,7 +1,8 @@
-//! The tree that a program image stands for: rules and one command.
+//! The tree that a program image stands for: rules, procedures and one command.
 //!
 //! Every type follows a bullet of the section "The program image" of the scope document. A tree can hold
-//! what *form* allows, so references may still dangle and a break may still stand in a wrong place.
+//! what *form* allows, so references may still dangle, a break may still stand in a wrong place, and procedures may
+//! still call each other in a ring.
 
 /// Mark numbers, as tables and images write them.
 pub mod mark {
@@ -24,6 +25,7 @@ pub mod mark {
 pub mod limit {
     pub const IMAGE_BYTES: usize = 8192;
     pub const RULES: usize = 32;
+    pub const PROCEDURES: usize = 16;
     pub const VARIABLES: usize = 6;
     pub const NODES: usize = 6;
     pub const EDGES: usize = 6;
@@ -37,7 +39,29 @@ pub mod limit {
 #[derive(Clone, Debug, PartialEq, Eq)]
 pub struct Program {
     pub rules: Vec<Rule>,
+    /// The command of each procedure.
+    pub procedures: Vec<Command>,
     pub main: Command,
+}
+
+impl Program {
+    pub fn without_procedures(rules: Vec<Rule>, main: Command) -> Program {
+        Program {
+            rules,
+            procedures: Vec::new(),
+            main,
+        }
+    }
+
+    /// The commands of the procedures in their order, then the main command.
+    pub fn commands(&self) -> impl Iterator<Item = &Command> {
+        self.procedures.iter().chain([&self.main])
+    }
+
+    /// The same, to be changed in place.
+    pub fn commands_mut(&mut self) -> impl Iterator<Item = &mut Command> {
+        self.procedures.iter_mut().chain([&mut self.main])
+    }
 }
 
 /// The default rule has nothing on either side.
@@ -145,6 +169,8 @@ pub enum Command {
     Skip,
     Fail,
     Break,
+    /// A call of the procedure of this number.
+    Procedure(u8),
 }
 
 impl Command {
@@ -156,7 +182,11 @@ impl Command {
                 guard, then, other, ..
             } => vec![guard, then, other],
             Command::Loop(body) => vec![body],
-            Command::RuleSet(_) | Command::Skip | Command::Fail | Command::Break => Vec::new(),
+            Command::RuleSet(_)
+            | Command::Skip
+            | Command::Fail
+            | Command::Break
+            | Command::Procedure(_) => Vec::new(),
         }
     }
 
@@ -168,7 +198,42 @@ impl Command {
                 guard, then, other, ..
             } => vec![guard, then, other],
             Command::Loop(body) => vec![body],
-            Command::RuleSet(_) | Command::Skip | Command::Fail | Command::Break => Vec::new(),
+            Command::RuleSet(_)
+            | Command::Skip
+            | Command::Fail
+            | Command::Break
+            | Command::Procedure(_) => Vec::new(),
         }
+    }
+
+    /// How many commands it has, itself included.
+    pub fn size(&self) -> usize {
+        1 + self.parts().into_iter().map(Command::size).sum::<usize>()
+    }
+
+    /// How deep the deepest command in it lies, where it has depth 1 itself and calls are not looked into.
+    pub fn depth(&self) -> usize {
+        1 + self
+            .parts()
+            .into_iter()
+            .map(Command::depth)
+            .max()
+            .unwrap_or(0)
+    }
+
+    /// The command of a number below the size, to be changed in place: each comes before those inside of it.
+    pub fn at_mut(&mut self, number: usize) -> &mut Command {
+        if number == 0 {
+            return self;
+        }
+        let mut behind = number - 1;
+        for part in self.parts_mut() {
+            let inside = part.size();
+            if behind < inside {
+                return part.at_mut(behind);
+            }
+            behind -= inside;
+        }
+        panic!("no command has the number {number}")
     }
 }

@@ -19,6 +19,8 @@ mod listings;
 mod matching;
 #[path = "cases/modes.rs"]
 mod modes;
+#[path = "cases/procedures.rs"]
+mod procedures;
 #[path = "cases/rules.rs"]
 mod rules;
 #[path = "cases/undo.rs"]

@@ -14,7 +14,7 @@ use second::listing::{call_of, listing, read_input};
 use second::random::Random;
 use second::text::grouped;
 use second::tree::{Mode, Program};
-use second::{decode, placement, references};
+use second::{decode, depth, placement, references};
 
 /// A file of the stored corpus: the test program reads the images and must write the listings.
 fn stored(name: &str) -> Vec<u8> {
@@ -63,8 +63,8 @@ fn the_stored_corpus_exercises_everything() {
     let corpus = stored("stdin");
     let parts = split(&corpus).unwrap();
     let figures = Statistics::of(&parts);
-    assert!(corpus.len() <= 2_450_000, "{} bytes", corpus.len());
-    for answer in [0, 1, 2, 3, 4, 5, 6, 10, 11, 13, 14, 15, 16, 17, 18] {
+    assert!(corpus.len() <= 2_510_000, "{} bytes", corpus.len());
+    for answer in [0, 1, 2, 3, 4, 5, 6, 10, 11, 13, 14, 15, 16, 17, 18, 19] {
         assert!(
             figures.answers.contains_key(&answer),
             "answer {answer} doesn't occur"
@@ -190,7 +190,7 @@ fn drawn_images_have_damaged_guarded_commands() {
         expected.starts_with("1 where a successful guard's")
     });
     let bad_tag = damages(&programs, |expected, tag| {
-        let other = tag.is_some_and(|tag| [0x52, 0x53, 0x58, 0x5A].contains(&tag));
+        let other = tag.is_some_and(|tag| [0x52, 0x53, 0x5A].contains(&tag));
         expected.starts_with("a command: ") && other
     });
     assert!(bad_byte >= 2 && bad_tag >= 2, "{bad_byte} {bad_tag}");
@@ -227,6 +227,65 @@ fn drawn_images_have_modes_and_damaged_ones() {
     assert!(found.iter().all(|count| *count >= 2), "{found:?}");
 }
 
+/// Procedures and calls that are damaged in their form: in place, number and payload of procedures, in the length of calls.
+#[test]
+fn drawn_images_have_procedures_and_damaged_ones() {
+    let programs = drawn_programs();
+    let legal = programs
+        .iter()
+        .filter_map(|image| decode::program(image).ok());
+    let having = legal
+        .filter(|program| !program.procedures.is_empty())
+        .count();
+    assert!(having >= 1500, "{having}");
+    let of = |start: &str| damages(&programs, |expected, _| expected.starts_with(start));
+    let at = |start: &str, byte: u8| {
+        damages(&programs, |expected, found| {
+            expected.starts_with(start) && found == Some(byte)
+        })
+    };
+    let found = [
+        of("at most 16 procedures"),
+        at("nothing behind the command", 0x17),
+        at("a command: ", 0x10),
+        at("a command: ", 0x17),
+        at("one command and nothing more", 0x55),
+        of("the number of a procedure"),
+        at("one byte and nothing more", 0),
+    ];
+    assert!(found.iter().all(|count| *count >= 2), "{found:?}");
+}
+
+/// Answers 17, 18 and 19 for what is wrong with calls.
+#[test]
+fn drawn_images_have_calls_that_are_refused() {
+    let programs = drawn_programs();
+    let read = programs
+        .iter()
+        .filter_map(|image| decode::program(image).ok());
+    let (mut missing, mut outside, mut rings, mut deep) = (0, 0, 0, 0);
+    for program in read {
+        match references::check(&program) {
+            Err(reason) => missing += u32::from(reason.contains("a call names procedure")),
+            Ok(()) if !placement::check(&program) => {
+                outside += u32::from(
+                    !program
+                        .procedures
+                        .iter()
+                        .all(|it| placement::breaks_are_placed(it, false)),
+                );
+            }
+            Ok(()) => {
+                let reason = depth::check(&program).err().map(|fault| fault.reason);
+                rings += u32::from(reason.iter().any(|it| it.starts_with("a ring")));
+                deep += u32::from(reason.iter().any(|it| !it.starts_with("a ring")));
+            }
+        }
+    }
+    let found = [missing, outside, rings, deep];
+    assert!(found.iter().all(|count| *count >= 5), "{found:?}");
+}
+
 #[test]
 fn an_image_depends_on_its_seed_and_index_alone() {
     let index = fixed_count() + 5;
@@ -246,6 +305,7 @@ fn legal_programs_are_legal() {
         assert_eq!(decode::program(&bytes).as_ref(), Ok(&program));
         assert_eq!(references::check(&program), Ok(()), "{program:?}");
         assert!(placement::check(&program), "{program:?}");
+        assert!(depth::check(&program).is_ok(), "{program:?}");
     }
 }
 

@@ -159,10 +159,7 @@ fn labelling(layout: &Layout, atoms: usize) -> RunCall {
         nodes: layout.node_slot(mark::NONE, false, &[]),
         edges: vec![],
         journal: vec![0; layout.record_length()],
-        program: encode::program(&Program {
-            rules: vec![rule],
-            main: call(0),
-        }),
+        program: encode::program(&Program::without_procedures(vec![rule], call(0))),
         fuel: 1,
         report: vec![0; 8],
     }

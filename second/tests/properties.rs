@@ -40,6 +40,9 @@ fn the_samples_exercise_what_they_should() {
         it.guards_undone,
         it.bodies_undone,
         it.breaks,
+        it.calls,
+        it.calls_in_calls,
+        it.calls_failed,
         it.slots_reused,
         it.dangling_refusals,
         it.tests_true.edge.min(it.tests_false.edge),
@@ -309,8 +312,8 @@ fn change_byte(random: &mut Random, bytes: &mut [u8]) {
 }
 
 #[test]
-fn answers_9_to_18_leave_everything_but_the_report() {
-    let mut refused = [0; 19];
+fn answers_9_to_19_leave_everything_but_the_report() {
+    let mut refused = [0; 20];
     for seed in 0..DRAFTS {
         let Damaged {
             given,
@@ -333,7 +336,7 @@ fn answers_9_to_18_leave_everything_but_the_report() {
         refused[outcome.answer as usize] += 1;
         let report = match outcome.answer {
             9 => given.report.clone(),
-            10..=18 => vec![0; 8],
+            10..=19 => vec![0; 8],
             _ => continue,
         };
         let expected = Outcome {
@@ -359,7 +362,7 @@ fn any_bytes_get_an_answer() {
         };
         let (nodes, edges, journal, program) = (bytes(40), bytes(48), bytes(56), bytes(60));
         let outcome = run(&nodes, &edges, &journal, &program, 100, &[0; 8]);
-        assert!([0, 1, 2, 10, 11, 12, 15, 16, 17, 18].contains(&outcome.answer));
+        assert!([0, 1, 2, 10, 11, 12, 15, 16, 17, 18, 19].contains(&outcome.answer));
         let outcome = undo(&nodes, &edges, &journal, seed as u32 % 3, &[0; 8]);
         assert!([0, 10, 11, 12, 20].contains(&outcome.answer));
     }

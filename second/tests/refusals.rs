@@ -6,6 +6,7 @@ use std::process::{Command, Output, Stdio};
 
 use second::calls::Outcome;
 use second::decode;
+use second::depth;
 use second::encode;
 use second::host::Host;
 use second::layout::Layout;
@@ -100,7 +101,7 @@ fn every_number_has_refusals_and_every_name_is_different() {
         .into_iter()
         .map(|it| (it.name, it.answer))
         .collect();
-    for number in 9..=18 {
+    for number in 9..=19 {
         assert!(run.iter().any(|(_, answer)| *answer == number), "{number}");
     }
     for number in [9, 10, 11, 12, 20] {
@@ -112,7 +113,7 @@ fn every_number_has_refusals_and_every_name_is_different() {
 
 #[test]
 fn the_lowest_number_of_any_set_wins_in_run() {
-    let numbers: Vec<u32> = (9..=18).collect();
+    let numbers: Vec<u32> = (9..=19).collect();
     for set in sets(&numbers) {
         let call = run_refused_for(&set);
         assert_eq!(call.outcome(), refused_run(&call, set[0]), "{set:?}");
@@ -166,12 +167,12 @@ fn damage_is_said_with_its_place_and_what_was_expected() {
             it.name
         );
     }
-    let damage = decode::program(&[0x51, 0, 6, 0x55, 0, 0, 0x58, 0, 0]).unwrap_err();
+    let damage = decode::program(&[0x51, 0, 6, 0x55, 0, 0, 0x5a, 0, 0]).unwrap_err();
     assert_eq!((damage.at, &damage.field[..]), (6, "sequence"));
 }
 
 #[test]
-fn a_broken_reference_or_layout_has_a_reason() {
+fn a_broken_layout_reference_or_depth_has_a_reason() {
     for it in of_run() {
         match it.answer {
             15 => {
@@ -181,6 +182,11 @@ fn a_broken_reference_or_layout_has_a_reason() {
             17 => {
                 let program = decode::program(&it.refused.program).expect(&it.name);
                 assert!(!references::check(&program).expect_err(&it.name).is_empty());
+            }
+            19 => {
+                let program = decode::program(&it.refused.program).expect(&it.name);
+                let fault = depth::check(&program).expect_err(&it.name);
+                assert!(!fault.reason.is_empty(), "{}", it.name);
             }
             _ => {}
         }
@@ -199,7 +205,7 @@ fn the_runner_refuses_each_input_that_isnt_the_five_fields() {
 #[test]
 fn the_runner_lists_the_number_of_a_refused_call() {
     let inputs = runner_inputs();
-    for number in [10, 11, 13, 14, 15, 16, 17, 18] {
+    for number in [10, 11, 13, 14, 15, 16, 17, 18, 19] {
         assert!(
             inputs.iter().any(|(_, _, answer)| *answer == number),
             "{number}"

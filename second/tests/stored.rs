@@ -29,7 +29,7 @@ fn undo_cases_have_every_answer_of_undo() {
 #[test]
 fn refusal_cases_have_every_refusal_of_run() {
     let text = stored::refusal_cases().stdout;
-    for answer in [0, 9, 10, 11, 12, 13, 14, 15, 16, 17, 18] {
+    for answer in [0, 9, 10, 11, 12, 13, 14, 15, 16, 17, 18, 19] {
         assert!(text.lines().any(|line| line == answer.to_string()), "no case answers {answer}");
     }
 }

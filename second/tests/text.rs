@@ -18,6 +18,10 @@ mod legal_programs;
 mod modes;
 #[path = "text/passes.rs"]
 mod passes;
+#[path = "text/procedures.rs"]
+mod procedures;
+#[path = "text/procedures_in_images.rs"]
+mod procedures_in_images;
 #[path = "text/refused_conditions.rs"]
 mod refused_conditions;
 #[path = "text/refused_programs.rs"]

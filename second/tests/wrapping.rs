@@ -1,6 +1,6 @@
 //! Programs that differ only in wrapping give the same. Wrapping is sequences and skips: how commands are grouped into sequences,
-//! and where skips stand beside others. Answer, tables, journal and records are equal, and so are the steps that enter no sequence
-//! and no skip.
+//! and where skips stand beside others. Answer, tables, journal and records are equal, and so are the steps that enter no sequence,
+//! no skip and no call.
 
 #[path = "wrapping/acting.rs"]
 mod acting;
@@ -19,13 +19,13 @@ use acting::{acting, Acting};
 use acting_changes::{dropped, exchanged};
 use common::{drafts, samples, Draft, Sample};
 use comparing::Run;
-use places::{depth, insides};
+use places::insides;
 use rewrapping::{rewrapped, CHANGES};
 use second::corpus::legal_program;
 use second::random::Random;
 use second::text::assemble_program;
 use second::tree::{limit, Command, Program};
-use second::{decode, encode, placement, references};
+use second::{decode, depth, encode, placement, references};
 
 /// What the compared pairs had in them.
 #[derive(Debug, Default)]
@@ -99,16 +99,17 @@ fn rewrapping_keeps_programs_legal_and_changes_no_acting_command() {
         let random = &mut Random::of_index(15, index as u64);
         let (other, changes) = rewrapped(random, &program);
         assert_eq!(other.rules, program.rules);
-        assert_eq!(acting(&other.main), acting(&program.main));
+        assert_eq!(acting(&other), acting(&program));
         let image = encode::program(&other);
         assert!(image.len() <= limit::IMAGE_BYTES);
         assert_eq!(decode::program(&image).as_ref(), Ok(&other));
         assert_eq!(references::check(&other), Ok(()));
         assert!(placement::check(&other));
+        assert!(depth::check(&other).is_ok());
         (0..made.len()).for_each(|change| made[change] += changes[change]);
         let (before, after) = (insides(&program.main), insides(&other.main));
         (0..3).for_each(|kind| inside[kind] += usize::from(before[kind] != after[kind]));
-        at_limits[0] += usize::from(depth(&other.main) == limit::DEPTH);
+        at_limits[0] += usize::from(other.main.depth() == limit::DEPTH);
         at_limits[1] += usize::from(has_full_sequence(&other.main));
     }
     assert!(made.iter().all(|count| *count >= 1_000), "{made:?}");
@@ -131,7 +132,7 @@ fn noticed(change: Change) -> usize {
         let Some(program) = change(random, &draft.program) else {
             return false;
         };
-        let unlike = acting(&program.main) != acting(&draft.program.main);
+        let unlike = acting(&program) != acting(&draft.program);
         let other = Draft {
             program,
             fuel: 2_000,
@@ -184,7 +185,7 @@ fn the_grouping_of_long_sequences_in_text_only_wraps() {
         let flat: Vec<Acting> = commands.into_iter().flat_map(|(_, it)| it).collect();
         let main = |text: String| {
             let program = assemble_program("test", &format!("Main = {text}{RULES}"));
-            acting(&program.expect("a legal text").main)
+            acting(&program.expect("a legal text"))
         };
         let row = texts.join("; ");
         assert_eq!(main(row.clone()), flat);

@@ -81,6 +81,7 @@ fn refusal_number(why: Refusal) -> u32
         Refusal::BadForm => 16,
         Refusal::BadReferences => 17,
         Refusal::BadPlacement => 18,
+        Refusal::BadDepth => 19,
         Refusal::BadRecords => 20,
     }
 }

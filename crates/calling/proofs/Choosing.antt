@@ -11,7 +11,7 @@ use lib.Dec.{ltb}
 use lib.ListN.{length, getD, drop}
 use lib.Seq.{drop-cons, drop-length}
 use Rattle.meaning.specs.Layout.{Host, hostOf}
-use Rattle.meaning.specs.Image.{Rule, Program, rule, program}
+use Rattle.meaning.specs.Image.{Rule, RawProgram, rule, rawProgram}
 use Rattle.meaning.specs.FirstMatch.{firstMatch}
 use Rattle.meaning.specs.Commands.{orLater, ruleAt, firstRule}
 use Rattle.meaning.specs.Laws.Tests.{some-inj, every-true}
@@ -53,14 +53,14 @@ module _ (rules : List Rule) (h : Host) where
 
 -- the numbers are those of rules
 module _ (image numbers : List ℕ) (listed : Listed image numbers) where
-  same-program : For (program image) (λ p. listed .programmed .tree ≡ p)
+  same-program : For (rawProgram image) (λ p. listed .programmed .tree ≡ p)
   same-program p e = some-inj _ _ (sym (listed .programmed .is) ∙ e)
 
-  listed-inside : (i n : ℕ) → i < length numbers → n ≡ getD numbers i 0 → For (program image) (λ p. n < length (p .rules))
+  listed-inside : (i n : ℕ) → i < length numbers → n ≡ getD numbers i 0 → For (rawProgram image) (λ p. n < length (p .rules))
   listed-inside i n h q p e =
       let m : ℕ = length (listed .programmed .tree .rules) in
       let k : getD numbers i 0 < m = ltb-true (getD numbers i 0) m (every-true (λ j. ltb j m) numbers 0 (listed .exist) i h) in
-      let z : m ≡ length (p .rules) = ap (λ (x : Program). length (x .rules)) (same-program p e) in
+      let z : m ≡ length (p .rules) = ap (λ (x : RawProgram). length (x .rules)) (same-program p e) in
       omega (arith, q, k, z)
 
 -- The search.
@@ -68,7 +68,7 @@ module _ (image numbers : List ℕ) (listed : Listed image numbers) where
 module _ (L : Layout) (image numbers nodes edges : List ℕ) where
   -- the rules before place i have no match
   abbrev pub Passed : ℕ → Type 0
-  Passed i = For (program image)
+  Passed i = For (rawProgram image)
       (λ p. firstRule (p .rules) (hostOf L nodes edges) numbers ≡ firstRule (p .rules) (hostOf L nodes edges) (drop i numbers))
 
   -- all were passed
@@ -85,13 +85,13 @@ pub record Tried (image numbers bs : List ℕ) (i n : ℕ) : Type 0 where
   pub listed : Listed image numbers
   pub inside : i < length numbers
   pub number : n ≡ getD numbers i 0
-  pub part : For (program image) (λ p. n < length (p .rules) → (d : Rule) → rule bs ≡ some (getD (p .rules) n d))
+  pub part : For (rawProgram image) (λ p. n < length (p .rules) → (d : Rule) → rule bs ≡ some (getD (p .rules) n d))
 
 module _ {image numbers bs : List ℕ} {i n : ℕ} (t : Tried image numbers bs i n) where
-  exists : For (program image) (λ p. n < length (p .rules))
+  exists : For (rawProgram image) (λ p. n < length (p .rules))
   exists p e = listed-inside image numbers (t .listed) i n (t .inside) (t .number) p e
 
-  there : For (program image) (λ p. rule bs ≡ some (ruleAt (p .rules) n))
+  there : For (rawProgram image) (λ p. rule bs ≡ some (ruleAt (p .rules) n))
   there p e = t .part p e (exists p e) _
 
   pub is-rule : IsRule bs

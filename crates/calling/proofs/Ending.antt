@@ -5,7 +5,7 @@ use mathlib.Core.Path.{_≡_, refl, sym, ap, subst}
 use mathlib.Core.Option.{Option, some, none}
 use mathlib.Core.List.{List}
 use lib.ListN.{length, getD}
-use Rattle.meaning.specs.Image.{Rule, rule, program}
+use Rattle.meaning.specs.Image.{Rule, rule, rawProgram}
 use Rattle.meaning.specs.Applying.{Ledger, apply}
 use Rattle.meaning.specs.Commands.{ends, afterApplying, Chosen, ruleAt, firstRule, ruleCall, stateAt}
 use Rattle.meaning.specs.Calls.{journalRoom}
@@ -85,14 +85,14 @@ fails {L} {image} {numbers} {nodes} {edges} {journal} t choice q run =
 pub record Found (L : Layout) (image numbers nodes edges bs : List ℕ) (c : Choice) (lens atoms : List ℕ) : Type 0 where
   pub choice : IsChoice L image numbers nodes edges c lens atoms
   pub match : c .matched .outcome ≡ Match
-  pub part : For (program image)
+  pub part : For (rawProgram image)
       (λ p. c .number < length (p .rules) → (d : Rule) → rule bs ≡ some (getD (p .rules) (c .number) d))
 
 module _ {L : Layout} {image numbers nodes edges bs lens atoms : List ℕ} {c : Choice} (f : Found L image numbers nodes edges bs c lens atoms) where
-  there : For (program image) (λ p. rule bs ≡ some (ruleAt (p .rules) (c .number)))
+  there : For (rawProgram image) (λ p. rule bs ≡ some (ruleAt (p .rules) (c .number)))
   there p e = f .part p e (f .choice .match p e (f .match) .there) _
 
-  chosen : For (program image)
+  chosen : For (rawProgram image)
       (λ p. chosenAt (p .rules) (c .number) (c .matched .slots) Match ≡ firstRule (p .rules) (hostOf L nodes edges) numbers)
   chosen p e = rw (f .match) at (f .choice .right p e)
 

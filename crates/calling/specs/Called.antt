@@ -8,7 +8,7 @@ use Prim.Native.Nat.{ℕ}
 use lib.ListN.{length}
 use lib.Dec.{ltb}
 use Rattle.meaning.specs.Basics.{every}
-use Rattle.meaning.specs.Image.{Program, program}
+use Rattle.meaning.specs.Image.{RawProgram, rawProgram}
 use Rattle.meaning.specs.Commands.{firstRule, ruleCall}
 use Rattle.meaning.specs.Calls.{journalRoom}
 use Rattle.laws.specs.LegalCommands.{LegalRules}
@@ -20,8 +20,8 @@ use Rattle.meaning.specs.declared.Ran.{Ran}
 
 -- the image is a program whose rules are legal
 pub record Programmed (image : List ℕ) : Type 0 where
-  pub tree : Program
-  pub is : program image ≡ some tree
+  pub tree : RawProgram
+  pub is : rawProgram image ≡ some tree
   pub legal : LegalRules (tree .rules)
 
 -- and the numbers are those of its rules
@@ -32,7 +32,7 @@ pub record Listed (image numbers : List ℕ) : Type 0 where
 module _ (L : Layout) where
   -- what a call of the rules of these numbers leaves: the definition's end and state, and bytes that run on
   pub record Called (image numbers nodes edges journal : List ℕ) (t : Tally) (r : Ran) (nodes′ edges′ journal′ : List ℕ) : Type 0 where
-    pub right : (p : Program) → program image ≡ some p
+    pub right : (p : RawProgram) → rawProgram image ≡ some p
         → outOf L r nodes′ edges′ journal′
         ≡ ruleCall (L .atoms) (journalRoom L journal) (p .rules) (firstRule (p .rules) (hostOf L nodes edges) numbers) (stateOf L nodes edges journal t)
     pub running : Running L nodes′ edges′ journal′ (r .tally .records)

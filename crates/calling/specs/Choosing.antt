@@ -7,7 +7,7 @@ use mathlib.Core.List.{List}
 use Prim.Native.Nat.{ℕ, _<_}
 use lib.ListN.{length, take}
 use Rattle.meaning.specs.Basics.{absent}
-use Rattle.meaning.specs.Image.{Rule, program, mostItems}
+use Rattle.meaning.specs.Image.{Rule, rawProgram, mostItems}
 use Rattle.meaning.specs.References.{names}
 use Rattle.meaning.specs.Assigned.{assigned}
 use Rattle.meaning.specs.Commands.{Chosen, ruleAt, firstRule}
@@ -46,10 +46,10 @@ module _ (L : Layout) where
 
   -- the first listed rule that has a match
   pub record IsChoice (image numbers nodes edges : List ℕ) (c : Choice) (lens atoms : List ℕ) : Type 0 where
-    pub right : For (program image)
+    pub right : For (rawProgram image)
         (λ p. chosenAt (p .rules) (c .number) (c .matched .slots) (c .matched .outcome)
         ≡ firstRule (p .rules) (hostOf L nodes edges) numbers)
-    pub match : For (program image) (λ p. c .matched .outcome ≡ Match → HasMatch (p .rules) nodes edges c lens atoms)
+    pub match : For (rawProgram image) (λ p. c .matched .outcome ≡ Match → HasMatch (p .rules) nodes edges c lens atoms)
 
 -- How applying it ends the call.
 

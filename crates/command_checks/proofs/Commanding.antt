@@ -1,5 +1,5 @@
--- What is asked of commands, put beside References and Placement; and laws of it for the code, by a command's tag.
--- Rests on Asked, the meaning's References and Placement.
+-- Laws for the code that walks commands: a command by its tag, commands one after the other, what is asked of the first part, rule
+-- numbers and calls. Rests on Asked and Demands.
 use mathlib.Core.Path.{_≡_, refl, sym, _∙_, ap}
 use mathlib.Core.Bool.{Bool, true, false}
 use mathlib.Core.Option.{some, none}
@@ -7,201 +7,190 @@ use mathlib.Core.List.{List, [], _∷_}
 use Prim.Native.Nat.{ℕ, suc, _+_, _-_, _<_, _≤_}
 use native.Mathlib.Omega.{arith}
 use native.Mathlib.Numerals.{add-one}
+use borrow.Author.Tests.{lt-ltb, le-ltb}
 use lib.ListN.{length, getD, take, drop, drop-of-length-le}
 use lib.Seq.{drop-cons}
 use lib.Dec.{ltb}
 use Rattle.meaning.specs.Basics.{both, every, isEmpty, ensure, _>>_, _>>=_}
-use Rattle.meaning.specs.Tags.{ruleSetTag, sequenceTag, loopTag, breakTag, guardedTag}
-use Rattle.meaning.specs.Image.{Command, ruleSet, sequence, guarded, loop, skip, fail, break, Commands, noMore, then, field, leading, only, passesAll, inOrder, command, Program}
-use Rattle.meaning.specs.References.{rulesExist, allRulesExist}
-use Rattle.meaning.specs.Placement.{breaksLie, allBreaksLie, placement}
+use Rattle.meaning.specs.Tags.{ruleSetTag, sequenceTag, loopTag, breakTag, callTag, guardedTag}
+use Rattle.meaning.specs.Image.{Raw, ruleSet, sequence, guarded, loop, skip, fail, break, call, field, leading, only, passesAll, inOrder, command}
 use Rattle.meaning.specs.Laws.Tests.{both-yes, both-no, both-last, choose-eq, choose-ne}
-use Rattle.fields.specs.Parsed.{tagOf, command-tag, rule-set-read, sequence-read, guarded-read, loop-read, skip-read, fail-read, break-read}
+use Rattle.fields.specs.Parsed.{tagOf, command-tag, rule-set-read, sequence-read, guarded-read, loop-read, skip-read, fail-read, break-read, call-read}
 use Rattle.fields.specs.Laws.{Lies}
 use Rattle.command_checks.specs.declared.Demand.{Demand}
-use Rattle.command_checks.specs.declared.Demand.the-variants.{Rules, Breaks}
+use Rattle.command_checks.specs.declared.Demand.the-variants.{Depth}
 use Rattle.parts.specs.Series.{For, Series, only-series, series-none, series-some, series-there}
-use Rattle.command_checks.specs.Asked.{numbersAsked, breakAsked, inBody, inGuard, commandAsked, commandsAsked, partsAsked, ofFirst, innerOf}
-
--- The two demands.
-
-mutual
-  unfolding commandAsked commandsAsked numbersAsked rulesExist allRulesExist
-
-  pub rules-asked : (n : ℕ) (c : Command) → commandAsked (Rules n) c ≡ rulesExist c n
-  rules-asked n (ruleSet l) = refl
-  rules-asked n (sequence cs) = all-rules-asked n cs
-  rules-asked n (guarded keep g a b) = rw (rules-asked n g, rules-asked n a, rules-asked n b)
-  rules-asked n (loop c) = rules-asked n c
-  rules-asked n skip = refl
-  rules-asked n fail = refl
-  rules-asked n break = refl
-
-  all-rules-asked : (n : ℕ) (cs : Commands) → commandsAsked (Rules n) cs ≡ allRulesExist cs n
-  all-rules-asked n noMore = refl
-  all-rules-asked n (then c cs) = rw (rules-asked n c, all-rules-asked n cs)
-
-mutual
-  unfolding commandAsked commandsAsked numbersAsked breaksLie allBreaksLie
-
-  pub breaks-asked : (ok : Bool) (c : Command) → commandAsked (Breaks ok) c ≡ breaksLie c ok
-  breaks-asked ok (ruleSet l) = refl
-  breaks-asked ok (sequence cs) = all-breaks-asked ok cs
-  breaks-asked ok (guarded keep g a b) = rw (breaks-asked false g, breaks-asked ok a, breaks-asked ok b)
-  breaks-asked ok (loop c) = breaks-asked true c
-  breaks-asked ok skip = refl
-  breaks-asked ok fail = refl
-  breaks-asked ok break = refl
-
-  all-breaks-asked : (ok : Bool) (cs : Commands) → commandsAsked (Breaks ok) cs ≡ allBreaksLie cs ok
-  all-breaks-asked ok noMore = refl
-  all-breaks-asked ok (then c cs) = rw (breaks-asked ok c, all-breaks-asked ok cs)
+use Rattle.command_checks.specs.Asked.{roomAsked, numbersAsked, breakAsked, callAsked, inside, breaking, commandAsked, commandsAsked, partsAsked, ofFirst, innerOf}
+use Rattle.command_checks.proofs.Demands.{nothing-stands}
 
 -- A command by its tag.
 
-sequence-parts : (d : Demand) (l : List Command) → partsAsked d d l ≡ commandsAsked d (inOrder l)
+sequence-parts : (d : Demand) (t : List ℕ) (l : List Raw) → partsAsked d d t l ≡ commandsAsked d t (inOrder l)
 unfolding partsAsked commandsAsked inOrder
-sequence-parts d [] = refl
-sequence-parts d (c ∷ l) = ap (both (commandAsked d c)) (sequence-parts d l)
+sequence-parts d t [] = refl
+sequence-parts d t (c ∷ l) = ap (both (commandAsked d t c)) (sequence-parts d t l)
 
 empty-parts : (n : ℕ) → only passesAll (command n) 16 [] ≡ some []
 unfolding only leading _>>=_ ensure _>>_ isEmpty
 empty-parts n = refl
 
-module _ (d : Demand) (n tag : ℕ) (bs : List ℕ) where
-  pub no-depth : (r : Bool) → n ≡ 0 → For (command n tag bs) (λ c. r ≡ commandAsked d c)
+module _ (d : Demand) (t : List ℕ) (n tag : ℕ) (bs : List ℕ) where
+  pub no-depth : (r : Bool) → n ≡ 0 → For (command n tag bs) (λ c. r ≡ commandAsked d t c)
   no-depth r h c e = absurd (omega (arith, command-tag n tag bs c e .0))
 
-  rule-set-is : (r : Bool) → r ≡ numbersAsked d bs → tag ≡ ruleSetTag → For (command (suc n) tag bs) (λ c. r ≡ commandAsked d c)
-  unfolding commandAsked
-  rule-set-is r q h c e = rw (rule-set-read n tag bs c e h .0) q
+  pub no-room : roomAsked d ≡ false → For (command n tag bs) (λ c. false ≡ commandAsked d t c)
+  no-room h c e = sym (nothing-stands d t h c)
 
-  break-is : (r : Bool) → r ≡ breakAsked d → tag ≡ breakTag → For (command (suc n) tag bs) (λ c. r ≡ commandAsked d c)
-  unfolding commandAsked
-  break-is r q h c e = rw (break-read n tag bs c e h .1) q
+module _ (d : Demand) (t : List ℕ) (n tag : ℕ) (bs : List ℕ) (r : Bool) (room : roomAsked d ≡ true) where
+  -- besides, there is room
+  besides : (b : Bool) → r ≡ b → r ≡ both (roomAsked d) b
+  besides b q = q ∙ sym (both-yes (roomAsked d) b room)
 
-  module _ (r : Bool) (q : For (only passesAll (command n) 16 (innerOf tag bs)) (λ l. r ≡ partsAsked (ofFirst d tag) d l)) where
+  rule-set-is : r ≡ numbersAsked d bs → tag ≡ ruleSetTag → For (command (suc n) tag bs) (λ c. r ≡ commandAsked d t c)
+  unfolding commandAsked
+  rule-set-is q h c e = rw (rule-set-read n tag bs c e h .0) (besides _ q)
+
+  break-is : r ≡ breakAsked d → tag ≡ breakTag → For (command (suc n) tag bs) (λ c. r ≡ commandAsked d t c)
+  unfolding commandAsked
+  break-is q h c e = rw (break-read n tag bs c e h .1) (besides _ q)
+
+  call-is : r ≡ callAsked d t (getD bs 0 0) → tag ≡ callTag → For (command (suc n) tag bs) (λ c. r ≡ commandAsked d t c)
+  unfolding commandAsked
+  call-is q h c e = rw (call-read n tag bs c e h .1) (besides _ q)
+
+  module _ (q : For (only passesAll (command n) 16 (innerOf tag bs)) (λ l. r ≡ partsAsked (ofFirst (inside d) tag) (inside d) t l)) where
     -- what is asked of the parts, where it is known what is asked of the first, and where they lie
-    of-parts : (f : Demand) → ofFirst d tag ≡ f → (inside : List ℕ) → innerOf tag bs ≡ inside → (l : List Command) → only passesAll (command n) 16 inside ≡ some l → r ≡ partsAsked f d l
-    of-parts f h inside i l e = q l (ap (only passesAll (command n) 16) i ∙ e) ∙ ap (λ (x : Demand). partsAsked x d l) h
+    of-parts : (f : Demand) → ofFirst (inside d) tag ≡ f → (lie : List ℕ) → innerOf tag bs ≡ lie → (l : List Raw) → only passesAll (command n) 16 lie ≡ some l → r ≡ partsAsked f (inside d) t l
+    of-parts f h lie i l e = q l (ap (only passesAll (command n) 16) i ∙ e) ∙ ap (λ (x : Demand). partsAsked x (inside d) t l) h
 
     whole : (tag ≡ guardedTag → ⊥) → innerOf tag bs ≡ bs
     unfolding innerOf
     whole h = choose-ne tag guardedTag _ _ h
 
-    bare : (tag ≡ guardedTag → ⊥) → bs ≡ [] → r ≡ true
+    bare : (tag ≡ guardedTag → ⊥) → bs ≡ [] → r ≡ roomAsked d
     unfolding partsAsked
-    bare k h = of-parts (ofFirst d tag) refl [] (whole k ∙ h) [] (empty-parts n)
+    bare k h = of-parts _ refl [] (whole k ∙ h) [] (empty-parts n) ∙ sym room
 
-    module _ (c : Command) (e : command (suc n) tag bs ≡ some c) where
-      of-sequence : tag ≡ sequenceTag → r ≡ commandAsked d c
+    module _ (c : Raw) (e : command (suc n) tag bs ≡ some c) where
+      of-sequence : tag ≡ sequenceTag → r ≡ commandAsked d t c
       unfolding commandAsked ofFirst
       of-sequence h =
           let s = sequence-read n tag bs c e h in
           let f = choose-ne tag loopTag _ _ (λ x. omega arith) ∙ choose-eq tag sequenceTag _ _ h in
-          of-parts d f bs (whole (λ x. omega arith)) (s .0) (s .1) ∙ sequence-parts d (s .0) ∙ ap (commandAsked d) (sym (s .4))
+          besides _ (of-parts (inside d) f bs (whole (λ x. omega arith)) (s .0) (s .1) ∙ sequence-parts (inside d) t (s .0)) ∙ ap (commandAsked d t) (sym (s .4))
 
-      of-guarded : tag ≡ guardedTag → r ≡ commandAsked d c
+      of-guarded : tag ≡ guardedTag → r ≡ commandAsked d t c
       unfolding commandAsked partsAsked ofFirst innerOf
       of-guarded h =
           let s = guarded-read n tag bs c e h in
           let f = choose-ne tag loopTag _ _ (λ x. omega arith) ∙ choose-ne tag sequenceTag _ _ (λ x. omega arith) in
-          rw (s .4) (of-parts (inGuard d) f (drop 1 bs) (choose-eq tag guardedTag _ _ h) _ (s .3) ∙ rw (← (both-last (commandAsked d (s .2)))))
+          rw (s .4) (besides _ (of-parts (breaking (inside d) false) f (drop 1 bs) (choose-eq tag guardedTag _ _ h) _ (s .3) ∙ rw (← (both-last (commandAsked (inside d) t (s .2))))))
 
-      of-loop : tag ≡ loopTag → r ≡ commandAsked d c
+      of-loop : tag ≡ loopTag → r ≡ commandAsked d t c
       unfolding commandAsked partsAsked ofFirst
       of-loop h =
           let s = loop-read n tag bs c e h in
-          rw (s .2) (of-parts (inBody d) (choose-eq tag loopTag _ _ h) bs (whole (λ x. omega arith)) _ (s .1) ∙ sym (both-last _))
+          rw (s .2) (besides _ (of-parts (breaking (inside d) true) (choose-eq tag loopTag _ _ h) bs (whole (λ x. omega arith)) _ (s .1) ∙ sym (both-last _)))
 
-    parts-is : (tag ≡ ruleSetTag → ⊥) → (tag ≡ breakTag → ⊥) → For (command (suc n) tag bs) (λ c. r ≡ commandAsked d c)
+    parts-is : (tag ≡ ruleSetTag → ⊥) → (tag ≡ breakTag → ⊥) → (tag ≡ callTag → ⊥) → For (command (suc n) tag bs) (λ c. r ≡ commandAsked d t c)
     unfolding commandAsked
-    parts-is h0 h7 c e = at c e (command-tag (suc n) tag bs c e .1)
+    parts-is h0 h7 h8 c e = at c e (command-tag (suc n) tag bs c e .1)
       where
-        at : (c : Command) → command (suc n) tag bs ≡ some c → tag ≡ tagOf c → r ≡ commandAsked d c
-        at (ruleSet l) e t = absurd (h0 t)
-        at (sequence cs) e t = of-sequence _ e t
-        at (guarded keep x y z) e t = of-guarded _ e t
-        at (loop c) e t = of-loop _ e t
-        at skip e t = bare (λ x. omega arith) (skip-read n tag bs _ e t .0)
-        at fail e t = bare (λ x. omega arith) (fail-read n tag bs _ e t .0)
-        at break e t = absurd (h7 t)
+        at : (c : Raw) → command (suc n) tag bs ≡ some c → tag ≡ tagOf c → r ≡ commandAsked d t c
+        at (ruleSet l) e k = absurd (h0 k)
+        at (sequence cs) e k = of-sequence _ e k
+        at (guarded keep x y z) e k = of-guarded _ e k
+        at (loop c) e k = of-loop _ e k
+        at skip e k = bare (λ x. omega arith) (skip-read n tag bs _ e k .0)
+        at fail e k = bare (λ x. omega arith) (fail-read n tag bs _ e k .0)
+        at break e k = absurd (h7 k)
+        at (call i) e k = absurd (h8 k)
 
 -- the same at a depth that is not 0
-module _ (d : Demand) (depth tag : ℕ) (bs : List ℕ) (r : Bool) (h : depth ≡ 0 → ⊥) where
-  deeper : (c : Command) → command depth tag bs ≡ some c → command (suc (depth - 1)) tag bs ≡ some c
+module _ (d : Demand) (t : List ℕ) (depth tag : ℕ) (bs : List ℕ) (r : Bool) (h : depth ≡ 0 → ⊥) (room : roomAsked d ≡ true) where
+  deeper : (c : Raw) → command depth tag bs ≡ some c → command (suc (depth - 1)) tag bs ≡ some c
   deeper c e =
       let z : suc (depth - 1) ≡ depth = omega arith in
       ap (λ (m : ℕ). command m tag bs) z ∙ e
 
-  pub rule-set-at : r ≡ numbersAsked d bs → tag ≡ ruleSetTag → For (command depth tag bs) (λ c. r ≡ commandAsked d c)
-  rule-set-at q k c e = rule-set-is d (depth - 1) tag bs r q k c (deeper c e)
+  pub rule-set-at : r ≡ numbersAsked d bs → tag ≡ ruleSetTag → For (command depth tag bs) (λ c. r ≡ commandAsked d t c)
+  rule-set-at q k c e = rule-set-is d t (depth - 1) tag bs r room q k c (deeper c e)
 
-  pub break-at : r ≡ breakAsked d → tag ≡ breakTag → For (command depth tag bs) (λ c. r ≡ commandAsked d c)
-  break-at q k c e = break-is d (depth - 1) tag bs r q k c (deeper c e)
+  pub break-at : r ≡ breakAsked d → tag ≡ breakTag → For (command depth tag bs) (λ c. r ≡ commandAsked d t c)
+  break-at q k c e = break-is d t (depth - 1) tag bs r room q k c (deeper c e)
 
-  pub parts-at : (first : Demand) → first ≡ ofFirst d tag → (inside : List ℕ) → inside ≡ innerOf tag bs → For (only passesAll (command (depth - 1)) 16 inside) (λ l. r ≡ partsAsked first d l) → (tag ≡ ruleSetTag → ⊥) → (tag ≡ breakTag → ⊥) → For (command depth tag bs) (λ c. r ≡ commandAsked d c)
-  parts-at first f inside i q h0 h7 c e =
-      parts-is d (depth - 1) tag bs r (λ l x. q l (ap (only passesAll (command (depth - 1)) 16) i ∙ x) ∙ ap (λ (g : Demand). partsAsked g d l) f) h0 h7 c (deeper c e)
+  pub call-at : (i : ℕ) → i ≡ getD bs 0 0 → r ≡ callAsked d t i → tag ≡ callTag → For (command depth tag bs) (λ c. r ≡ commandAsked d t c)
+  call-at i j q k c e = call-is d t (depth - 1) tag bs r room (q ∙ ap (callAsked d t) j) k c (deeper c e)
+
+  pub parts-at : (others : Demand) → others ≡ inside d → (first : Demand) → first ≡ ofFirst others tag → (lie : List ℕ) → lie ≡ innerOf tag bs
+      → For (only passesAll (command (depth - 1)) 16 lie) (λ l. r ≡ partsAsked first others t l)
+      → (tag ≡ ruleSetTag → ⊥) → (tag ≡ breakTag → ⊥) → (tag ≡ callTag → ⊥) → For (command depth tag bs) (λ c. r ≡ commandAsked d t c)
+  parts-at others o first f lie i q h0 h7 h8 c e =
+      let g : first ≡ ofFirst (inside d) tag = f ∙ ap (λ (x : Demand). ofFirst x tag) o in
+      parts-is d t (depth - 1) tag bs r room (λ l x. q l (ap (only passesAll (command (depth - 1)) 16) i ∙ x) ∙ rw (g, o)) h0 h7 h8 c (deeper c e)
 
 -- Commands one after the other: what is asked from the place on is what is asked of all.
 
-pub record Parting (first others : Demand) (n : ℕ) (bs : List ℕ) (at : ℕ) (d : Demand) : Type 0 where
-  pub left : For (only passesAll (command n) 16 bs) (λ l. (m : List Command) × (Series (command n) m [] (drop at bs)) × (partsAsked first others l ≡ partsAsked d others m))
+pub record Parting (first others : Demand) (t : List ℕ) (n : ℕ) (bs : List ℕ) (at : ℕ) (d : Demand) : Type 0 where
+  pub left : For (only passesAll (command n) 16 bs) (λ l. (m : List Raw) × (Series (command n) m [] (drop at bs)) × (partsAsked first others t l ≡ partsAsked d others t m))
 
-pub parting-start : (first others : Demand) (n : ℕ) (bs : List ℕ) → Parting first others n bs 0 first
-parting-start first others n bs = record { left = λ l e. (l, only-series passesAll (command n) (command n) (λ t b a p x. x) 16 bs l e, refl) }
+pub parting-start : (first others : Demand) (t : List ℕ) (n : ℕ) (bs : List ℕ) → Parting first others t n bs 0 first
+parting-start first others t n bs = record { left = λ l e. (l, only-series passesAll (command n) (command n) (λ t b a p x. x) 16 bs l e, refl) }
 
-module _ {first others : Demand} {n : ℕ} {bs : List ℕ} {at : ℕ} {d : Demand} (w : Parting first others n bs at d) where
-  pub parting-done : length bs ≤ at → For (only passesAll (command n) 16 bs) (λ l. true ≡ partsAsked first others l)
+module _ {first others : Demand} {t : List ℕ} {n : ℕ} {bs : List ℕ} {at : ℕ} {d : Demand} (w : Parting first others t n bs at d) where
+  pub parting-done : length bs ≤ at → For (only passesAll (command n) 16 bs) (λ l. true ≡ partsAsked first others t l)
   unfolding partsAsked
   parting-done h l e =
-      let t = w .left l e in
-      sym (t .2 ∙ ap (partsAsked d others) (series-none (command n) bs at (t .0) (t .1) h))
+      let s = w .left l e in
+      sym (s .2 ∙ ap (partsAsked d others t) (series-none (command n) bs at (s .0) (s .1) h))
 
-  pub parting-cut : at < length bs → field (drop at bs) ≡ none → For (only passesAll (command n) 16 bs) (λ l. false ≡ partsAsked first others l)
-  parting-cut h k l e = let t = w .left l e in absurd (series-there (command n) bs at (t .0) (t .1) h k)
+  pub parting-cut : at < length bs → field (drop at bs) ≡ none → For (only passesAll (command n) 16 bs) (λ l. false ≡ partsAsked first others t l)
+  parting-cut h k l e = let s = w .left l e in absurd (series-there (command n) bs at (s .0) (s .1) h k)
 
-  module _ {tag start end : ℕ} {part : List ℕ} {r : Bool} (h : at < length bs) (k : Lies bs at tag start end) (p : part ≡ take (end - start) (drop start bs)) (q : For (command n tag part) (λ c. r ≡ commandAsked d c)) where
-    pub parting-next : r ≡ true → Parting first others n bs end others
+  module _ {tag start end : ℕ} {part : List ℕ} {r : Bool} (h : at < length bs) (k : Lies bs at tag start end) (p : part ≡ take (end - start) (drop start bs)) (q : For (command n tag part) (λ c. r ≡ commandAsked d t c)) where
+    pub parting-next : r ≡ true → Parting first others t n bs end others
     unfolding partsAsked
     parting-next g = record {
       left = λ l e.
-          let t = w .left l e in
-          let u = series-some (command n) bs at (t .0) (t .1) h tag start end k in
-          (u .others, u .series, t .2 ∙ ap (partsAsked d others) (u .parts) ∙ both-yes (commandAsked d (u .first)) (partsAsked others others (u .others)) (sym (q (u .first) (ap (command n tag) p ∙ u .read)) ∙ g));
+          let s = w .left l e in
+          let u = series-some (command n) bs at (s .0) (s .1) h tag start end k in
+          (u .others, u .series, s .2 ∙ ap (partsAsked d others t) (u .parts) ∙ both-yes (commandAsked d t (u .first)) (partsAsked others others t (u .others)) (sym (q (u .first) (ap (command n tag) p ∙ u .read)) ∙ g));
     }
 
-    pub parting-stop : r ≡ false → For (only passesAll (command n) 16 bs) (λ l. false ≡ partsAsked first others l)
+    pub parting-stop : r ≡ false → For (only passesAll (command n) 16 bs) (λ l. false ≡ partsAsked first others t l)
     unfolding partsAsked
     parting-stop g l e =
-        let t = w .left l e in
-        let u = series-some (command n) bs at (t .0) (t .1) h tag start end k in
-        sym (t .2 ∙ ap (partsAsked d others) (u .parts) ∙ both-no (commandAsked d (u .first)) (partsAsked others others (u .others)) (sym (q (u .first) (ap (command n tag) p ∙ u .read)) ∙ g))
+        let s = w .left l e in
+        let u = series-some (command n) bs at (s .0) (s .1) h tag start end k in
+        sym (s .2 ∙ ap (partsAsked d others t) (u .parts) ∙ both-no (commandAsked d t (u .first)) (partsAsked others others t (u .others)) (sym (q (u .first) (ap (command n tag) p ∙ u .read)) ∙ g))
 
--- What is asked of the first part, and of rule numbers.
+-- What is asked of the first part, of rule numbers and of calls.
 
 module _ (d : Demand) (tag : ℕ) where
-  pub first-body : (r : Demand) → r ≡ inBody d → tag ≡ 0x54 → r ≡ ofFirst d tag
+  pub first-body : (r : Demand) → r ≡ breaking d true → tag ≡ loopTag → r ≡ ofFirst d tag
   unfolding ofFirst
-  first-body r q h = q ∙ sym (choose-eq tag 0x54 _ _ h)
+  first-body r q h = q ∙ sym (choose-eq tag loopTag _ _ h)
 
-  pub first-same : (tag ≡ 0x54 → ⊥) → tag ≡ 0x51 → d ≡ ofFirst d tag
+  pub first-same : (tag ≡ loopTag → ⊥) → tag ≡ sequenceTag → d ≡ ofFirst d tag
   unfolding ofFirst
-  first-same h k = sym (choose-ne tag 0x54 _ _ h ∙ choose-eq tag 0x51 _ _ k)
+  first-same h k = sym (choose-ne tag loopTag _ _ h ∙ choose-eq tag sequenceTag _ _ k)
 
-  pub first-guard : (r : Demand) → r ≡ inGuard d → (tag ≡ 0x54 → ⊥) → (tag ≡ 0x51 → ⊥) → r ≡ ofFirst d tag
+  pub first-guard : (r : Demand) → r ≡ breaking d false → (tag ≡ loopTag → ⊥) → (tag ≡ sequenceTag → ⊥) → r ≡ ofFirst d tag
   unfolding ofFirst
-  first-guard r q h k = q ∙ sym (choose-ne tag 0x54 _ _ h ∙ choose-ne tag 0x51 _ _ k)
+  first-guard r q h k = q ∙ sym (choose-ne tag loopTag _ _ h ∙ choose-ne tag sequenceTag _ _ k)
 
-module _ (d : Demand) (l : List ℕ) where
-  pub numbers-rules : (r : Bool) (n : ℕ) → d ≡ Rules n → r ≡ every (λ i. ltb i n) l → r ≡ numbersAsked d l
-  unfolding numbersAsked
-  numbers-rules r n e q = rw e q
+module _ (d : Demand) (t : List ℕ) (i n h : ℕ) (e : d ≡ Depth n) (q : h ≡ getD t i 1) where
+  pub call-known : 0 < h → ltb h n ≡ callAsked d t i
+  unfolding callAsked
+  call-known k = rw (e, ← q) (sym (both-yes _ _ (lt-ltb 0 h k)))
 
-  pub numbers-breaks : (ok : Bool) → d ≡ Breaks ok → true ≡ numbersAsked d l
-  unfolding numbersAsked
-  numbers-breaks ok e = rw e
+  pub call-unknown : h ≤ 0 → false ≡ callAsked d t i
+  unfolding callAsked
+  call-unknown k = rw (e, ← q) (sym (both-no _ _ (le-ltb 0 h k)))
+
+-- what stands for an element that is not there does not matter where it is
+pub in-range : (l : List ℕ) (i d e : ℕ) → i < length l → getD l i d ≡ getD l i e
+in-range l i d e h = cc (drop-cons l i d h, drop-cons l i e h)
 
 -- a loop over the bytes
 module _ (f : ℕ → Bool) (bs : List ℕ) (i : ℕ) (w : every f bs ≡ every f (drop i bs)) where
@@ -219,12 +208,3 @@ module _ (f : ℕ → Bool) (bs : List ℕ) (i : ℕ) (w : every f bs ≡ every 
 
     pub bytes-stop : f (getD bs i 0) ≡ false → false ≡ every f bs
     bytes-stop g = sym (here ∙ both-no _ _ g)
-
--- The whole.
-
-pub rules-are : (p : Program) (n : ℕ) → n ≡ length (p .rules) → commandAsked (Rules n) (p .main) ≡ rulesExist (p .main) (length (p .rules))
-rules-are p n h = rw h (rules-asked (length (p .rules)) (p .main))
-
-pub placement-is : (p : Program) → commandAsked (Breaks false) (p .main) ≡ placement p
-unfolding placement
-placement-is p = breaks-asked false (p .main)

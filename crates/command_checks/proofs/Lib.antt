@@ -1,1 +1,4 @@
 mod Commanding
+mod Demands
+mod Putting
+mod Raising

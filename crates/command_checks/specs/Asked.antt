@@ -1,53 +1,76 @@
--- What is asked of each command, for a demand. Rests on the meaning's Image and Tags.
+-- What is asked of each command, for a demand. `t` are the heights of the procedures: how deep each one's command is with procedures
+-- put in for calls, 0 where that is not known. Rests on the meaning's Image and Tags.
 use mathlib.Core.Bool.{Bool, true, false}
 use mathlib.Core.List.{List, [], _∷_}
-use Prim.Native.Nat.{ℕ}
+use Prim.Native.Nat.{ℕ, _-_}
 use lib.Dec.{eqb, ltb}
-use lib.ListN.{drop}
+use lib.ListN.{getD, drop}
 use Rattle.meaning.specs.Basics.{choose, both, every}
-use Rattle.meaning.specs.Image.{Command, ruleSet, sequence, guarded, loop, skip, fail, break, Commands, noMore, then}
+use Rattle.meaning.specs.Image.{Raw, ruleSet, sequence, guarded, loop, skip, fail, break, call, Raws, noMore, then}
 use Rattle.meaning.specs.Tags.{loopTag, sequenceTag, guardedTag}
 use Rattle.command_checks.specs.declared.Demand.{Demand}
-use Rattle.command_checks.specs.declared.Demand.the-variants.{Rules, Breaks}
+use Rattle.command_checks.specs.declared.Demand.the-variants.{Names, Breaks, Depth}
+
+-- there may be a command at all
+abbrev pub roomAsked : Demand → Bool
+roomAsked (Names n m) = true
+roomAsked (Breaks ok) = true
+roomAsked (Depth n) = ltb 0 n
 
 unfoldable pub numbersAsked : Demand → List ℕ → Bool
-numbersAsked (Rules n) l = every (λ i. ltb i n) l
+numbersAsked (Names n m) l = every (λ i. ltb i n) l
 numbersAsked (Breaks ok) l = true
+numbersAsked (Depth n) l = true
 
 abbrev pub breakAsked : Demand → Bool
-breakAsked (Rules n) = true
+breakAsked (Names n m) = true
 breakAsked (Breaks ok) = ok
+breakAsked (Depth n) = true
 
-abbrev pub inBody : Demand → Demand
-inBody (Rules n) = Rules n
-inBody (Breaks ok) = Breaks true
+-- a height that is not known is too high, and a procedure that there is not stands for skip
+unfoldable pub callAsked : Demand → List ℕ → ℕ → Bool
+callAsked (Names n m) t i = ltb i m
+callAsked (Breaks ok) t i = true
+callAsked (Depth n) t i = both (ltb 0 (getD t i 1)) (ltb (getD t i 1) n)
 
-abbrev pub inGuard : Demand → Demand
-inGuard (Rules n) = Rules n
-inGuard (Breaks ok) = Breaks false
+-- what is asked of the parts of a command
+abbrev pub inside : Demand → Demand
+inside (Names n m) = Names n m
+inside (Breaks ok) = Breaks ok
+inside (Depth n) = Depth (n - 1)
+
+-- the same where a break may stand, or may not
+abbrev pub breaking : Demand → Bool → Demand
+breaking (Names n m) may = Names n m
+breaking (Breaks ok) may = Breaks may
+breaking (Depth n) may = Depth n
 
 unfoldable mutual
-  pub commandAsked : Demand → Command → Bool
-  commandAsked d (ruleSet l) = numbersAsked d l
-  commandAsked d (sequence cs) = commandsAsked d cs
-  commandAsked d (guarded keep g a b) = both (commandAsked (inGuard d) g) (both (commandAsked d a) (commandAsked d b))
-  commandAsked d (loop c) = commandAsked (inBody d) c
-  commandAsked d skip = true
-  commandAsked d fail = true
-  commandAsked d break = breakAsked d
+  pub commandAsked : Demand → List ℕ → Raw → Bool
+  commandAsked d t (ruleSet l) = both (roomAsked d) (numbersAsked d l)
+  commandAsked d t (sequence cs) = both (roomAsked d) (commandsAsked (inside d) t cs)
+  commandAsked d t (guarded keep g a b) =
+      both (roomAsked d)
+      (both (commandAsked (breaking (inside d) false) t g) (both (commandAsked (inside d) t a) (commandAsked (inside d) t b)))
+  commandAsked d t (loop c) = both (roomAsked d) (commandAsked (breaking (inside d) true) t c)
+  commandAsked d t skip = roomAsked d
+  commandAsked d t fail = roomAsked d
+  commandAsked d t break = both (roomAsked d) (breakAsked d)
+  commandAsked d t (call i) = both (roomAsked d) (callAsked d t i)
 
-  pub commandsAsked : Demand → Commands → Bool
-  commandsAsked d noMore = true
-  commandsAsked d (then c cs) = both (commandAsked d c) (commandsAsked d cs)
+  pub commandsAsked : Demand → List ℕ → Raws → Bool
+  commandsAsked d t noMore = true
+  commandsAsked d t (then c cs) = both (commandAsked d t c) (commandsAsked d t cs)
 
 -- what is asked of the first of some commands, and of the others
-unfoldable pub partsAsked : Demand → Demand → List Command → Bool
-partsAsked first others [] = true
-partsAsked first others (c ∷ l) = both (commandAsked first c) (partsAsked others others l)
+unfoldable pub partsAsked : Demand → Demand → List ℕ → List Raw → Bool
+partsAsked first others t [] = true
+partsAsked first others t (c ∷ l) = both (commandAsked first t c) (partsAsked others others t l)
 
--- what is asked of the first part of a command of a tag: a loop's body, a sequence's first command, or a guard
+-- what is asked of the first part of a command of a tag, a loop's body, a sequence's first command or a guard, from what is asked of
+-- the others
 unfoldable pub ofFirst : Demand → ℕ → Demand
-ofFirst d tag = choose (eqb tag loopTag) (inBody d) (choose (eqb tag sequenceTag) d (inGuard d))
+ofFirst d tag = choose (eqb tag loopTag) (breaking d true) (choose (eqb tag sequenceTag) d (breaking d false))
 
 -- the commands in a command of a tag: those in a guarded one are behind its flag
 unfoldable pub innerOf : ℕ → List ℕ → List ℕ

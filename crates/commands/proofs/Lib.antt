@@ -1,3 +1,4 @@
+mod Putting
 mod Parts
 mod States
 mod Turns

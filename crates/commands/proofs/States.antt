@@ -8,7 +8,8 @@ use native.Mathlib.Omega.{arith}
 use native.Mathlib.Numerals.{add-one}
 use lib.ListN.{getD}
 use Rattle.meaning.specs.Basics.{choose}
-use Rattle.meaning.specs.Image.{Rule, Command, guarded, loop, skip, Commands, inOrder}
+use Rattle.meaning.specs.Image.{Rule}
+use Rattle.meaning.specs.Procedures.{Command, guarded, loop, skip, called}
 use Rattle.meaning.specs.Commands.{State, Out, ends, next, decide, again, rounds, work, works, exec, stateAt}
 use Rattle.laws.specs.Commands.{exec-entered}
 use Rattle.laws.specs.Fuel.{exec-spending, rounds-bound}
@@ -16,6 +17,7 @@ use Rattle.meaning.specs.declared.Stop.the-variants.{OutOfFuel}
 use Rattle.meaning.specs.declared.End.{End}
 use Rattle.meaning.specs.declared.End.the-variants.{Done, Failed, Broke, Stopped}
 use Rattle.ends.specs.Ends.{LeafTag, isDone, partAfter, settled, closed}
+use Rattle.commands.specs.Cycle.{inOrder}
 use Rattle.commands.proofs.Parts.{leafOf}
 
 -- Ends.
@@ -67,6 +69,10 @@ module _ (most room : ℕ) (rules : List Rule) where
   enter-paid c s h =
       let z : s .fuel ≡ suc (s .fuel - 1) = omega arith in
       rw (add-one (s .steps)) (sym (exec-entered most room rules c s (s .fuel - 1) z))
+
+  pub called-work : (c : Command) (s : State) → exec most room rules c s ≡ work most room rules (called c) s
+  unfolding work
+  called-work c s = refl
 
   pub leaf-work : (tag : ℕ) (e : End) (s : State) → LeafTag tag e → ends e s ≡ work most room rules (leafOf e) s
   unfolding work

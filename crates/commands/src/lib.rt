@@ -1,5 +1,5 @@
 // Running the program of an image, from bytes that hold a state. Running a command, a row of commands, a guarded command and
-// a loop call each other, over parts of the lent image; what needs no call of these is outside the cycle.
+// a loop call each other, over parts of the lent image, procedures among them; what needs no call of these is outside the cycle.
 ghost use Prim.Native.Nat.{_+_, _≤_};
 ghost use Rattle.meaning.specs.Tags.{ruleSetTag};
 ghost use Rattle.meaning.specs.Calls.{mostFuel};
@@ -98,6 +98,19 @@ fn run_command(
             spent,
         ),
         Kind::Loop => run_loop(l, image, p, nodes, edges, journal, spent),
+        Kind::Call(i) => {
+            let body = parts::procedure_part(image, i);
+            run_command(
+                l,
+                image,
+                parts::nth_tag(body, 0),
+                parts::nth_part(body, 0),
+                nodes,
+                edges,
+                journal,
+                spent,
+            )
+        }
         Kind::Leaf(end) => Ran {
             end: end,
             tally: spent,

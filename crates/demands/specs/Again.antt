@@ -57,10 +57,14 @@ module _ (L : Layout) (x : Lent) (js rs : List ℕ) (size : length js ≡ length
         fuelFits = a .fuelFits;
         imageFits = a .imageFits;
         layout = a .layout;
-        tree = a .tree;
-        form = a .form;
+        raw = a .raw;
+        read = a .read;
         references = a .references;
         placement = a .placement;
+        depth = a .depth;
+        tree = a .tree;
+        whole = a .whole;
+        form = a .form;
       }
 
   leaves-with : (e : End) (t : State) → outcomeAt L with e t ≡ outcomeAt L x e t

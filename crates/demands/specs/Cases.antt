@@ -10,7 +10,8 @@ use lib.ListN.{length, getD, take, replicate, List·getD-map}
 use lib.Dec.{ltb}
 use Rattle.meaning.specs.Basics.{both, every}
 use Rattle.meaning.specs.Layout.{base, recordLength}
-use Rattle.meaning.specs.Image.{Rule, Program, program, Command}
+use Rattle.meaning.specs.Image.{Rule}
+use Rattle.meaning.specs.Procedures.{Program, program, Command}
 use Rattle.meaning.specs.Commands.{State, Out}
 use Rattle.meaning.specs.Calls.{refused, runRefusal, journalRoom, finished, Lent, LentUndo}
 use Rattle.meaning.specs.ProvedSet.{Expected, Case, given, cases, proved-set, plainNode, onPlainNode, results, skipField}

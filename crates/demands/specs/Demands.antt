@@ -1,7 +1,8 @@
 -- The user's three demands, each of an arbitrary interpreter: a function from all that the calls `run` and `undo` are lent to
 -- all that they leave. Which input is bad, what the bytes of a table stand for and what commands mean is document 01's; how an
--- interpreter works is left open. Rests on the meaning's Basics, Numbers, Layout and Image, on Commands for its states and on Calls
--- for what is lent and what is checked, on laws' Numbers (for `Bytes` alone), on Inference, and on the code's Layout, Stop and End.
+-- interpreter works is left open. Rests on the meaning's Basics, Numbers, Layout, Image, References, Placement and Procedures, on
+-- Commands for its states and on Calls for what is lent and what is checked, on laws' Numbers (for `Bytes` alone), on Inference, and on
+-- the code's Layout, Stop and End.
 -- At document 01's layout a node has 20 bytes, an edge 24, a record 28. Elsewhere in this crate: ours meets all three (Met), and so
 -- does all that keeps the contracts of the exported calls (Exported); demands 1 and 2 leave one outcome of each call (OneOutcome);
 -- and who does not meet which (Worthless, WorthlessUndo).
@@ -15,10 +16,13 @@ use lib.Dec.{eqb, leb}
 use Rattle.meaning.specs.Basics.{choose, concat, padded, absent, isSome, firstFailing}
 use Rattle.meaning.specs.Numbers.{number, bytes}
 use Rattle.meaning.specs.Layout.{nodeLength, edgeLength, recordLength, kindPlace, slotOf, fitsTable, hostOf, writeNodes, writeEdges, writeRecord, keepsLayout}
-use Rattle.meaning.specs.Image.{Program, limits, program}
+use Rattle.meaning.specs.Image.{limits, rawProgram}
+use Rattle.meaning.specs.References.{references}
+use Rattle.meaning.specs.Placement.{placement}
+use Rattle.meaning.specs.Procedures.{Program, depthHolds, program}
 use Rattle.meaning.specs.Commands.{State, beginning}
 use Rattle.demands.specs.Inference.{Executes}
-use Rattle.meaning.specs.Calls.{Lent, LentUndo, mostFuel, referencesHold, placementHolds, keepsRecords}
+use Rattle.meaning.specs.Calls.{Lent, LentUndo, mostFuel, holds, keepsRecords}
 use Rattle.laws.specs.Numbers.{Bytes}
 use Rattle.meaning.specs.declared.Layout.{Layout}
 use Rattle.meaning.specs.declared.Stop.{Stop}
@@ -65,7 +69,7 @@ pub record Interpreter : Type 0 where
 -- The published table: the answers of run and those of undo, and of them the ones that end a run that has started.
 
 abbrev pub runTable : List ℕ
-runTable = 0 ∷ 1 ∷ 2 ∷ 3 ∷ 4 ∷ 5 ∷ 6 ∷ 9 ∷ 10 ∷ 11 ∷ 12 ∷ 13 ∷ 14 ∷ 15 ∷ 16 ∷ 17 ∷ 18 ∷ []
+runTable = 0 ∷ 1 ∷ 2 ∷ 3 ∷ 4 ∷ 5 ∷ 6 ∷ 9 ∷ 10 ∷ 11 ∷ 12 ∷ 13 ∷ 14 ∷ 15 ∷ 16 ∷ 17 ∷ 18 ∷ 19 ∷ []
 
 abbrev pub undoTable : List ℕ
 undoTable = 0 ∷ 9 ∷ 10 ∷ 11 ∷ 12 ∷ 20 ∷ []
@@ -132,7 +136,7 @@ module _ (L : Layout) where
       ∷ (fitsTable (recordLength L) (L .records) journal, 12)
       ∷ []
 
-  -- the lowest number from 9 to 18 that applies; none where the run starts
+  -- the lowest number from 9 to 19 that applies; none where the run starts
   abbrev pub runRefusedWith : Lent → Option ℕ
   runRefusedWith x =
       firstFailing
@@ -140,9 +144,10 @@ module _ (L : Layout) where
       ++ (leb (x .fuel) mostFuel, 13)
       ∷ (leb (length (x .image)) (limits .bytes), 14)
       ∷ (keepsLayout L (x .nodes) (x .edges), 15)
-      ∷ (isSome (program (x .image)), 16)
-      ∷ (referencesHold (program (x .image)), 17)
-      ∷ (placementHolds (program (x .image)), 18)
+      ∷ (isSome (rawProgram (x .image)), 16)
+      ∷ (holds references (rawProgram (x .image)), 17)
+      ∷ (holds placement (rawProgram (x .image)), 18)
+      ∷ (holds depthHolds (rawProgram (x .image)), 19)
       ∷ [])
 
   abbrev pub undoRefusedWith : LentUndo → Option ℕ

@@ -9,7 +9,8 @@ use mathlib.Core.List.{List}
 use native.Mathlib.Omega.{arith}
 use lib.ListN.{length}
 use Rattle.meaning.specs.Layout.{Host, recordLength}
-use Rattle.meaning.specs.Image.{Rule, Command, ruleSet, Program, program}
+use Rattle.meaning.specs.Image.{Rule}
+use Rattle.meaning.specs.Procedures.{Command, ruleSet, Program, program}
 use Rattle.meaning.specs.Matching.{Match}
 use Rattle.meaning.specs.Commands.{State}
 use Rattle.demands.specs.Inference

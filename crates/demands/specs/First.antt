@@ -92,7 +92,7 @@ module _ (L : Layout) (x : Lent) where
               (refl, omega arith),
               (
                 (refl, omega arith),
-                ((refl, omega arith), ((refl, omega arith), ((refl, omega arith), ((refl, omega arith), ((refl, omega arith), tt))))),
+                ((refl, omega arith), ((refl, omega arith), ((refl, omega arith), ((refl, omega arith), ((refl, omega arith), ((refl, omega arith), tt)))))),
               ),
             ),
           ),
@@ -112,7 +112,7 @@ module _ (L : Layout) (x : Lent) where
               omega arith,
               (
                 omega arith,
-                (omega arith, (omega arith, (omega arith, (omega arith, tt)))),
+                (omega arith, (omega arith, (omega arith, (omega arith, (omega arith, tt))))),
               ),
             ),
           ),

@@ -1,13 +1,14 @@
 -- What commands mean, as rules of inference over command trees: `Executes c s e t` says that command c, met at s, ends in e at t.
--- A rule call goes by what a match is, and not by a search; nothing here computes. Rests on the meaning's Layout, Image, Matching
--- and Applying, on Commands for its states alone (`State`, `stateAt`, `back`, `ruleAt`), and on the code's Stop and End.
+-- A rule call goes by what a match is, and not by a search; nothing here computes. Rests on the meaning's Layout, Image, Procedures,
+-- Matching and Applying, on Commands for its states alone (`State`, `stateAt`, `back`, `ruleAt`), and on the code's Stop and End.
 use mathlib.Core.Path.{_≡_}
 use mathlib.Core.Bool.{Bool, true, false}
 use mathlib.Core.List.{List}
 use Prim.Native.Nat.{ℕ, suc, _<_}
 use lib.ListN.{length, getD}
 use Rattle.meaning.specs.Layout.{Host}
-use Rattle.meaning.specs.Image.{Rule, Command, ruleSet, sequence, guarded, loop, skip, fail, break, Commands, noMore, then}
+use Rattle.meaning.specs.Image.{Rule}
+use Rattle.meaning.specs.Procedures.{Command, ruleSet, sequence, guarded, loop, skip, fail, break, called, Commands, noMore, then}
 use Rattle.meaning.specs.Matching.{Match, Before}
 use Rattle.meaning.specs.Applying.{Ledger, applied, hindered, apply}
 use Rattle.meaning.specs.Commands.{State, back, ruleAt, stateAt}
@@ -59,6 +60,8 @@ module _ (most room : ℕ) (rules : List Rule) where
       hinders : {l : List ℕ} {s : State} (r : Rule) (p : List ℕ) (w : Stop) → FirstCalled rules (s .ledger .host) l r p
           → apply most room r p (s .ledger) ≡ hindered w → Does (ruleSet l) s (Stopped w) s
       inSequence : {cs : Commands} {s t : State} {e : End} → Follows cs s e t → Does (sequence cs) s e t
+      -- a call means its procedure's command, which is entered in its turn
+      calls : {c : Command} {s t : State} {e : End} → Executes c s e t → Does (called c) s e t
       -- if: the guard's changes are undone; try: a successful guard's changes stay
       thenIf : {g a b : Command} {s u : State} {e : End} (t : State) → Executes g s Done t → Executes a (back s t) e u
           → Does (guarded false g a b) s e u

@@ -21,7 +21,7 @@ use Rattle.laws.specs.Pieces.{fits-length}
 use Rattle.laws.specs.Hosts.{length-writeNodes, length-writeEdges}
 use Rattle.laws.specs.Records.{LegalChange, Every-reverse}
 use Rattle.laws.specs.Legality.{LegalLedger}
-use Rattle.laws.specs.LegalImage.{program-legal}
+use Rattle.laws.specs.Calls.{accepted-legal}
 use Rattle.laws.specs.Undoing.{base-numbered, out-legal}
 use Rattle.meaning.specs.declared.End.{End}
 use Rattle.meaning.specs.declared.End.the-variants.{Done, Failed, Broke, Stopped}
@@ -40,7 +40,7 @@ module _ (x : Lent) (k : Lendable x) (a : Good base x) where
   legal : LegalLedger base (length (x .nodes) / nodeLength base) (length (x .edges) / edgeLength base) (out .state .ledger)
   legal =
       out-legal base base-numbered (x .nodes) (x .edges) (x .journal) (k .nodes .bytewise) (k .edges .bytewise) (a .nodesFit) (a .edgesFit)
-      (a .journalFits) (a .layout) (a .tree) (program-legal (x .image) (a .tree) (k .image .bytewise) (a .form) (a .references)) (x .fuel)
+      (a .journalFits) (a .layout) (a .tree) (accepted-legal base x (k .image .bytewise) a) (x .fuel)
 
   abbrev left : Outcome
   left = outcomeAt base x Done (out .state)

@@ -6,7 +6,7 @@ use mathlib.Core.Option.{Option, some, none}
 use mathlib.Core.List.{List, [], _∷_, map}
 use native.Mathlib.Omega.{arith}
 use Rattle.meaning.specs.Basics.{choose, firstFailing}
-use Rattle.meaning.specs.Image.{Program, program}
+use Rattle.meaning.specs.Procedures.{Program, program}
 use Rattle.meaning.specs.Commands.{Out}
 use Rattle.meaning.specs.Calls.{Returned, stopNumber, answerNumber, refusalNumber, refused, refusalAs, runRefusal, finished, run, undoRefusal as undoRefused, undoOn, undo, Lent, LentUndo}
 use Rattle.demands.specs.Demands.{Outcome, Interpreter, stopAnswer, runRefusedWith, undoRefusedWith, asItCame, outcomeAt}

@@ -7,7 +7,7 @@ use mathlib.Core.List.{List}
 use native.Mathlib.Omega.{arith}
 use lib.ListN.{length}
 use Rattle.meaning.specs.Layout.{recordLength}
-use Rattle.meaning.specs.Image.{Program, program}
+use Rattle.meaning.specs.Procedures.{Program, program}
 use Rattle.meaning.specs.Commands.{State}
 use Rattle.meaning.specs.Calls.{Returned, answerNumber, finished, run, Lent}
 use Rattle.demands.specs.Demands.{Outcome, Interpreter, Lendable, runRefusedWith, outcomeAt, Means, recordsIn, lentAfter, Restored, Demand2}

@@ -1,5 +1,5 @@
 -- What is known of a run of ours that starts: its rules are legal, what it ends at is legal and its records fit the journal,
--- and it ends as the rules of inference say. Rests on Ours and Laws/Inference and on laws' Undoing and LegalImage.
+-- and it ends as the rules of inference say. Rests on Ours and Laws/Inference and on laws' Undoing and Calls.
 use Prim.Native.Nat.{ℕ, _/_, _≤_}
 use mathlib.Core.List.{List, map, reverse}
 use native.Mathlib.Omega.{arith}
@@ -8,7 +8,6 @@ use lib.ListN.{length}
 use Rattle.meaning.specs.Basics.{concat}
 use Rattle.meaning.specs.Layout.{nodeLength, edgeLength, recordLength, writeRecord}
 use Rattle.meaning.specs.Commands.{Out, ruleAt}
-use Rattle.meaning.specs.Placement.{placement}
 use Rattle.meaning.specs.Calls.{Lent}
 use Rattle.demands.specs.Demands.{Lendable, start, Means}
 use Rattle.demands.specs.Ours.{end, Good}
@@ -16,7 +15,7 @@ use Rattle.laws.specs.Records.{length-written}
 use Rattle.laws.specs.Commands.{exec-room}
 use Rattle.laws.specs.Legality.{LegalLedger}
 use Rattle.laws.specs.LegalCommands.{LegalRules, legal-sound}
-use Rattle.laws.specs.LegalImage.{program-legal}
+use Rattle.laws.specs.Calls.{accepted-legal, accepted-stays}
 use Rattle.laws.specs.Undoing.{Numbered, out-legal}
 use Rattle.laws.specs.References.{Sound}
 use Rattle.demands.specs.Laws.Inference.{exec-executes}
@@ -24,7 +23,7 @@ use Rattle.meaning.specs.declared.Layout.{Layout}
 
 module _ (L : Layout) (k : Numbered L) (x : Lent) (b : Lendable x) (a : Good L x) where
   rules-legal : LegalRules (a .tree .rules)
-  rules-legal = program-legal (x .image) (a .tree) (b .image .bytewise) (a .form) (a .references)
+  rules-legal = accepted-legal L x (b .image .bytewise) a
 
   pub rules-sound : (i : ℕ) → Sound (ruleAt (a .tree .rules) i)
   rules-sound = legal-sound (a .tree .rules) rules-legal
@@ -53,7 +52,6 @@ module _ (L : Layout) (k : Numbered L) (x : Lent) (b : Lendable x) (a : Good L x
 
   -- the program's meaning
   pub last-means : Means L x (a .tree) (last .end) (last .state)
-  unfolding placement
   last-means =
       exec-executes (L .atoms) (length (x .journal) / recordLength L) (a .tree .rules) rules-sound (a .tree .main) (start L x)
-      (a .placement)
+      (accepted-stays L x a)

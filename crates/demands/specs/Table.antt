@@ -8,7 +8,7 @@ use lib.ListN.{length, getD, replicate, length-map}
 use Rattle.meaning.specs.Basics.{every, absent, padded}
 use Rattle.meaning.specs.Layout.{base, nodeLength}
 use Rattle.meaning.specs.Image.{limits}
-use Rattle.meaning.specs.Tags.{constantTag, sumTag}
+use Rattle.meaning.specs.Tags.{procedureTag, constantTag, sumTag, callTag}
 use Rattle.meaning.specs.Calls.{mostFuel, Lent, LentUndo}
 use Rattle.meaning.specs.ProvedSet.{plainNode, fieldBytes, ruleField, nodeField, edgeField, ruleSetField, skipField, failField, breakField, marksRed}
 use Rattle.meaning.specs.Computing.{computing}
@@ -41,6 +41,10 @@ overflows =
     (nodeField 0 (fieldBytes sumTag (fieldBytes constantTag (127 ∷ 255 ∷ 255 ∷ 255 ∷ []) ++ fieldBytes constantTag (0 ∷ 0 ∷ 0 ∷ 1 ∷ []))))
     1
 
+-- a call of procedure 0
+abbrev callField : List ℕ
+callField = fieldBytes callTag (0 ∷ [])
+
 abbrev runSamples : List Lent
 runSamples =
     program skipField
@@ -58,11 +62,13 @@ runSamples =
     ∷ buffers [] [] (0 ∷ []) 1 eight
     ∷ buffers [] [] [] (suc mostFuel) eight
     ∷ program (replicate (suc (limits .bytes)) 0)
-    -- a node of state 2; no program; a rule that isn't there; a break outside a loop
+    -- a node of state 2; no program; a rule that isn't there; a break outside a loop; a
+    -- procedure that calls itself
     ∷ buffers (padded (nodeLength base) (2 ∷ [])) [] [] 1 eight
     ∷ program []
     ∷ program (ruleSetField 0)
     ∷ program breakField
+    ∷ program (fieldBytes procedureTag callField ++ callField)
     ∷ []
 
 abbrev lentUndo : List ℕ → List ℕ → List ℕ → ℕ → List ℕ → LentUndo

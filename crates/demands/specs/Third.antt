@@ -10,7 +10,8 @@ use lib.Seq.{take-at}
 use Rattle.meaning.specs.Basics.{absent, both, concat}
 use Rattle.meaning.specs.Numbers.{bytes}
 use Rattle.meaning.specs.Layout.{nodeLength, edgeLength, recordLength, readNodes, readEdges, writeRecord}
-use Rattle.meaning.specs.Image.{Program, program}
+use Rattle.meaning.specs.Image.{rawProgram}
+use Rattle.meaning.specs.Procedures.{Program, program}
 use Rattle.meaning.specs.Commands.{State, Out, ends, exec, beginning}
 use Rattle.meaning.specs.Calls.{Lent}
 use Rattle.demands.specs.Demands.{Outcome, Interpreter, stopAnswer, In, Lendable, reporting, runRefusedWith, start, outcomeAt, Means, Roomier, SameWithRoom, Entered, Settled, Demand3}
@@ -144,10 +145,14 @@ module _ (L : Layout) (k : Numbered L) (x : Lent) (b : Lendable x) (h : In (ours
           layout =
               rw (more .nodes, more .edges)
               (keepsLayout-further L (more .nodesMore) (more .edgesMore) (x .nodes) (x .edges) nodes-whole edges-whole (a .layout));
-          tree = p;
-          form = form-y;
+          raw = a .raw;
+          read = ap rawProgram (more .image) ∙ a .read;
           references = a .references;
           placement = a .placement;
+          depth = a .depth;
+          tree = p;
+          whole = a .whole;
+          form = form-y;
         })
 
     abbrev room : ℕ

@@ -8,8 +8,10 @@ use native.Mathlib.Omega.{arith}
 use lib.ListN.{length, getD, take, drop, replicate}
 use Rattle.meaning.specs.Basics.{choose}
 use Rattle.meaning.specs.Numbers.{number}
+use Rattle.meaning.specs.Tags.{procedureTag, callTag}
 use Rattle.meaning.specs.Layout.{Slot, free, live, Node, base}
-use Rattle.meaning.specs.Image.{Rule, Command, ruleSet, sequence, guarded, loop, skip, fail, break, Commands, noMore, then}
+use Rattle.meaning.specs.Image.{Rule}
+use Rattle.meaning.specs.Procedures.{Command, ruleSet, sequence, guarded, loop, skip, fail, break, called, Commands, noMore, then}
 use Rattle.meaning.specs.Commands.{State, Out, ends, back, enter, firstRule, next, rounds, ruleCall, exec}
 use Rattle.meaning.specs.Computing.{computing}
 use Rattle.meaning.specs.ProvedSet.{Case, plainNode, onPlainNode, results, noResult, fieldBytes, ruleSetField, marksRed, skipField, failField}
@@ -70,6 +72,7 @@ unfoldable mutual
   firstOnly skip = skip
   firstOnly fail = fail
   firstOnly break = break
+  firstOnly (called c) = called (firstOnly c)
 
   pub onlyFirst : Commands → Commands
   onlyFirst noMore = noMore
@@ -81,6 +84,36 @@ runsFirst = by (λ most room rules c s. exec most room rules (firstOnly c) s)
 pub running-first : Demand2 base runsFirst → ⊥
 unfolding computing runsOn firstOnly onlyFirst
 running-first = atCase 10 refl (omega arith) runsFirst (λ e. let z = ap (λ (o : Outcome). getD (o .nodes) 1 0) e in omega arith)
+
+-- One that enters calls for free breaks demand 2 at a call of a procedure of skip.
+
+unfoldable mutual
+  pub uncalled : Command → Command
+  uncalled (ruleSet l) = ruleSet l
+  uncalled (sequence cs) = sequence (allUncalled cs)
+  uncalled (guarded keep g a b) = guarded keep (uncalled g) (uncalled a) (uncalled b)
+  uncalled (loop c) = loop (uncalled c)
+  uncalled skip = skip
+  uncalled fail = fail
+  uncalled break = break
+  uncalled (called c) = uncalled c
+
+  pub allUncalled : Commands → Commands
+  allUncalled noMore = noMore
+  allUncalled (then c cs) = then (uncalled c) (allUncalled cs)
+
+abbrev pub callsFreely : Interpreter
+callsFreely = by (λ most room rules c s. exec most room rules (uncalled c) s)
+
+-- ours enters two commands
+abbrev callOfSkip : Case
+callOfSkip = onPlainNode 100 (fieldBytes procedureTag skipField ++ fieldBytes callTag (0 ∷ [])) (results 2 0 plainNode [] [])
+
+pub calling-freely : Demand2 base callsFreely → ⊥
+unfolding computing runsOn uncalled allUncalled
+calling-freely =
+    breaks2 callsFreely (lent callOfSkip) refl (omega arith)
+    (λ e. let z = ap (λ (o : Outcome). getD (o .report) 3 0) e in omega arith)
 
 -- One that answers 0 with what it had when the fuel ran out breaks demand 2 at case 2.
 
@@ -148,6 +181,7 @@ module _ (most room : ℕ) (rules : List Rule) where
     carelessly skip s = ends Done s
     carelessly fail s = ends Failed s
     carelessly break s = ends Broke s
+    carelessly (called c) s = enter (λ t. carelessly c t) s
 
     pub allCarelessly : Commands → State → Out
     allCarelessly noMore s = ends Done s

@@ -7,8 +7,8 @@ use Prim.Native.Nat.{ℕ}
 use lib.Dec.{eqb}
 use lib.ListN.{length, getD}
 use Rattle.meaning.specs.Basics.{choose}
-use Rattle.meaning.specs.Tags.{ruleSetTag, sequenceTag, loopTag, skipTag, failTag, breakTag, guardedTag}
-use Rattle.meaning.specs.Image.{Command, ruleSet, sequence, guarded, loop, skip, fail, break}
+use Rattle.meaning.specs.Tags.{ruleSetTag, sequenceTag, loopTag, skipTag, failTag, breakTag, callTag, guardedTag}
+use Rattle.meaning.specs.Image.{Raw, ruleSet, sequence, guarded, loop, skip, fail, break, call}
 use Rattle.meaning.specs.Commands.{State, Out, ends, back}
 use Rattle.fields.specs.Parsed.{tagOf}
 use Rattle.laws.specs.Hosts.{LegalHost}
@@ -20,7 +20,7 @@ use Rattle.meaning.specs.declared.End.{End}
 use Rattle.meaning.specs.declared.End.the-variants.{Done, Failed, Broke, Stopped}
 use Rattle.ledger.specs.Running.{ledgerOf, stateOf, outOf, Running}
 use Rattle.ends.specs.declared.Kind.{Kind}
-use Rattle.ends.specs.declared.Kind.the-variants.{Sequence, Guarded, Loop, Leaf}
+use Rattle.ends.specs.declared.Kind.the-variants.{Sequence, Guarded, Loop, Call, Leaf}
 
 -- the tag of a command that ends at once
 abbrev pub LeafTag : ℕ → End → Type 0
@@ -34,6 +34,7 @@ abbrev pub Tagged : ℕ → List ℕ → Kind → Type 0
 Tagged tag bs Sequence = tag ≡ sequenceTag
 Tagged tag bs (Guarded keep) = (tag ≡ guardedTag) × (keep ≡ eqb (getD bs 0 0) 1)
 Tagged tag bs Loop = tag ≡ loopTag
+Tagged tag bs (Call i) = (tag ≡ callTag) × (i ≡ getD bs 0 0)
 Tagged tag bs (Leaf e) = LeafTag tag e
 
 -- the kind that a tag and a payload say; a tag that is none of these counts as a break's
@@ -42,11 +43,12 @@ kindOf tag bs =
     choose (eqb tag sequenceTag) Sequence
     (choose (eqb tag guardedTag) (Guarded (eqb (getD bs 0 0) 1))
     (choose (eqb tag loopTag) Loop
+    (choose (eqb tag callTag) (Call (getD bs 0 0))
     (choose (eqb tag skipTag) (Leaf Done)
-    (choose (eqb tag failTag) (Leaf Failed) (Leaf Broke)))))
+    (choose (eqb tag failTag) (Leaf Failed) (Leaf Broke))))))
 
 -- the tag of a command other than a rule set is its kind's
-pub kind-tagged : (c : Command) (bs : List ℕ) → (tagOf c ≡ ruleSetTag → ⊥) → Tagged (tagOf c) bs (kindOf (tagOf c) bs)
+pub kind-tagged : (c : Raw) (bs : List ℕ) → (tagOf c ≡ ruleSetTag → ⊥) → Tagged (tagOf c) bs (kindOf (tagOf c) bs)
 unfolding kindOf choose
 kind-tagged (ruleSet l) bs h = absurd (h refl)
 kind-tagged (sequence cs) bs h = refl
@@ -55,6 +57,7 @@ kind-tagged (loop c) bs h = refl
 kind-tagged skip bs h = refl
 kind-tagged fail bs h = refl
 kind-tagged break bs h = refl
+kind-tagged (call i) bs h = (refl, refl)
 
 unfoldable pub isDone : End → Bool
 isDone Done = true

@@ -16,6 +16,8 @@ pub enum Kind {
     // The flag says whether the changes of a guard that succeeds are kept.
     Guarded(bool),
     Loop,
+    // The number of the procedure that is called.
+    Call(usize),
     // Skip, fail and break: how they end.
     Leaf(End),
 }
@@ -28,6 +30,7 @@ pub fn kind_of(tag: u8, p: &[u8]) -> Kind
         Tag::SEQUENCE => Kind::Sequence,
         Tag::GUARDED => Kind::Guarded(parts::flag(p)),
         Tag::LOOP => Kind::Loop,
+        Tag::CALL => Kind::Call(parts::number_at(p, 0)),
         Tag::SKIP => Kind::Leaf(End::Done),
         Tag::FAIL => Kind::Leaf(End::Failed),
         _ => Kind::Leaf(End::Broke),

@@ -12,9 +12,9 @@ use lib.ListN.{length, getD, take, drop, length-drop, length-append, drop-of-len
 use lib.Seq.{length-take-le, getD-drop, drop-drop}
 use Rattle.meaning.specs.Basics.{choose, both, either, every, isEmpty, isSome, ensure, _>>_, _>>=_}
 use Rattle.meaning.specs.Layout.{isNodeMark, isEdgeMark}
-use Rattle.meaning.specs.Image.{RuleNode, Rule, Command, Field, Read, Pair, stated, field, expect, leading, only, passesAll, constant, oneByte, flag, operand, asPair, twoOperands, element, label, ruleNode, ruleEdge, ruleGraph, relation, condition, test, isType, types, mode, rule, leaf, asRuleSet, asSequence, asGuarded, asLoop, unguarded, command, programBy, program}
-use Rattle.meaning.specs.Tags.{anyMark, breakTag, constantTag, differenceTag, edgeTag, edgeTestTag, failTag, guardedTag, inDegreeTag, loopTag, nodeTag, outDegreeTag, relationTag, ruleSetTag, ruleTag, sequenceTag, skipTag, sumTag, variableTag}
-use Rattle.meaning.specs.Image.Command.{skip, fail, break}
+use Rattle.meaning.specs.Image.{RuleNode, Rule, Raw, Field, Read, Pair, limits, stated, field, expect, leading, only, passesAll, constant, oneByte, flag, operand, asPair, twoOperands, element, label, ruleNode, ruleEdge, ruleGraph, relation, condition, test, isType, types, mode, rule, leaf, asRuleSet, asSequence, asGuarded, asLoop, asCall, unguarded, command, oneCommand, programBy, rawProgram}
+use Rattle.meaning.specs.Tags.{anyMark, breakTag, callTag, constantTag, differenceTag, edgeTag, edgeTestTag, failTag, guardedTag, inDegreeTag, loopTag, nodeTag, outDegreeTag, procedureTag, relationTag, ruleSetTag, ruleTag, sequenceTag, skipTag, sumTag, variableTag}
+use Rattle.meaning.specs.Image.Raw.{skip, fail, break}
 use Rattle.meaning.specs.declared.Operand.{Operand}
 use Rattle.meaning.specs.declared.Condition.the-variants.{Equal, Less}
 use Rattle.meaning.specs.Laws.Tests.{choose-true, choose-false, choose-ne, some-inj, bind-some, ensure-some, ensure-yes, ensure-no}
@@ -382,12 +382,12 @@ pub asRuleSet-ok : (bs : List ℕ) → isSome (asRuleSet bs) ≡ both (leb 1 (le
 unfolding asRuleSet
 asRuleSet-ok bs = isSome-ensure _ _
 
-pub asSequence-ok : (l : List Command) → isSome (asSequence l) ≡ ltb 0 (length l)
+pub asSequence-ok : (l : List Raw) → isSome (asSequence l) ≡ ltb 0 (length l)
 unfolding asSequence isSome
 asSequence-ok [] = refl
 asSequence-ok (c ∷ l) = sym (lt-ltb 0 (length (c ∷ l)) (omega arith))
 
-pub asGuarded-ok : (keep : Bool) (l : List Command) → isSome (asGuarded keep l) ≡ eqb (length l) 3
+pub asGuarded-ok : (keep : Bool) (l : List Raw) → isSome (asGuarded keep l) ≡ eqb (length l) 3
 unfolding asGuarded isSome
 asGuarded-ok keep [] = refl
 asGuarded-ok keep (a ∷ []) = refl
@@ -395,13 +395,13 @@ asGuarded-ok keep (a ∷ b ∷ []) = refl
 asGuarded-ok keep (a ∷ b ∷ c ∷ []) = refl
 asGuarded-ok keep (a ∷ b ∷ c ∷ d ∷ l) = sym (ne-eqb (length (a ∷ b ∷ c ∷ d ∷ l)) 3 (λ e. omega arith))
 
-pub asLoop-ok : (l : List Command) → isSome (asLoop l) ≡ eqb (length l) 1
+pub asLoop-ok : (l : List Raw) → isSome (asLoop l) ≡ eqb (length l) 1
 unfolding asLoop isSome
 asLoop-ok [] = refl
 asLoop-ok (c ∷ []) = refl
 asLoop-ok (c ∷ d ∷ l) = sym (ne-eqb (length (c ∷ d ∷ l)) 1 (λ e. omega arith))
 
-pub leaf-ok : (c : Command) (bs : List ℕ) → isSome (leaf c bs) ≡ isEmpty bs
+pub leaf-ok : (c : Raw) (bs : List ℕ) → isSome (leaf c bs) ≡ isEmpty bs
 unfolding leaf
 leaf-ok c bs = isSome-ensure _ _
 
@@ -439,10 +439,15 @@ module _ (n tag : ℕ) (bs : List ℕ) where
   unfolding command unguarded choose
   command-break h = rw h
 
-  pub command-other : (tag ≡ ruleSetTag → ⊥) → (tag ≡ sequenceTag → ⊥) → (tag ≡ guardedTag → ⊥) → (tag ≡ loopTag → ⊥) → (tag ≡ skipTag → ⊥) → (tag ≡ failTag → ⊥) → (tag ≡ breakTag → ⊥) → command (suc n) tag bs ≡ none
+  pub command-call : tag ≡ callTag → command (suc n) tag bs ≡ asCall bs
+  unfolding command choose
+  command-call h = rw h
+
+  pub command-other : (tag ≡ ruleSetTag → ⊥) → (tag ≡ sequenceTag → ⊥) → (tag ≡ guardedTag → ⊥) → (tag ≡ loopTag → ⊥) → (tag ≡ skipTag → ⊥) → (tag ≡ failTag → ⊥) → (tag ≡ breakTag → ⊥) → (tag ≡ callTag → ⊥) → command (suc n) tag bs ≡ none
   unfolding command unguarded
-  command-other h0 h1 h2 h3 h4 h5 h6 =
+  command-other h0 h1 h2 h3 h4 h5 h6 h7 =
       choose-ne tag guardedTag _ _ h2
+      ∙ choose-ne tag callTag _ _ h7
       ∙ choose-ne tag ruleSetTag _ _ h0
       ∙ choose-ne tag sequenceTag _ _ h1
       ∙ choose-ne tag loopTag _ _ h3
@@ -452,16 +457,29 @@ module _ (n tag : ℕ) (bs : List ℕ) where
 
 -- The whole.
 
+-- one command, and nothing behind it
+module _ (read : ℕ → List ℕ → Option Raw) (bs : List ℕ) where
+  pub one-no-field : field bs ≡ none → oneCommand read bs ≡ none
+  unfolding oneCommand
+  one-no-field e = bind-none _ _ e
+
+  pub one-ok : (d : Field) → field bs ≡ some d → isSome (oneCommand read bs) ≡ both (isEmpty (d .rest)) (isSome (read (d .tag) (d .payload)))
+  unfolding oneCommand
+  one-ok d e = ap isSome (bind-yes _ _ d e) ∙ isSome-after _ _ _ refl
+
 module _ (bs : List ℕ) where
-  pub program-no-rules : leading (eqb ruleTag) (λ tag. rule) 32 bs ≡ none → program bs ≡ none
-  unfolding program programBy
+  pub program-no-rules : leading (eqb ruleTag) (λ tag. rule) (limits .rules) bs ≡ none → rawProgram bs ≡ none
+  unfolding rawProgram programBy
   program-no-rules e = bind-none _ _ e
 
-  module _ (r : Read Rule) (e : leading (eqb ruleTag) (λ tag. rule) 32 bs ≡ some r) where
-    pub program-no-field : field (r .rest) ≡ none → program bs ≡ none
-    unfolding program programBy
-    program-no-field q = bind-yes _ _ r e ∙ bind-none _ _ q
+  module _ (r : Read Rule) (e : leading (eqb ruleTag) (λ tag. rule) (limits .rules) bs ≡ some r) where
+    abbrev procedures : Option (Read Raw)
+    procedures = leading (eqb procedureTag) (λ tag. oneCommand (command (limits .depth))) (limits .procedures) (r .rest)
 
-    pub program-ok : (d : Field) → field (r .rest) ≡ some d → isSome (program bs) ≡ both (isEmpty (d .rest)) (isSome (command 16 (d .tag) (d .payload)))
-    unfolding program programBy
-    program-ok d q = ap isSome (bind-yes _ _ r e ∙ bind-yes _ _ d q) ∙ isSome-after _ _ _ (isSome-map _ _)
+    pub program-no-procedures : procedures ≡ none → rawProgram bs ≡ none
+    unfolding rawProgram programBy
+    program-no-procedures q = bind-yes _ _ r e ∙ bind-none _ _ q
+
+    pub program-ok : (k : Read Raw) → procedures ≡ some k → isSome (rawProgram bs) ≡ isSome (oneCommand (command (limits .depth)) (k .rest))
+    unfolding rawProgram programBy
+    program-ok k q = ap isSome (bind-yes _ _ r e ∙ bind-yes _ _ k q) ∙ isSome-map _ _

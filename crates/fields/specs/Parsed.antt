@@ -13,9 +13,9 @@ use lib.ListN.{length, getD, drop}
 use Rattle.meaning.specs.Basics.{either, every, isEmpty}
 use Rattle.meaning.specs.Numbers.{number}
 use Rattle.meaning.specs.Layout.{isNodeMark, isEdgeMark}
-use Rattle.meaning.specs.Image.{limits, RuleEdge, RuleGraph, Program, inOrder, RuleNode, Rule, Command, Field, Read, Pair, field, expect, leading, only, passesAll, constant, oneByte, flag, operand, asPair, twoOperands, element, label, ruleNode, ruleEdge, ruleGraph, relation, condition, test, isType, types, mode, preserves, rule, leaf, asRuleSet, asSequence, asGuarded, asLoop, command, programBy}
-use Rattle.meaning.specs.Tags.{anyMark, breakTag, constantTag, differenceTag, edgeTag, edgeTestTag, failTag, guardedTag, inDegreeTag, interfaceTag, leftTag, loopTag, modeTag, nodeTag, outDegreeTag, rightTag, ruleSetTag, ruleTag, sequenceTag, skipTag, sumTag, testsTag, variableTag, variablesTag}
-use Rattle.meaning.specs.Image.Command.{ruleSet, sequence, guarded, loop, skip, fail, break}
+use Rattle.meaning.specs.Image.{limits, RuleEdge, RuleGraph, RawProgram, inOrder, RuleNode, Rule, Raw, Field, Read, Pair, field, expect, leading, only, passesAll, constant, oneByte, flag, operand, asPair, twoOperands, element, label, ruleNode, ruleEdge, ruleGraph, relation, condition, test, isType, types, mode, preserves, rule, leaf, asRuleSet, asSequence, asGuarded, asLoop, asCall, command, oneCommand, programBy}
+use Rattle.meaning.specs.Tags.{anyMark, breakTag, callTag, constantTag, differenceTag, edgeTag, edgeTestTag, failTag, guardedTag, inDegreeTag, interfaceTag, leftTag, loopTag, modeTag, nodeTag, outDegreeTag, procedureTag, rightTag, ruleSetTag, ruleTag, sequenceTag, skipTag, sumTag, testsTag, variableTag, variablesTag}
+use Rattle.meaning.specs.Image.Raw.{ruleSet, sequence, guarded, loop, skip, fail, break, call}
 use Rattle.meaning.specs.declared.Operand.{Operand}
 use Rattle.meaning.specs.declared.Operand.the-variants.{Constant as constantOperand, Variable as variableOperand}
 use Rattle.meaning.specs.declared.Element.{Element}
@@ -25,7 +25,7 @@ use Rattle.meaning.specs.declared.Condition.{Condition}
 use Rattle.meaning.specs.declared.Condition.the-variants.{Edge, InDegree, OutDegree, Equal, Less}
 use Rattle.meaning.specs.Laws.Every.{Every}
 use Rattle.meaning.specs.Laws.Tests.{both-true, empty-true, choose-eq, choose-true, choose-false, choose-ne, some-inj, bind-some, ensure-some, ensure-yes}
-use Rattle.fields.specs.Image.{bind-yes, leading-led, command-no-depth, command-ruleSet, command-sequence, command-guarded, command-loop, command-skip, command-fail, command-break, command-other}
+use Rattle.fields.specs.Image.{bind-yes, leading-led, command-no-depth, command-ruleSet, command-sequence, command-guarded, command-loop, command-skip, command-fail, command-break, command-call, command-other}
 
 -- Series of fields.
 
@@ -337,12 +337,12 @@ rule-few bs x e =
 
 -- Commands, by tag.
 
-pub asSequence-is : (l : List Command) (x : Command) → asSequence l ≡ some x → (1 ≤ length l) × (x ≡ sequence (inOrder l))
+pub asSequence-is : (l : List Raw) (x : Raw) → asSequence l ≡ some x → (1 ≤ length l) × (x ≡ sequence (inOrder l))
 unfolding asSequence inOrder
 asSequence-is [] x e = let z : _≡_ {A = ℕ} 0 1 = cc in absurd (omega arith)
 asSequence-is (c ∷ l) x e = (omega arith, sym (some-inj _ x e))
 
-pub asGuarded-is : (keep : Bool) (l : List Command) (x : Command) → asGuarded keep l ≡ some x → (a b c : Command) × (l ≡ a ∷ b ∷ c ∷ []) × (x ≡ guarded keep a b c)
+pub asGuarded-is : (keep : Bool) (l : List Raw) (x : Raw) → asGuarded keep l ≡ some x → (a b c : Raw) × (l ≡ a ∷ b ∷ c ∷ []) × (x ≡ guarded keep a b c)
 unfolding asGuarded
 asGuarded-is keep [] x e = let z : _≡_ {A = ℕ} 0 1 = cc in absurd (omega arith)
 asGuarded-is keep (a ∷ []) x e = let z : _≡_ {A = ℕ} 0 1 = cc in absurd (omega arith)
@@ -350,17 +350,24 @@ asGuarded-is keep (a ∷ b ∷ []) x e = let z : _≡_ {A = ℕ} 0 1 = cc in abs
 asGuarded-is keep (a ∷ b ∷ c ∷ []) x e = (a, b, c, refl, sym (some-inj _ x e))
 asGuarded-is keep (a ∷ b ∷ c ∷ d ∷ l) x e = let z : _≡_ {A = ℕ} 0 1 = cc in absurd (omega arith)
 
-pub asLoop-is : (l : List Command) (x : Command) → asLoop l ≡ some x → (c : Command) × (l ≡ c ∷ []) × (x ≡ loop c)
+pub asLoop-is : (l : List Raw) (x : Raw) → asLoop l ≡ some x → (c : Raw) × (l ≡ c ∷ []) × (x ≡ loop c)
 unfolding asLoop
 asLoop-is [] x e = let z : _≡_ {A = ℕ} 0 1 = cc in absurd (omega arith)
 asLoop-is (c ∷ []) x e = (c, refl, sym (some-inj _ x e))
 asLoop-is (c ∷ d ∷ l) x e = let z : _≡_ {A = ℕ} 0 1 = cc in absurd (omega arith)
 
-pub leaf-is : (c : Command) (bs : List ℕ) (x : Command) → leaf c bs ≡ some x → (bs ≡ []) × (x ≡ c)
+pub leaf-is : (c : Raw) (bs : List ℕ) (x : Raw) → leaf c bs ≡ some x → (bs ≡ []) × (x ≡ c)
 unfolding leaf
 leaf-is c bs x e = let t = ensure-some _ _ x e in (empty-true bs (t .0), sym (some-inj c x (t .1)))
 
-module _ (n tag : ℕ) (bs : List ℕ) (x : Command) (e : command (suc n) tag bs ≡ some x) where
+asCall-is : (bs : List ℕ) (x : Raw) → asCall bs ≡ some x → (length bs ≡ 1) × (x ≡ call (getD bs 0 0))
+unfolding asCall
+asCall-is bs x e =
+    let t = bind-some (oneByte bs) _ x e in
+    let i = oneByte-is bs (t .0) (t .1) in
+    (i .0, sym (some-inj _ x (t .2)) ∙ ap call (i .1))
+
+module _ (n tag : ℕ) (bs : List ℕ) (x : Raw) (e : command (suc n) tag bs ≡ some x) where
   pub rule-set-read : tag ≡ ruleSetTag → (x ≡ ruleSet bs) × (1 ≤ length bs) × (length bs ≤ limits .numbers)
   unfolding asRuleSet
   rule-set-read h =
@@ -368,20 +375,20 @@ module _ (n tag : ℕ) (bs : List ℕ) (x : Command) (e : command (suc n) tag bs
       let b = both-true (leb 1 (length bs)) _ (t .0) in
       (sym (some-inj _ x (t .1)), leb-true _ _ (b .0), leb-true _ _ (b .1))
 
-  pub sequence-read : tag ≡ sequenceTag → (l : List Command) × (only passesAll (command n) (limits .commands) bs ≡ some l) × (1 ≤ length l) × (length l ≤ limits .commands) × (x ≡ sequence (inOrder l))
+  pub sequence-read : tag ≡ sequenceTag → (l : List Raw) × (only passesAll (command n) (limits .commands) bs ≡ some l) × (1 ≤ length l) × (length l ≤ limits .commands) × (x ≡ sequence (inOrder l))
   sequence-read h =
       let t = bind-some (only passesAll (command n) (limits .commands) bs) _ x (sym (command-sequence n tag bs h) ∙ e) in
       let s = asSequence-is (t .0) x (t .2) in
       (t .0, t .1, s .0, only-few passesAll (command n) (limits .commands) bs (t .0) (t .1), s .1)
 
-  pub guarded-read : tag ≡ guardedTag → (a b c : Command) × (only passesAll (command n) (limits .commands) (drop 1 bs) ≡ some (a ∷ b ∷ c ∷ [])) × (x ≡ guarded (eqb (getD bs 0 0) 1) a b c)
+  pub guarded-read : tag ≡ guardedTag → (a b c : Raw) × (only passesAll (command n) (limits .commands) (drop 1 bs) ≡ some (a ∷ b ∷ c ∷ [])) × (x ≡ guarded (eqb (getD bs 0 0) 1) a b c)
   guarded-read h =
       let f = bind-some (flag bs) _ x (sym (command-guarded n tag bs h) ∙ e) in
       let t = bind-some (only passesAll (command n) (limits .commands) (drop 1 bs)) _ x (f .2) in
       let s = asGuarded-is (f .0) (t .0) x (t .2) in
       (s .0, s .1, s .2, t .1 ∙ ap some (s .3), s .4 ∙ ap (λ (keep : Bool). guarded keep (s .0) (s .1) (s .2)) (flag-is bs (f .0) (f .1) .1))
 
-  pub loop-read : tag ≡ loopTag → (c : Command) × (only passesAll (command n) (limits .commands) bs ≡ some (c ∷ [])) × (x ≡ loop c)
+  pub loop-read : tag ≡ loopTag → (c : Raw) × (only passesAll (command n) (limits .commands) bs ≡ some (c ∷ [])) × (x ≡ loop c)
   loop-read h =
       let t = bind-some (only passesAll (command n) (limits .commands) bs) _ x (sym (command-loop n tag bs h) ∙ e) in
       let s = asLoop-is (t .0) x (t .2) in
@@ -396,8 +403,11 @@ module _ (n tag : ℕ) (bs : List ℕ) (x : Command) (e : command (suc n) tag bs
   pub break-read : tag ≡ breakTag → (bs ≡ []) × (x ≡ break)
   break-read h = leaf-is break bs x (sym (command-break n tag bs h) ∙ e)
 
+  pub call-read : tag ≡ callTag → (length bs ≡ 1) × (x ≡ call (getD bs 0 0))
+  call-read h = asCall-is bs x (sym (command-call n tag bs h) ∙ e)
+
 -- the tag of a command
-abbrev pub tagOf : Command → ℕ
+abbrev pub tagOf : Raw → ℕ
 tagOf (ruleSet l) = ruleSetTag
 tagOf (sequence cs) = sequenceTag
 tagOf (guarded keep a b c) = guardedTag
@@ -405,58 +415,79 @@ tagOf (loop c) = loopTag
 tagOf skip = skipTag
 tagOf fail = failTag
 tagOf break = breakTag
+tagOf (call i) = callTag
 
-pub no-rule : (x : Command) → tagOf x ≡ ruleTag → ⊥
-no-rule (ruleSet l) h = omega arith
-no-rule (sequence cs) h = omega arith
-no-rule (guarded keep a b c) h = omega arith
-no-rule (loop c) h = omega arith
-no-rule skip h = omega arith
-no-rule fail h = omega arith
-no-rule break h = omega arith
+-- it is neither that of a rule nor that of a procedure
+pub command-tagged : (x : Raw) → procedureTag < tagOf x
+command-tagged (ruleSet l) = omega arith
+command-tagged (sequence cs) = omega arith
+command-tagged (guarded keep a b c) = omega arith
+command-tagged (loop c) = omega arith
+command-tagged skip = omega arith
+command-tagged fail = omega arith
+command-tagged break = omega arith
+command-tagged (call i) = omega arith
 
 -- a command that is read has its tag, and there is depth for it
-pub command-tag : (n tag : ℕ) (bs : List ℕ) (x : Command) → command n tag bs ≡ some x → (0 < n) × (tag ≡ tagOf x)
+pub command-tag : (n tag : ℕ) (bs : List ℕ) (x : Raw) → command n tag bs ≡ some x → (0 < n) × (tag ≡ tagOf x)
 command-tag zero tag bs x e =
     let h = command-no-depth tag bs in
     let z : _≡_ {A = ℕ} 0 1 = cc in
     absurd (omega arith)
-command-tag (suc n) tag bs x e = (omega arith, at (ℕ-discrete tag ruleSetTag) (ℕ-discrete tag sequenceTag) (ℕ-discrete tag guardedTag) (ℕ-discrete tag loopTag) (ℕ-discrete tag skipTag) (ℕ-discrete tag failTag) (ℕ-discrete tag breakTag))
+command-tag (suc n) tag bs x e = (omega arith, at (ℕ-discrete tag ruleSetTag) (ℕ-discrete tag sequenceTag) (ℕ-discrete tag guardedTag) (ℕ-discrete tag loopTag) (ℕ-discrete tag skipTag) (ℕ-discrete tag failTag) (ℕ-discrete tag breakTag) (ℕ-discrete tag callTag))
   where
-    at : Dec (tag ≡ ruleSetTag) → Dec (tag ≡ sequenceTag) → Dec (tag ≡ guardedTag) → Dec (tag ≡ loopTag) → Dec (tag ≡ skipTag) → Dec (tag ≡ failTag) → Dec (tag ≡ breakTag) → tag ≡ tagOf x
-    at (yes h) k1 k2 k3 k4 k5 k6 = rw (rule-set-read n tag bs x e h .0) h
-    at (no h0) (yes h) k2 k3 k4 k5 k6 = rw (sequence-read n tag bs x e h .4) h
-    at (no h0) (no h1) (yes h) k3 k4 k5 k6 = rw (guarded-read n tag bs x e h .4) h
-    at (no h0) (no h1) (no h2) (yes h) k4 k5 k6 = rw (loop-read n tag bs x e h .2) h
-    at (no h0) (no h1) (no h2) (no h3) (yes h) k5 k6 = rw (skip-read n tag bs x e h .1) h
-    at (no h0) (no h1) (no h2) (no h3) (no h4) (yes h) k6 = rw (fail-read n tag bs x e h .1) h
-    at (no h0) (no h1) (no h2) (no h3) (no h4) (no h5) (yes h) = rw (break-read n tag bs x e h .1) h
-    at (no h0) (no h1) (no h2) (no h3) (no h4) (no h5) (no h6) =
-        let k = command-other n tag bs h0 h1 h2 h3 h4 h5 h6 in
+    at : Dec (tag ≡ ruleSetTag) → Dec (tag ≡ sequenceTag) → Dec (tag ≡ guardedTag) → Dec (tag ≡ loopTag) → Dec (tag ≡ skipTag) → Dec (tag ≡ failTag) → Dec (tag ≡ breakTag) → Dec (tag ≡ callTag) → tag ≡ tagOf x
+    at (yes h) k1 k2 k3 k4 k5 k6 k7 = rw (rule-set-read n tag bs x e h .0) h
+    at (no h0) (yes h) k2 k3 k4 k5 k6 k7 = rw (sequence-read n tag bs x e h .4) h
+    at (no h0) (no h1) (yes h) k3 k4 k5 k6 k7 = rw (guarded-read n tag bs x e h .4) h
+    at (no h0) (no h1) (no h2) (yes h) k4 k5 k6 k7 = rw (loop-read n tag bs x e h .2) h
+    at (no h0) (no h1) (no h2) (no h3) (yes h) k5 k6 k7 = rw (skip-read n tag bs x e h .1) h
+    at (no h0) (no h1) (no h2) (no h3) (no h4) (yes h) k6 k7 = rw (fail-read n tag bs x e h .1) h
+    at (no h0) (no h1) (no h2) (no h3) (no h4) (no h5) (yes h) k7 = rw (break-read n tag bs x e h .1) h
+    at (no h0) (no h1) (no h2) (no h3) (no h4) (no h5) (no h6) (yes h) = rw (call-read n tag bs x e h .1) h
+    at (no h0) (no h1) (no h2) (no h3) (no h4) (no h5) (no h6) (no h7) =
+        let k = command-other n tag bs h0 h1 h2 h3 h4 h5 h6 h7 in
         let z : _≡_ {A = ℕ} 0 1 = cc in
         absurd (omega arith)
 
 -- The whole.
 
--- an image that is read, its command by `main`
-pub record IsProgram (main : ℕ → List ℕ → Option Command) (bs : List ℕ) (x : Program) : Type 0 where
+-- one command that is read by `read`, and nothing behind it
+pub record IsOne (read : ℕ → List ℕ → Option Raw) (bs : List ℕ) (x : Raw) : Type 0 where
+  pub whole : Field
+  pub there : field bs ≡ some whole
+  pub last : whole .rest ≡ []
+  pub command : read (whole .tag) (whole .payload) ≡ some x
+
+module _ (read : ℕ → List ℕ → Option Raw) (bs : List ℕ) (x : Raw) where
+  pub one-is : oneCommand read bs ≡ some x → IsOne read bs x
+  unfolding oneCommand
+  one-is e =
+      let d = bind-some (field bs) _ x e in
+      let l = ensure-some (isEmpty (d .0 .rest)) _ x (d .2) in
+      record { whole = d .0; there = d .1; last = empty-true _ (l .0); command = l .1 }
+
+  pub is-one : IsOne read bs x → oneCommand read bs ≡ some x
+  unfolding oneCommand isEmpty
+  is-one i = bind-yes _ _ _ (i .there) ∙ ensure-yes _ _ (rw (i .last)) ∙ i .command
+
+-- an image that is read, its commands by `read`
+pub record IsProgram (most : ℕ) (read : ℕ → List ℕ → Option Raw) (bs : List ℕ) (x : RawProgram) : Type 0 where
   pub behind : List ℕ
   pub rules : leading (eqb ruleTag) (λ tag. rule) (limits .rules) bs ≡ some (record { items = x .rules; rest = behind })
-  pub whole : Field
-  pub at-command : field behind ≡ some whole
-  pub last : whole .rest ≡ []
-  pub command : main (whole .tag) (whole .payload) ≡ some (x .main)
+  pub last : List ℕ
+  pub procedures : leading (eqb procedureTag) (λ tag. oneCommand read) most behind ≡ some (record { items = x .procedures; rest = last })
+  pub main : IsOne read last (x .main)
 
-module _ (main : ℕ → List ℕ → Option Command) (bs : List ℕ) (x : Program) where
-  pub program-is : programBy main bs ≡ some x → IsProgram main bs x
+module _ (most : ℕ) (read : ℕ → List ℕ → Option Raw) (bs : List ℕ) (x : RawProgram) where
+  pub program-is : programBy most read bs ≡ some x → IsProgram most read bs x
   unfolding programBy
   program-is e =
       let r = bind-some (leading (eqb ruleTag) (λ tag. rule) (limits .rules) bs) _ x e in
-      let d = bind-some (field (r .0 .rest)) _ x (r .2) in
-      let l = ensure-some (isEmpty (d .0 .rest)) _ x (d .2) in
-      let c = bind-some (main (d .0 .tag) (d .0 .payload)) _ x (l .1) in
-      rw (← (some-inj _ x (c .2))) (record { behind = r .0 .rest; rules = r .1; whole = d .0; at-command = d .1; last = empty-true _ (l .0); command = c .1 })
+      let k = bind-some (leading (eqb procedureTag) (λ tag. oneCommand read) most (r .0 .rest)) _ x (r .2) in
+      let c = bind-some (oneCommand read (k .0 .rest)) _ x (k .2) in
+      rw (← (some-inj _ x (c .2))) (record { behind = r .0 .rest; rules = r .1; last = k .0 .rest; procedures = k .1; main = one-is read (k .0 .rest) (c .0) (c .1) })
 
-  pub is-program : IsProgram main bs x → programBy main bs ≡ some x
-  unfolding programBy isEmpty
-  is-program i = bind-yes _ _ _ (i .rules) ∙ bind-yes _ _ _ (i .at-command) ∙ ensure-yes _ _ (rw (i .last)) ∙ bind-yes _ _ _ (i .command)
+  pub is-program : IsProgram most read bs x → programBy most read bs ≡ some x
+  unfolding programBy
+  is-program i = bind-yes _ _ _ (i .rules) ∙ bind-yes _ _ _ (i .procedures) ∙ bind-yes _ _ _ (is-one read (i .last) (x .main) (i .main))

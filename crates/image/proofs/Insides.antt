@@ -13,10 +13,10 @@ use lib.ListN.{length, drop, getD, length-drop, drop-of-length-le}
 use lib.Seq.{drop-cons, drop-drop}
 use Rattle.meaning.specs.Basics.{both, either, every, isEmpty, isSome, _>>=_}
 use Rattle.meaning.specs.Layout.{isNodeMark, isEdgeMark}
-use Rattle.meaning.specs.Tags.{constantTag, variableTag, sumTag, differenceTag, edgeTestTag, inDegreeTag, outDegreeTag, relationTag, guardedTag, equalRelation, lessRelation, blueMark, greyMark, dashedMark, anyMark}
-use Rattle.meaning.specs.Image.{Command, limits, only, passesAll, flag, operand, twoOperands, element, label, ruleNode, ruleEdge, condition, test, isType, types, leaf, command}
+use Rattle.meaning.specs.Tags.{constantTag, variableTag, sumTag, differenceTag, edgeTestTag, inDegreeTag, outDegreeTag, relationTag, callTag, guardedTag, equalRelation, lessRelation, blueMark, greyMark, dashedMark, anyMark}
+use Rattle.meaning.specs.Image.{Raw, limits, only, passesAll, oneByte, flag, operand, twoOperands, element, label, ruleNode, ruleEdge, condition, test, isType, types, leaf, asCall, command}
 use Rattle.meaning.specs.Laws.Tests.{both-no, both-yes, both-true}
-use Rattle.fields.specs.Image.{isSome-no, isSome-after, isSome-then, first-at, flag-ok, operand-constant, operand-variable, operand-other, element-constant, element-variable, element-sum, element-difference, element-other, ruleNode-ok, ruleEdge-ok, related-ok, condition-edge, condition-in, condition-out, condition-relation, test-ok, types-ok, leaf-ok, command-no-depth, command-guarded}
+use Rattle.fields.specs.Image.{isSome-no, isSome-map, isSome-after, isSome-then, first-at, oneByte-ok, flag-ok, operand-constant, operand-variable, operand-other, element-constant, element-variable, element-sum, element-difference, element-other, ruleNode-ok, ruleEdge-ok, related-ok, condition-edge, condition-in, condition-out, condition-relation, test-ok, types-ok, leaf-ok, command-no-depth, command-guarded, command-call}
 use Rattle.image.specs.declared.Row.{Row}
 use Rattle.image.specs.declared.Row.the-variants.{Nodes, Edges, Tests, Elements, Operands, Guarded}
 use Rattle.image.specs.Form.{fits, rank, Holds}
@@ -183,19 +183,23 @@ pub no-depth : (depth tag : ℕ) (bs : List ℕ) → depth ≡ 0 → false ≡ i
 no-depth depth tag bs e = failed _ (ap (λ (k : ℕ). command k tag bs) e ∙ command-no-depth tag bs)
 
 module _ (depth tag : ℕ) (bs : List ℕ) (d : depth ≡ 0 → ⊥) where
-  deeper : {o : Option Command} → command (suc (depth - 1)) tag bs ≡ o → command depth tag bs ≡ o
+  deeper : {o : Option Raw} → command (suc (depth - 1)) tag bs ≡ o → command depth tag bs ≡ o
   deeper e =
       let z : depth ≡ suc (depth - 1) = omega arith in
       ap (λ (k : ℕ). command k tag bs) z ∙ e
 
-  pub as-is : {b : Bool} (o : Option Command) → command (suc (depth - 1)) tag bs ≡ o → b ≡ isSome o → b ≡ isSome (command depth tag bs)
+  pub as-is : {b : Bool} (o : Option Raw) → command (suc (depth - 1)) tag bs ≡ o → b ≡ isSome o → b ≡ isSome (command depth tag bs)
   as-is o e q = q ∙ ap isSome (sym (deeper e))
 
-  pub a-leaf : (c : Command) → command (suc (depth - 1)) tag bs ≡ leaf c bs → eqb (length bs) 0 ≡ isSome (command depth tag bs)
+  pub a-leaf : (c : Raw) → command (suc (depth - 1)) tag bs ≡ leaf c bs → eqb (length bs) 0 ≡ isSome (command depth tag bs)
   a-leaf c e = as-is (leaf c bs) e (is-empty bs ∙ sym (leaf-ok c bs))
 
+  pub a-call : tag ≡ callTag → eqb (length bs) 1 ≡ isSome (command depth tag bs)
+  unfolding asCall
+  a-call t = as-is (asCall bs) (command-call (depth - 1) tag bs t) (sym (isSome-map (oneByte bs) _ ∙ oneByte-ok bs))
+
   -- a command of commands
-  pub of-parts : (row : Row) (make : List Command → Option Command) → rank row ≡ suc (depth - 1) → command (suc (depth - 1)) tag bs ≡ (only passesAll (command (depth - 1)) (limits .commands) bs >>= make) → fits row bs ≡ isSome (only passesAll (command (depth - 1)) (limits .commands) bs >>= make) → Holds (suc depth) (isSome (command depth tag bs)) bs row 0
+  pub of-parts : (row : Row) (make : List Raw → Option Raw) → rank row ≡ suc (depth - 1) → command (suc (depth - 1)) tag bs ≡ (only passesAll (command (depth - 1)) (limits .commands) bs >>= make) → fits row bs ≡ isSome (only passesAll (command (depth - 1)) (limits .commands) bs >>= make) → Holds (suc depth) (isSome (command depth tag bs)) bs row 0
   of-parts row make z e q = record { lower = omega arith; inside = omega arith; same = as-is (only passesAll (command (depth - 1)) (limits .commands) bs >>= make) e q }
 
   -- a guarded command: its flag, and its row behind it

@@ -1,5 +1,5 @@
--- Rows, put beside the definition's readers: labels, two operands, graphs, rules, commands in a command, the whole image.
--- Rests on Form and on fields' Image.
+-- Rows, put beside the definition's readers: labels, two operands, graphs, commands in a command, one command, rules, the whole
+-- image. Rests on Form and on fields' Image.
 use mathlib.Core.Path.{_≡_, refl, sym, ap, ap₂, _∙_}
 use mathlib.Core.Bool.{Bool, true, false}
 use mathlib.Core.Option.{Option, some, none}
@@ -11,13 +11,13 @@ use borrow.Author.Tests.{eq-eqb, ne-eqb}
 use lib.Dec.{eqb, leb, lit<, lit≤, leb·zero, leb·suc-zero, leb·suc-suc, eqb·zero-suc, eqb·suc-zero, eqb·suc-suc}
 use lib.ListN.{length}
 use Rattle.meaning.specs.Basics.{choose, both, isEmpty, isSome, ensure, _>>_, _>>=_}
-use Rattle.meaning.specs.Tags.{variablesTag, leftTag, rightTag, interfaceTag, testsTag, modeTag, ruleTag, nodeTag, edgeTag}
-use Rattle.meaning.specs.Image.{Field, Read, Rule, RuleNode, limits, field, expect, leading, only, passesAll, operand, asPair, twoOperands, element, label, ruleNode, ruleEdge, ruleGraph, types, oneByte, test, mode, rule, asSequence, asGuarded, asLoop, command, program}
+use Rattle.meaning.specs.Tags.{variablesTag, leftTag, rightTag, interfaceTag, testsTag, modeTag, ruleTag, procedureTag, nodeTag, edgeTag}
+use Rattle.meaning.specs.Image.{Field, Read, Rule, RuleNode, Raw, limits, field, expect, leading, only, passesAll, operand, asPair, twoOperands, element, label, ruleNode, ruleEdge, ruleGraph, types, oneByte, test, mode, rule, asSequence, asGuarded, asLoop, command, oneCommand, rawProgram}
 use Rattle.meaning.specs.declared.Operand.{Operand}
 use Rattle.meaning.specs.Laws.Tests.{both-no, both-yes, both-last}
-use Rattle.fields.specs.Image.{field-small, field-is, isSome-no, isSome-map, isSome-then, asSequence-ok, asGuarded-ok, asLoop-ok, ruleGraph-no, ruleGraph-ok, program-no-rules, program-no-field, program-ok}
-use Rattle.image.specs.declared.Row.the-variants.{Rules, Main, Variables, Nodes, Edges, Tests, Elements, Operands, Sequence, Guarded, Loop}
-use Rattle.image.specs.Form.{met, opens, behind, fits}
+use Rattle.fields.specs.Image.{field-small, field-is, isSome-no, isSome-map, isSome-then, asSequence-ok, asGuarded-ok, asLoop-ok, ruleGraph-no, ruleGraph-ok, one-no-field, one-ok, program-no-rules, program-no-procedures, program-ok}
+use Rattle.image.specs.declared.Row.the-variants.{Rules, Procedures, Variables, Nodes, Edges, Tests, Elements, Operands, Sequence, Guarded, One}
+use Rattle.image.specs.Form.{mainRow, met, opens, behind, fits}
 
 -- Tests.
 
@@ -186,7 +186,7 @@ module _ (bs : List ℕ) where
       at none e = sym (isSome-no _ (ruleGraph-no bs e))
       at (some n) e = both-yes _ _ (leb·zero (length (n .items))) ∙ all-of (eqb edgeTag) (λ tag. ruleEdge) (limits .edges) (n .rest) ∙ sym (ruleGraph-ok bs n e)
 
--- Commands in a command.
+-- Commands in a command; one command, and nothing behind it.
 
 module _ (depth : ℕ) (bs : List ℕ) where
   pub sequence-fits : fits (Sequence depth) bs ≡ isSome (only passesAll (command depth) (limits .commands) bs >>= asSequence)
@@ -197,9 +197,17 @@ module _ (depth : ℕ) (bs : List ℕ) where
   unfolding behind
   guarded-fits keep = exact passesAll (command depth) 3 (limits .commands) (lit≤ tt) bs ∙ sized passesAll (command depth) (λ k. eqb k 3) (limits .commands) bs (asGuarded keep) (asGuarded-ok keep)
 
-  pub loop-fits : fits (Loop depth) bs ≡ isSome (only passesAll (command depth) (limits .commands) bs >>= asLoop)
+  pub loop-fits : fits (One depth) bs ≡ isSome (only passesAll (command depth) (limits .commands) bs >>= asLoop)
   unfolding behind
   loop-fits = exact passesAll (command depth) 1 (limits .commands) (lit≤ tt) bs ∙ sized passesAll (command depth) (λ k. eqb k 1) (limits .commands) bs asLoop asLoop-ok
+
+  pub one-fits : fits (One depth) bs ≡ isSome (oneCommand (command depth) bs)
+  unfolding behind after both
+  one-fits = one passesAll (command depth) isEmpty bs ∙ at (field bs) refl
+    where
+      at : (o : Option Field) → field bs ≡ o → after o (λ d. both true (both (isSome (command depth (d .tag) (d .payload))) (isEmpty (d .rest)))) ≡ isSome (oneCommand (command depth) bs)
+      at none e = sym (isSome-no _ (one-no-field (command depth) bs e))
+      at (some d) e = both-comm (isSome (command depth (d .tag) (d .payload))) (isEmpty (d .rest)) ∙ sym (one-ok (command depth) bs d e)
 
 -- Rules: five fields, and a mode that may be missing.
 
@@ -256,14 +264,17 @@ module _ (bs : List ℕ) where
 
 -- The whole image.
 
-pub program-fits : (bs : List ℕ) → fits Rules bs ≡ isSome (program bs)
-unfolding behind met after both
+pub program-fits : (bs : List ℕ) → fits Rules bs ≡ isSome (rawProgram bs)
+unfolding behind met
 program-fits bs = at (leading (eqb ruleTag) (λ tag. rule) (limits .rules) bs) refl
   where
-    main : (o : Option Field) (r : Read Rule) → leading (eqb ruleTag) (λ tag. rule) (limits .rules) bs ≡ some r → field (r .rest) ≡ o → after o (λ d. both true (both (isSome (command (limits .depth) (d .tag) (d .payload))) (isEmpty (d .rest)))) ≡ isSome (program bs)
-    main none r e q = sym (isSome-no _ (program-no-field bs r e q))
-    main (some d) r e q = both-comm (isSome (command (limits .depth) (d .tag) (d .payload))) (isEmpty (d .rest)) ∙ sym (program-ok bs r e d q)
+    procedures : Read Rule → Option (Read Raw)
+    procedures r = leading (eqb procedureTag) (λ tag. oneCommand (command (limits .depth))) (limits .procedures) (r .rest)
 
-    at : (o : Option (Read Rule)) → leading (eqb ruleTag) (λ tag. rule) (limits .rules) bs ≡ o → met (leb 0) (opens Main isEmpty) o ≡ isSome (program bs)
+    later : (r : Read Rule) → leading (eqb ruleTag) (λ tag. rule) (limits .rules) bs ≡ some r → (o : Option (Read Raw)) → procedures r ≡ o → met (leb 0) (opens mainRow isEmpty) o ≡ isSome (rawProgram bs)
+    later r e none q = sym (isSome-no _ (program-no-procedures bs r e q))
+    later r e (some k) q = both-yes _ _ (leb·zero (length (k .items))) ∙ one-fits (limits .depth) (k .rest) ∙ sym (program-ok bs r e k q)
+
+    at : (o : Option (Read Rule)) → leading (eqb ruleTag) (λ tag. rule) (limits .rules) bs ≡ o → met (leb 0) (opens Procedures (opens mainRow isEmpty)) o ≡ isSome (rawProgram bs)
     at none e = sym (isSome-no _ (program-no-rules bs e))
-    at (some r) e = both-yes _ _ (leb·zero (length (r .items))) ∙ one passesAll (command (limits .depth)) isEmpty (r .rest) ∙ main (field (r .rest)) r e refl
+    at (some r) e = both-yes _ _ (leb·zero (length (r .items))) ∙ later r e (procedures r) refl

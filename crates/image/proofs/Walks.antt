@@ -17,7 +17,7 @@ use Rattle.fields.specs.Fields.{fieldAt}
 use Rattle.fields.specs.Laws.{Lies}
 use Rattle.fields.proofs.Finding.{NoField, no-field, tail-part}
 use Rattle.image.specs.declared.Row.{Row}
-use Rattle.image.specs.declared.Row.the-variants.{Rules, Main, Variables, Left, Right, Interface, Conditions, Modes, Nodes, Edges, Tests, Elements, Operands, Sequence, Guarded, Loop, Nothing}
+use Rattle.image.specs.declared.Row.the-variants.{Rules, Procedures, Variables, Left, Right, Interface, Conditions, Modes, Nodes, Edges, Tests, Elements, Operands, Sequence, Guarded, One, Nothing}
 use Rattle.image.specs.Form.{read, tagOf, passing, passesOf, leastOf, mostOf, nextOf, belonging, met, behind, fits, rank}
 use Rattle.image.proofs.Insides.{is-empty}
 
@@ -119,7 +119,7 @@ module _ {row : Row} {bs : List ℕ} {at n : ℕ} (r : Along row bs at n) {more 
 follows : (row : Row) (bs : List ℕ) → behind row bs ≡ fits (nextOf row) bs
 unfolding behind met leading both
 follows Rules bs = refl
-follows Main bs = refl
+follows Procedures bs = refl
 follows Variables bs = refl
 follows Left bs = refl
 follows Right bs = refl
@@ -133,12 +133,12 @@ follows Elements bs = refl
 follows Operands bs = refl
 follows (Sequence depth) bs = refl
 follows (Guarded depth) bs = refl
-follows (Loop depth) bs = refl
+follows (One depth) bs = refl
 follows Nothing bs = refl
 
 falls : (row : Row) → 0 < mostOf row → rank (nextOf row) < rank row
 falls Rules h = lit< tt
-falls Main h = lit< tt
+falls Procedures h = lit< tt
 falls Variables h = lit< tt
 falls Left h = lit< tt
 falls Right h = lit< tt
@@ -152,14 +152,14 @@ falls Elements h = lit< tt
 falls Operands h = lit< tt
 falls (Sequence depth) h = omega arith
 falls (Guarded depth) h = omega arith
-falls (Loop depth) h = omega arith
+falls (One depth) h = omega arith
 falls Nothing h = absurd (omega arith)
 
 -- no row is left
 done : (row : Row) (bs : List ℕ) → mostOf row ≤ 0 → fits row bs ≡ isEmpty bs
 unfolding behind met leading both
 done Rules bs h = absurd (omega arith)
-done Main bs h = absurd (omega arith)
+done Procedures bs h = absurd (omega arith)
 done Variables bs h = absurd (omega arith)
 done Left bs h = absurd (omega arith)
 done Right bs h = absurd (omega arith)
@@ -173,7 +173,7 @@ done Elements bs h = absurd (omega arith)
 done Operands bs h = absurd (omega arith)
 done (Sequence depth) bs h = absurd (omega arith)
 done (Guarded depth) bs h = absurd (omega arith)
-done (Loop depth) bs h = absurd (omega arith)
+done (One depth) bs h = absurd (omega arith)
 done Nothing bs h = refl
 
 -- What is left: a row, and the bytes that it begins.

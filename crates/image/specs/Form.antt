@@ -8,13 +8,13 @@ use Prim.Native.Nat.{ℕ, zero, suc, _<_, _≤_}
 use lib.ListN.{length, getD, drop}
 use lib.Dec.{eqb, leb, ltb}
 use Rattle.meaning.specs.Basics.{both, isEmpty}
-use Rattle.meaning.specs.Tags.{ruleTag, variablesTag, leftTag, rightTag, interfaceTag, testsTag, modeTag, nodeTag, edgeTag}
-use Rattle.meaning.specs.Image.{Read, RuleNode, RuleEdge, RuleGraph, Rule, Command, limits, leading, only, passesAll, oneByte, operand, element, ruleNode, ruleEdge, ruleGraph, test, types, mode, rule, command}
+use Rattle.meaning.specs.Tags.{ruleTag, procedureTag, variablesTag, leftTag, rightTag, interfaceTag, testsTag, modeTag, nodeTag, edgeTag}
+use Rattle.meaning.specs.Image.{Read, RuleNode, RuleEdge, RuleGraph, Rule, Raw, limits, leading, only, passesAll, oneByte, operand, element, ruleNode, ruleEdge, ruleGraph, test, types, mode, rule, command, oneCommand}
 use Rattle.meaning.specs.declared.Operand.{Operand}
 use Rattle.meaning.specs.declared.Element.{Element}
 use Rattle.meaning.specs.declared.Test.{Test}
 use Rattle.image.specs.declared.Row.{Row}
-use Rattle.image.specs.declared.Row.the-variants.{Rules, Main, Variables, Left, Right, Interface, Conditions, Modes, Nodes, Edges, Tests, Elements, Operands, Sequence, Guarded, Loop, Nothing}
+use Rattle.image.specs.declared.Row.the-variants.{Rules, Procedures, Variables, Left, Right, Interface, Conditions, Modes, Nodes, Edges, Tests, Elements, Operands, Sequence, Guarded, One, Nothing}
 use Rattle.image.specs.declared.Inside.{Inside}
 use Rattle.image.specs.declared.Inside.the-variants.{Known, From}
 
@@ -22,7 +22,7 @@ use Rattle.image.specs.declared.Inside.the-variants.{Known, From}
 
 abbrev pub Value : Row → Type 0
 Value Rules = Rule
-Value Main = Command
+Value Procedures = Raw
 Value Variables = List ℕ
 Value Left = RuleGraph
 Value Right = RuleGraph
@@ -34,14 +34,14 @@ Value Edges = RuleEdge
 Value Tests = Test
 Value Elements = Element
 Value Operands = Operand
-Value (Sequence depth) = Command
-Value (Guarded depth) = Command
-Value (Loop depth) = Command
+Value (Sequence depth) = Raw
+Value (Guarded depth) = Raw
+Value (One depth) = Raw
 Value Nothing = ℕ
 
 abbrev pub read : (row : Row) → ℕ → List ℕ → Option (Value row)
 read Rules tag bs = rule bs
-read Main tag bs = command (limits .depth) tag bs
+read Procedures tag bs = oneCommand (command (limits .depth)) bs
 read Variables tag bs = types bs
 read Left tag bs = ruleGraph bs
 read Right tag bs = ruleGraph bs
@@ -55,8 +55,12 @@ read Elements tag bs = element tag bs
 read Operands tag bs = operand tag bs
 read (Sequence depth) tag bs = command depth tag bs
 read (Guarded depth) tag bs = command depth tag bs
-read (Loop depth) tag bs = command depth tag bs
+read (One depth) tag bs = command depth tag bs
 read Nothing tag bs = none
+
+-- the row of the main command, and what is in a procedure; 16 is `limits .depth`
+abbrev pub mainRow : Row
+mainRow = One 16
 
 -- What a row takes: the tag of every item (0 where any may stand), how many at least and at most, and the row behind it. Rows fall
 -- by rank: those in an item, and those behind a row, are below it.
@@ -71,8 +75,8 @@ abbrev takes : ℕ → ℕ → ℕ → Row → ℕ → Takes
 takes tag least most next rank = record { tag = tag; least = least; most = most; next = next; rank = rank }
 
 abbrev table : Row → Takes
-table Rules = takes ruleTag 0 (limits .rules) Main 18
-table Main = takes 0 1 1 Nothing 17
+table Rules = takes ruleTag 0 (limits .rules) Procedures 19
+table Procedures = takes procedureTag 0 (limits .procedures) mainRow 18
 table Variables = takes variablesTag 1 1 Left 9
 table Left = takes leftTag 1 1 Right 8
 table Right = takes rightTag 1 1 Interface 7
@@ -86,7 +90,7 @@ table Elements = takes 0 0 (limits .elements) Nothing 2
 table Operands = takes 0 2 2 Nothing 1
 table (Sequence depth) = takes 0 1 (limits .commands) Nothing (suc depth)
 table (Guarded depth) = takes 0 3 3 Nothing (suc depth)
-table (Loop depth) = takes 0 1 1 Nothing (suc depth)
+table (One depth) = takes 0 1 1 Nothing (suc depth)
 table Nothing = takes 0 0 0 Nothing 0
 
 abbrev pub tagOf : Row → ℕ
@@ -125,8 +129,8 @@ abbrev pub opens : Row → (List ℕ → Bool) → List ℕ → Bool
 opens row later bs = met (leb (leastOf row)) later (leading (passesOf row) (read row) (mostOf row) bs)
 
 unfoldable pub behind : Row → List ℕ → Bool
-behind Rules = opens Main isEmpty
-behind Main = isEmpty
+behind Rules = opens Procedures (opens mainRow isEmpty)
+behind Procedures = opens mainRow isEmpty
 behind Variables = opens Left (opens Right (opens Interface (opens Conditions (opens Modes isEmpty))))
 behind Left = opens Right (opens Interface (opens Conditions (opens Modes isEmpty)))
 behind Right = opens Interface (opens Conditions (opens Modes isEmpty))
@@ -140,7 +144,7 @@ behind Elements = isEmpty
 behind Operands = isEmpty
 behind (Sequence depth) = isEmpty
 behind (Guarded depth) = isEmpty
-behind (Loop depth) = isEmpty
+behind (One depth) = isEmpty
 behind Nothing = isEmpty
 
 -- the bytes are a row and those behind it

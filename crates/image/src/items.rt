@@ -183,10 +183,11 @@ fn command(tag: u8, p: &[u8], depth: usize) -> Inside
             }
             Inside::Known(false)
         }
-        Tag::LOOP => Inside::From(Row::Loop(lower), 0),
+        Tag::LOOP => Inside::From(Row::One(lower), 0),
         Tag::SKIP => Inside::Known(p.len() == 0),
         Tag::FAIL => Inside::Known(p.len() == 0),
         Tag::BREAK => Inside::Known(p.len() == 0),
+        Tag::CALL => Inside::Known(p.len() == 1),
         _ => Inside::Known(false),
     }
 }
@@ -196,7 +197,7 @@ pub fn inside(row: Row, tag: u8, p: &[u8]) -> Inside
 {
     match row {
         Row::Rules => Inside::From(Row::Variables, 0),
-        Row::Main => command(tag, p, Limit::DEPTH),
+        Row::Procedures => Inside::From(Row::One(Limit::DEPTH), 0),
         Row::Variables => Inside::Known(types_ok(p)),
         Row::Left => Inside::From(Row::Nodes, 0),
         Row::Right => Inside::From(Row::Nodes, 0),
@@ -210,7 +211,7 @@ pub fn inside(row: Row, tag: u8, p: &[u8]) -> Inside
         Row::Operands => Inside::Known(operand_ok(tag, p)),
         Row::Sequence(depth) => command(tag, p, depth),
         Row::Guarded(depth) => command(tag, p, depth),
-        Row::Loop(depth) => command(tag, p, depth),
+        Row::One(depth) => command(tag, p, depth),
         Row::Nothing => Inside::Known(false),
     }
 }

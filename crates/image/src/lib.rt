@@ -3,7 +3,7 @@
 // definition's reader succeeding.
 ghost use mathlib.Core.Path.{_≡_};
 ghost use Rattle.meaning.specs.Basics.{isSome};
-ghost use Rattle.meaning.specs.Image.{program};
+ghost use Rattle.meaning.specs.Image.{rawProgram};
 ghost use Rattle.image.specs.Form.{fits, read, belonging};
 use fields::Found;
 
@@ -12,9 +12,9 @@ pub mod table;
 
 // A row of fields that are read alike. Behind some rows another one follows.
 pub enum Row {
-    // An image: its rules, then its main command.
+    // An image: its rules, then its procedures; behind them is its main command, `One`.
     Rules,
-    Main,
+    Procedures,
     // A rule: its parts, a field each; a mode may be missing.
     Variables,
     Left,
@@ -31,10 +31,11 @@ pub enum Row {
     Elements,
     // The operands of a sum, a difference or a relation.
     Operands,
-    // The commands in a sequence, in a guarded command and in a loop, each nested at most so deep.
+    // The commands in a sequence and in a guarded command, each nested at most so deep.
     Sequence(usize),
     Guarded(usize),
-    Loop(usize),
+    // One command, nested at most so deep: the main command, and what is in a procedure or in a loop.
+    One(usize),
     // No row: nothing follows.
     Nothing,
 }
@@ -104,9 +105,9 @@ fn rows_ok(first: Row, p: &[u8]) -> bool
     rest.len() == 0
 }
 
-// The form of a whole image: rules, then one command, then nothing.
+// The form of a whole image: rules, then procedures, then one command, then nothing.
 pub fn form_ok(image: &[u8]) -> bool
-    ensures { λ r. ⌜ r ≡ isSome (program (now (image .entry))) ⌝ }
+    ensures { λ r. ⌜ r ≡ isSome (rawProgram (now (image .entry))) ⌝ }
 {
     rows_ok(Row::Rules, image)
 }

@@ -11,7 +11,7 @@ pub fn tag_of(row: Row) -> u8
 {
     match row {
         Row::Rules => Tag::RULE,
-        Row::Main => 0,
+        Row::Procedures => Tag::PROCEDURE,
         Row::Variables => Tag::VARIABLES,
         Row::Left => Tag::LEFT,
         Row::Right => Tag::RIGHT,
@@ -25,7 +25,7 @@ pub fn tag_of(row: Row) -> u8
         Row::Operands => 0,
         Row::Sequence(_) => 0,
         Row::Guarded(_) => 0,
-        Row::Loop(_) => 0,
+        Row::One(_) => 0,
         Row::Nothing => 0,
     }
 }
@@ -35,7 +35,7 @@ pub fn least(row: Row) -> usize
 {
     match row {
         Row::Rules => 0,
-        Row::Main => 1,
+        Row::Procedures => 0,
         Row::Variables => 1,
         Row::Left => 1,
         Row::Right => 1,
@@ -49,7 +49,7 @@ pub fn least(row: Row) -> usize
         Row::Operands => 2,
         Row::Sequence(_) => 1,
         Row::Guarded(_) => 3,
-        Row::Loop(_) => 1,
+        Row::One(_) => 1,
         Row::Nothing => 0,
     }
 }
@@ -59,7 +59,7 @@ pub fn most(row: Row) -> usize
 {
     match row {
         Row::Rules => Limit::RULES,
-        Row::Main => 1,
+        Row::Procedures => Limit::PROCEDURES,
         Row::Variables => 1,
         Row::Left => 1,
         Row::Right => 1,
@@ -73,7 +73,7 @@ pub fn most(row: Row) -> usize
         Row::Operands => 2,
         Row::Sequence(_) => Limit::COMMANDS,
         Row::Guarded(_) => 3,
-        Row::Loop(_) => 1,
+        Row::One(_) => 1,
         Row::Nothing => 0,
     }
 }
@@ -82,8 +82,8 @@ pub fn next(row: Row) -> Row
     ensures { λ r. ⌜ r ≡ nextOf row ⌝ }
 {
     match row {
-        Row::Rules => Row::Main,
-        Row::Main => Row::Nothing,
+        Row::Rules => Row::Procedures,
+        Row::Procedures => Row::One(Limit::DEPTH),
         Row::Variables => Row::Left,
         Row::Left => Row::Right,
         Row::Right => Row::Interface,
@@ -97,7 +97,7 @@ pub fn next(row: Row) -> Row
         Row::Operands => Row::Nothing,
         Row::Sequence(_) => Row::Nothing,
         Row::Guarded(_) => Row::Nothing,
-        Row::Loop(_) => Row::Nothing,
+        Row::One(_) => Row::Nothing,
         Row::Nothing => Row::Nothing,
     }
 }

@@ -16,7 +16,7 @@ use Rattle.meaning.specs.Calls.{answerNumber, refusalNumber, reportOf, mostFuel
 use Rattle.laws.specs.Numbers.{Bytes}
 use Rattle.laws.specs.Calls.{Accepted, accepted, run-refused, run-started, starting, ending}
 use Rattle.laws.specs.Commands.{exec-from}
-use Rattle.laws.specs.LegalImage.{program-legal}
+use Rattle.laws.specs.LegalImage.{raw-legal}
 use Rattle.laws.specs.Restoring.{From}
 use Rattle.meaning.specs.declared.Layout.{Layout}
 use Rattle.meaning.specs.declared.Tally.{Tally}
@@ -73,8 +73,10 @@ module _ (L : Layout) (nodes edges journal image : List ℕ) (fuel : ℕ) (repor
     pub runnable : Runnable image
     runnable =
         record {
-          programmed = record { tree = input .tree; is = input .form; legal = program-legal image (input .tree) bi (input .form) (input .references) };
+          programmed = record { tree = input .raw; is = input .read; legal = raw-legal image (input .raw) bi (input .read) (input .references) };
           exist = input .references;
+          whole = input .tree;
+          is = input .form;
         }
 
     pub fuel-fits : fuel + 0 ≤ mostFuel

@@ -1,6 +1,5 @@
 -- Laws of Commands: whatever the parts of commands keep, commands keep; so from before to after a command the ledger is
--- restorable, the tables have their lengths, and the records stay within the room. Which ends a command can have.
--- Rests on Restoring.
+-- restorable, the tables have their lengths, and the records stay within the room. Rests on Restoring.
 use Prim.Native.Nat.{ℕ, zero, suc, _+_, _<_, _≤_}
 use mathlib.Core.Path.{_≡_, refl, _∙_, ap}
 use mathlib.Core.List.{List, [], _∷_}
@@ -10,13 +9,12 @@ use native.Mathlib.Omega.{arith}
 use lib.ListN.{length, getD}
 use Rattle.meaning.specs.Basics.{choose}
 use Rattle.meaning.specs.Layout.{Host}
-use Rattle.meaning.specs.Image.{Rule, Command, ruleSet, sequence, guarded, loop, skip, fail, break, Commands, noMore, then}
+use Rattle.meaning.specs.Image.{Rule}
+use Rattle.meaning.specs.Procedures.{Command, ruleSet, sequence, guarded, loop, skip, fail, break, called, Commands, noMore, then}
 use Rattle.meaning.specs.Matching.{leftNodes, leftEdges}
 use Rattle.meaning.specs.FirstMatch.{candidates, fits, complete, firstMatch}
 use Rattle.meaning.specs.Applying.{Ledger, Applied, applied, hindered, apply}
 use Rattle.meaning.specs.Commands.{State, Out, back, enterAt, enter, Chosen, orLater, ruleAt, firstRule, afterApplying, next, decide, again, rounds, ruleCall, work, works, exec, stateAt}
-use Rattle.meaning.specs.Placement.{breaksLie, allBreaksLie}
-use Rattle.meaning.specs.Laws.Tests.{both-true}
 use Rattle.laws.specs.Search.{Low, deep-low}
 use Rattle.meaning.specs.Laws.Applying.{apply-applied, apply-room}
 use Rattle.laws.specs.Restoring.{From, from-same, from-trans, apply-from}
@@ -161,6 +159,7 @@ module _ (most room : ℕ) (rules : List Rule) where
       work-kept skip s = κ .same s
       work-kept fail s = κ .same s
       work-kept break s = κ .same s
+      work-kept (called c) s = enter-kept _ (λ t. work-kept c t) s
 
       pub works-kept : (cs : Commands) (s : State) → R s (works most room rules cs s .state)
       works-kept noMore s = κ .same s
@@ -216,93 +215,3 @@ module _ (most room : ℕ) (rules : List Rule) where
   pub exec-room : (c : Command) (s : State) → length (s .ledger .journal) ≤ room
       → length (exec most room rules c s .state .ledger .journal) ≤ room
   exec-room c s h = exec-kept _ room-kept c s h
-
--- Breaks.
-
-abbrev pub Unbroken : End → Type 0
-Unbroken Done = Unit {0}
-Unbroken Failed = Unit {0}
-Unbroken Broke = ⊥
-Unbroken (Stopped w) = Unit {0}
-
-enter-unbroken : (f : ℕ) (k : State → Out) → ((t : State) → Unbroken (k t .end)) → (s : State)
-    → Unbroken (enterAt f k s .end)
-unfolding enterAt
-enter-unbroken zero k h s = tt
-enter-unbroken (suc f) k h s = h _
-
-next-unbroken : (e : End) (t : State) (k : State → Out) → Unbroken e → ((u : State) → Unbroken (k u .end))
-    → Unbroken (next e t k .end)
-unfolding next
-next-unbroken Done t k h u = u t
-next-unbroken Failed t k h u = tt
-next-unbroken Broke t k h u = h
-next-unbroken (Stopped w) t k h u = tt
-
-decide-unbroken : (e : End) (keep : Bool) (s t : State) (a b : State → Out) → Unbroken e
-    → ((u : State) → Unbroken (a u .end))
-    → ((u : State) → Unbroken (b u .end)) → Unbroken (decide e keep s t a b .end)
-unfolding decide
-decide-unbroken Done keep s t a b h u v = u _
-decide-unbroken Failed keep s t a b h u v = v _
-decide-unbroken Broke keep s t a b h u v = h
-decide-unbroken (Stopped w) keep s t a b h u v = tt
-
-again-unbroken : (e : End) (s t : State) (k : State → Out) → ((u : State) → Unbroken (k u .end))
-    → Unbroken (again e s t k .end)
-unfolding again
-again-unbroken Done s t k u = u t
-again-unbroken Failed s t k u = tt
-again-unbroken Broke s t k u = tt
-again-unbroken (Stopped w) s t k u = tt
-
--- a loop takes the breaks of its body
-pub rounds-unbroken : (n : ℕ) (body : State → Out) (s : State) → Unbroken (rounds n body s .end)
-unfolding rounds
-rounds-unbroken zero body s = tt
-rounds-unbroken (suc n) body s = again-unbroken (body s .end) s _ _ (rounds-unbroken n body)
-
-after-unbroken : (a : Applied) (s : State) → Unbroken (afterApplying a s .end)
-unfolding afterApplying
-after-unbroken (applied g) s = tt
-after-unbroken (hindered w) s = tt
-
-module _ (most room : ℕ) (rules : List Rule) where
-  pub call-unbroken : (o : Option Chosen) (s : State) → Unbroken (ruleCall most room rules o s .end)
-  unfolding ruleCall
-  call-unbroken none s = tt
-  call-unbroken (some c) s = after-unbroken _ s
-
-  -- where no break may stand, none comes out
-  mutual
-    unfolding work works breaksLie allBreaksLie
-
-    pub work-unbroken : (c : Command) (s : State) → breaksLie c false ≡ true → Unbroken (work most room rules c s .end)
-    work-unbroken (ruleSet l) s b = call-unbroken _ s
-    work-unbroken (sequence cs) s b = works-unbroken cs s b
-    work-unbroken (guarded keep g a c) s b =
-        let l = both-true _ _ b in
-        let m = both-true _ _ (l .1) in
-        decide-unbroken _ keep s _ _ _ (enter-unbroken (s .fuel) _ (λ t. work-unbroken g t (l .0)) s)
-        (λ u. enter-unbroken (u .fuel) _ (λ t. work-unbroken a t (m .0)) u)
-        (λ u. enter-unbroken (u .fuel) _ (λ t. work-unbroken c t (m .1)) u)
-    work-unbroken (loop c) s b = rounds-unbroken (s .fuel) _ s
-    work-unbroken skip s b = tt
-    work-unbroken fail s b = tt
-    work-unbroken break s b = let z : _≡_ {A = ℕ} 0 1 = cc in omega arith
-
-    pub works-unbroken : (cs : Commands) (s : State) → allBreaksLie cs false ≡ true
-        → Unbroken (works most room rules cs s .end)
-    works-unbroken noMore s b = tt
-    works-unbroken (then c cs) s b =
-        let l = both-true _ _ b in
-        next-unbroken _ _ _ (enter-unbroken (s .fuel) _ (λ t. work-unbroken c t (l .0)) s) (λ u. works-unbroken cs u (l .1))
-
-  pub exec-unbroken : (c : Command) (s : State) → breaksLie c false ≡ true → exec most room rules c s .end ≡ Broke → ⊥
-  exec-unbroken c s b e = rw e at (enter-unbroken (s .fuel) (λ t. work most room rules c t) (λ t. work-unbroken c t b) s)
-
-  -- no guard of a command whose breaks lie where they may breaks
-  pub guard-unbroken : (keep ok : Bool) (g a b : Command) (s : State) → breaksLie (guarded keep g a b) ok ≡ true
-      → exec most room rules g s .end ≡ Broke → ⊥
-  unfolding breaksLie
-  guard-unbroken keep ok g a b s h = exec-unbroken g s (both-true _ _ h .0)

@@ -7,7 +7,8 @@ use mathlib.Core.Bool.{Bool}
 use mathlib.Core.Option.{Option, some, none}
 use native.Mathlib.Omega.{arith}
 use native.Mathlib.Nat.{le-refl}
-use Rattle.meaning.specs.Image.{Rule, Command, ruleSet, sequence, guarded, loop, skip, fail, break, Commands, noMore, then}
+use Rattle.meaning.specs.Image.{Rule}
+use Rattle.meaning.specs.Procedures.{Command, ruleSet, sequence, guarded, loop, skip, fail, break, called, Commands, noMore, then}
 use Rattle.meaning.specs.Applying.{Applied, applied, hindered, apply}
 use Rattle.meaning.specs.Commands.{State, Out, ends, enterAt, enter, Chosen, afterApplying, next, decide, again, rounds, ruleCall, work, works, exec}
 use Rattle.meaning.specs.Laws.Applying.{apply-hindered}
@@ -166,6 +167,7 @@ module _ (most room : ℕ) (rules : List Rule) where
     work-spent skip s = tt
     work-spent fail s = tt
     work-spent break s = tt
+    work-spent (called c) s = enter-spent (s .fuel) _ (λ t. work-spent c t) s refl
 
     works-spent : (cs : Commands) (s : State) → Spent (works most room rules cs s)
     works-spent noMore s = tt

@@ -4,7 +4,8 @@ use mathlib.Core.Path.{_≡_, refl}
 use mathlib.Core.List.{List}
 use mathlib.Core.Option.{some}
 use Rattle.meaning.specs.Basics.{both, all, every, clauses, concat}
-use Rattle.meaning.specs.Image.{Rule, Command}
+use Rattle.meaning.specs.Image.{Rule}
+use Rattle.meaning.specs.Procedures.{Command}
 use Rattle.meaning.specs.References.{variablesExist, endsExist, testNodesExist, interfaceFits, leftPlain, leftSimple, operandsInt, variablesOnLeft, anyPlaced, ruleHolds}
 use Rattle.meaning.specs.Matching.{Match}
 use Rattle.meaning.specs.Commands.{State, Chosen, ruleAt, firstRule, exec}

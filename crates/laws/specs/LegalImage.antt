@@ -1,5 +1,5 @@
 -- The rules of an image that has the form and whose references hold are legal: what the reader finds in bytes.
--- Rests on the meaning's Image, and on Numbers, Values and LegalCommands.
+-- Rests on the meaning's Image and Calls, and on Numbers, Values, LegalCommands and Procedures.
 use Prim.Native.Nat.{ℕ, zero, suc, _+_, _^_, _<_}
 use mathlib.Core.Path.{_≡_}
 use mathlib.Core.List.{List, [], _∷_}
@@ -9,16 +9,19 @@ use native.Mathlib.Omega.{arith}
 use borrow.Author.Tests.{eqb-true, leb-true}
 use lib.Dec.{eqb}
 use lib.ListN.{length, getD, drop}
-use Rattle.meaning.specs.Tags.{interfaceTag, leftTag, modeTag, rightTag, testsTag, variablesTag}
+use Rattle.meaning.specs.Tags.{interfaceTag, leftTag, modeTag, rightTag, ruleTag, testsTag, variablesTag}
 use Rattle.meaning.specs.Basics.{choose, every, _>>=_}
 use Rattle.meaning.specs.Numbers.{number, whole}
-use Rattle.meaning.specs.Image.{RuleNode, RuleEdge, RuleGraph, Rule, Program, limits, Field, Read, stated, field, expect, leading, only, passesAll, constant, oneByte, flag, operand, Pair, asPair, twoOperands, element, label, ruleNode, ruleEdge, ruleGraph, isType, types, mode, relation, condition, test, rule, programBy, program}
+use Rattle.meaning.specs.Image.{RuleNode, RuleEdge, RuleGraph, Rule, RawProgram, limits, Field, Read, stated, field, expect, leading, only, passesAll, constant, oneByte, flag, operand, Pair, asPair, twoOperands, element, label, ruleNode, ruleEdge, ruleGraph, isType, types, mode, relation, condition, test, rule, programBy, rawProgram}
+use Rattle.meaning.specs.Procedures.{Program, putIn, program}
 use Rattle.meaning.specs.References.{conditionOperands, ruleHolds, references}
+use Rattle.meaning.specs.Calls.{holds}
 use Rattle.meaning.specs.Laws.Tests.{choose-either, both-true, some-inj, bind-some, ensure-some}
 use Rattle.meaning.specs.Laws.Every.{Every, Every-true, Every-with}
 use Rattle.laws.specs.Numbers.{Bytes, Bytes-take, Bytes-drop, number-lt}
 use Rattle.laws.specs.Values.{LegalOperand, LegalElement, LegalRuleNode, LegalRuleEdge, LegalTest, LegalRule}
 use Rattle.laws.specs.LegalCommands.{LegalRules}
+use Rattle.laws.specs.Procedures.{putIn-some}
 use Rattle.meaning.specs.declared.Operand.{Operand}
 use Rattle.meaning.specs.declared.Element.{Element}
 use Rattle.meaning.specs.declared.Condition.{Condition}
@@ -233,19 +236,25 @@ rule-formed bs r h e =
       types = types-hold (v .payload) a ea;
     }))))))))))))
 
-pub program-formed : (bs : List ℕ) (p : Program) → Bytes bs → program bs ≡ some p → Every Formed (p .rules)
-unfolding program programBy
-program-formed bs p h e =
-    let t = bind-some _ _ p e in
-    let d = bind-some (field (t .0 .rest)) _ p (t .2) in
-    let z = ensure-some _ _ p (d .2) in
-    let c = bind-some _ _ p (z .1) in
-    rw (← (some-inj _ p (c .2))) (leading-every _ (λ tag. rule) Formed (λ tag. rule-formed) (limits .rules) bs (t .0) h (t .1) .0)
+pub raw-formed : (bs : List ℕ) (r : RawProgram) → Bytes bs → rawProgram bs ≡ some r → Every Formed (r .rules)
+unfolding rawProgram programBy
+raw-formed bs r h e =
+    after (leading (eqb ruleTag) (λ tag. rule) (limits .rules) bs) _ r e (λ l el e.
+    let k = bind-some _ _ r e in
+    let c = bind-some _ _ r (k .2) in
+    rw (← (some-inj _ r (c .2))) (leading-every _ (λ tag. rule) Formed (λ tag. rule-formed) (limits .rules) bs l h el .0))
 
 -- the rules of an image whose references hold
-pub program-legal : (bs : List ℕ) (p : Program) → Bytes bs → program bs ≡ some p → references p ≡ true → LegalRules (p .rules)
+pub raw-legal : (bs : List ℕ) (r : RawProgram) → Bytes bs → rawProgram bs ≡ some r → references r ≡ true → LegalRules (r .rules)
 unfolding references
-program-legal bs p h e k =
+raw-legal bs r h e k =
     Every-with Formed (λ r. ruleHolds r ≡ true) LegalRule
-    (λ r f q. record { left = f .left; nodes = f .nodes; edges = f .edges; tests = f .tests; types = f .types; holds = q }) (p .rules) (program-formed bs p h e)
-    (Every-true ruleHolds _ (λ r q. q) (p .rules) (both-true _ _ k .0))
+    (λ r f q. record { left = f .left; nodes = f .nodes; edges = f .edges; tests = f .tests; types = f .types; holds = q }) (r .rules) (raw-formed bs r h e)
+    (Every-true ruleHolds _ (λ r q. q) (r .rules) (both-true _ _ k .0))
+
+-- and of the program that it stands for
+pub program-legal : (bs : List ℕ) (p : Program) → Bytes bs → program bs ≡ some p → holds references (rawProgram bs) ≡ true
+    → LegalRules (p .rules)
+unfolding program holds
+program-legal bs p h e k =
+    after (rawProgram bs) putIn p e (λ r q e. rw (putIn-some r p e .rules) (raw-legal bs r h q (rw q at k)))

@@ -13,7 +13,9 @@ pub mod Decided
 pub mod Levels
 pub mod FirstMatch
 pub mod Restoring
+pub mod Procedures
 pub mod Commands
+pub mod Breaks
 pub mod Fuel
 pub mod Values
 pub mod Legality

@@ -1,6 +1,6 @@
 -- A run from tables that keep the layout leaves tables that keep it again, and undo on what a result left, with the count in
 -- its report, gives back the tables byte for byte and a journal of zeros.
--- Rests on the meaning's Calls, and on Hosts, Records, Restoring, LegalCommands, LegalImage and Calls.
+-- Rests on the meaning's Calls, and on Hosts, Records, Restoring, LegalCommands and Calls.
 use Prim.Native.Nat.{ℕ, _+_, _-_, _*_, _/_, _^_, _<_, _≤_}
 use mathlib.Core.Path.{_≡_, refl, _∙_, ap}
 use mathlib.Core.List.{List, _++_, map, reverse}
@@ -14,7 +14,7 @@ use lib.Seq.{drop-at}
 use Rattle.meaning.specs.Basics.{choose, concat, padded, firstFailing}
 use Rattle.meaning.specs.Numbers.{number, bytes, whole}
 use Rattle.meaning.specs.Layout.{Slot, Node, Edge, Host, Change, base, nodeLength, edgeLength, recordLength, fitsTable, readNode, readEdge, hostOf, writeNode, writeEdge, writeNodes, writeEdges, writeRecord, keepsLayout}
-use Rattle.meaning.specs.Image.{Program, program}
+use Rattle.meaning.specs.Procedures.{Program, program}
 use Rattle.meaning.specs.Commands.{State, Out, beginning, exec}
 use Rattle.meaning.specs.Calls.{Returned, reportOf, refused, runRefusal, journalRoom, finished, started, runOn, run, keepsRecords, undoRefusal, tablesUndone, undoOn, undo, lending, lendingUndo}
 use Rattle.meaning.specs.Laws.Tests.{both-of}
@@ -28,8 +28,7 @@ use Rattle.laws.specs.Restoring.{from-start}
 use Rattle.laws.specs.Commands.{exec-from, exec-room}
 use Rattle.laws.specs.Legality.{LegalLedger}
 use Rattle.laws.specs.LegalCommands.{LegalRules, exec-legal}
-use Rattle.laws.specs.LegalImage.{program-legal}
-use Rattle.laws.specs.Calls.{Accepted, accepted}
+use Rattle.laws.specs.Calls.{Accepted, accepted, accepted-legal}
 use Rattle.meaning.specs.declared.Layout.{Layout}
 use Rattle.meaning.specs.declared.Refusal.{Refusal}
 use Rattle.meaning.specs.declared.Answer.the-variants.{Result}
@@ -224,13 +223,13 @@ module _ (L : Layout) (numbered : Numbered L) (nodes edges journal image : List 
   where
     -- the rules of an accepted program are legal
     rules : (a : Accepted L (lending nodes edges journal image fuel report)) → LegalRules (a .tree .rules)
-    rules a = program-legal image (a .tree) hi (a .form) (a .references)
+    rules = accepted-legal L (lending nodes edges journal image fuel report) hi
 
     -- a property of what the call leaves: of what a refused call leaves, and of what a started one does
     called : (P : Returned → Type 0) → ((w : Refusal) → P (refused w nodes edges journal report))
         → ((a : Accepted L (lending nodes edges journal image fuel report)) → P (started L (a .tree) nodes edges journal fuel))
         → P (run L (lending nodes edges journal image fuel report))
-    unfolding run runOn
+    unfolding run runOn program
     called P f g = at (runRefusal L (lending nodes edges journal image fuel report)) refl
       where
         at : (w : Option Refusal) → runRefusal L (lending nodes edges journal image fuel report) ≡ w

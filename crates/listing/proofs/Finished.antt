@@ -8,14 +8,14 @@ use native.Mathlib.Omega.{arith}
 use lib.ListN.{length, replicate}
 use Rattle.meaning.specs.Layout.{base, nodeLength, edgeLength, recordLength, readNode, readEdge}
 use Rattle.meaning.specs.declared.Layout.{Layout}
-use Rattle.meaning.specs.Image.{program}
+use Rattle.meaning.specs.Procedures.{program}
 use Rattle.meaning.specs.Calls.{Returned, run, runOn, runRefusal, refused, answerNumber, refusalNumber, lending, Yields}
 use Rattle.laws.specs.Numbers.{Bytes}
 use Rattle.laws.specs.Pieces.{fits-length, fits-same, length-read}
 use Rattle.laws.specs.Calls.{Accepted, accepted}
 use Rattle.laws.specs.Undoing.{base-numbered, run-keeps}
 use Rattle.meaning.specs.declared.Refusal.{Refusal}
-use Rattle.meaning.specs.declared.Refusal.the-variants.{ReportLength, NodeTableLength, EdgeTableLength, JournalLength, TooMuchFuel, ImageTooLong, BadHost, BadForm, BadReferences, BadPlacement, BadRecords}
+use Rattle.meaning.specs.declared.Refusal.the-variants.{ReportLength, NodeTableLength, EdgeTableLength, JournalLength, TooMuchFuel, ImageTooLong, BadHost, BadForm, BadReferences, BadPlacement, BadDepth, BadRecords}
 use Rattle.laws.specs.Layout.{base-sized}
 use Rattle.writing.specs.Words.{letters}
 use Rattle.writing.specs.Text.{Adds, Lists}
@@ -42,6 +42,7 @@ refusal-answers BadHost e = omega arith
 refusal-answers BadForm e = omega arith
 refusal-answers BadReferences e = omega arith
 refusal-answers BadPlacement e = omega arith
+refusal-answers BadDepth e = omega arith
 refusal-answers BadRecords e = omega arith
 
 module _ (nodes edges journal image : List ℕ) (fuel : ℕ) (report : List ℕ) (hn : Bytes nodes) (he : Bytes edges) (hi : Bytes image) where
@@ -50,7 +51,7 @@ module _ (nodes edges journal image : List ℕ) (fuel : ℕ) (report : List ℕ)
 
   -- a run that came to a result was accepted
   result-accepted : answerNumber (left .answer) ≡ 0 → Accepted base (lending nodes edges journal image fuel report)
-  unfolding run runOn refused answerNumber
+  unfolding run program runOn refused answerNumber
   result-accepted e = at (runRefusal base (lending nodes edges journal image fuel report)) refl e
     where
       at : (w : Option Refusal) → runRefusal base (lending nodes edges journal image fuel report) ≡ w

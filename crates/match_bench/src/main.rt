@@ -4,7 +4,7 @@ ghost use mathlib.Core.Path.{_≡_};
 ghost use mathlib.Core.Bool.{true};
 ghost use lib.ListN.{length};
 ghost use Prim.Native.Nat.{_<_};
-ghost use Rattle.meaning.specs.Image.{program};
+ghost use Rattle.meaning.specs.Image.{rawProgram};
 ghost use Rattle.parts.specs.Series.{For};
 ghost use Rattle.values.specs.Values.{Stored};
 ghost use Rattle.pairs.specs.Pairs.{starts as doesStart, Answers};
@@ -24,7 +24,7 @@ fn repeated<'a>(
     atoms: &mut [u32; Room::ATOMS],
 ) -> Matched
     requires { ⌜ doesStart (now nodes) (now edges) (now image) ≡ true ⌝ }
-    requires { ⌜ For (program (now image)) (λ p. 0 < length (p .rules)) ⌝ }
+    requires { ⌜ For (rawProgram (now image)) (λ p. 0 < length (p .rules)) ⌝ }
     requires { ⌜ (length (now plan) ≡ planLength) × Stored (now lens) (now atoms) ⌝ }
     ensures { λ x. ⌜ Answers (now (nodes .entry)) (now (edges .entry)) (now (image .entry)) 0 x (now (lens .exit)) (now (atoms .exit)) ⌝ }
 {
@@ -38,7 +38,7 @@ fn repeated<'a>(
 
 fn match_first<'a>(nodes: &'a [u8], edges: &'a [u8], image: &[u8], n: u32)
     requires { ⌜ doesStart (now nodes) (now edges) (now image) ≡ true ⌝ }
-    requires { ⌜ For (program (now image)) (λ p. 0 < length (p .rules)) ⌝ }
+    requires { ⌜ For (rawProgram (now image)) (λ p. 0 < length (p .rules)) ⌝ }
 {
     let mut plan = [0usize; At::LENGTH];
     let mut lens = [0usize; Room::VARIABLES];

@@ -4,7 +4,7 @@ ghost use mathlib.Core.Path.{_≡_};
 ghost use mathlib.Core.Bool.{true};
 ghost use lib.ListN.{length};
 ghost use Prim.Native.Nat.{_<_};
-ghost use Rattle.meaning.specs.Image.{program};
+ghost use Rattle.meaning.specs.Image.{rawProgram};
 ghost use Rattle.parts.specs.Series.{For};
 ghost use Rattle.pairs.specs.Pairs.{starts as doesStart};
 use meaning::Room;
@@ -12,7 +12,7 @@ use plan::At;
 
 fn match_rule<'a>(nodes: &'a [u8], edges: &'a [u8], image: &[u8], i: usize)
     requires { ⌜ doesStart (now nodes) (now edges) (now image) ≡ true ⌝ }
-    requires { ⌜ For (program (now image)) (λ p. i < length (p .rules)) ⌝ }
+    requires { ⌜ For (rawProgram (now image)) (λ p. i < length (p .rules)) ⌝ }
 {
     let mut plan = [0usize; At::LENGTH];
     let mut lens = [0usize; Room::VARIABLES];

@@ -1,5 +1,5 @@
 -- The two calls, each a function from all its inputs to all its outputs, refusals in their order included.
--- Rests on Basics, Numbers, Layout, Image, References, Placement and Commands, and on the code's Layout, Stop, Refusal, Answer and
+-- Rests on Basics, Numbers, Layout, Image, References, Placement, Procedures and Commands, and on the code's Layout, Stop, Refusal, Answer and
 -- End. At document 01's layout (`base`) a node has 20 bytes, an edge 24, a record 28; tables have at most 512, 1,024 and 1,024.
 use mathlib.Core.Path.{_≡_}
 use mathlib.Core.Bool.{Bool, false}
@@ -8,18 +8,19 @@ use mathlib.Core.List.{List, [], _∷_, _++_, map, reverse}
 use Prim.Native.Nat.{ℕ, _+_, _*_, _/_}
 use lib.ListN.{length, drop, replicate}
 use lib.Dec.{eqb, leb}
-use Rattle.meaning.specs.Basics.{choose, both, every, concat, padded, isSome, firstFailing}
+use Rattle.meaning.specs.Basics.{choose, both, every, concat, padded, isSome, firstFailing, _>>=_}
 use Rattle.meaning.specs.Numbers.{number, bytes}
 use Rattle.meaning.specs.Layout.{base, Tables, undone, nodeLength, edgeLength, recordLength, fitsTable, pieces, cut, hostOf, writeNodes, writeEdges, writeRecord, keepsLayout, readRecord, keepsRecord}
-use Rattle.meaning.specs.Image.{Program, limits, program}
+use Rattle.meaning.specs.Image.{RawProgram, limits, rawProgram}
 use Rattle.meaning.specs.References.{references}
 use Rattle.meaning.specs.Placement.{placement}
+use Rattle.meaning.specs.Procedures.{Program, depthHolds, putIn}
 use Rattle.meaning.specs.Commands.{Out, beginning, exec}
 use Rattle.meaning.specs.declared.Layout.{Layout}
 use Rattle.meaning.specs.declared.Stop.{Stop}
 use Rattle.meaning.specs.declared.Stop.the-variants.{OutOfFuel, NoNodeRoom, NoEdgeRoom, NoRecordRoom, LabelTooLarge}
 use Rattle.meaning.specs.declared.Refusal.{Refusal}
-use Rattle.meaning.specs.declared.Refusal.the-variants.{ReportLength, NodeTableLength, EdgeTableLength, JournalLength, TooMuchFuel, ImageTooLong, BadHost, BadForm, BadReferences, BadPlacement, BadRecords}
+use Rattle.meaning.specs.declared.Refusal.the-variants.{ReportLength, NodeTableLength, EdgeTableLength, JournalLength, TooMuchFuel, ImageTooLong, BadHost, BadForm, BadReferences, BadPlacement, BadDepth, BadRecords}
 use Rattle.meaning.specs.declared.Answer.{Answer}
 use Rattle.meaning.specs.declared.Answer.the-variants.{Result, Fail, Stopped as stoppedBy, Refused}
 use Rattle.meaning.specs.declared.End.{End}
@@ -45,6 +46,7 @@ refusalNumber BadHost = 15
 refusalNumber BadForm = 16
 refusalNumber BadReferences = 17
 refusalNumber BadPlacement = 18
+refusalNumber BadDepth = 19
 refusalNumber BadRecords = 20
 
 unfoldable pub answerNumber : Answer → ℕ
@@ -112,13 +114,10 @@ refused w nodes edges journal report =
       report = choose (eqb (length report) 8) (reportOf 0 0) report;
     }
 
-unfoldable pub referencesHold : Option Program → Bool
-referencesHold none = false
-referencesHold (some p) = references p
-
-unfoldable pub placementHolds : Option Program → Bool
-placementHolds none = false
-placementHolds (some p) = placement p
+-- the test holds of what was read, if anything was
+unfoldable pub holds : (RawProgram → Bool) → Option RawProgram → Bool
+holds f none = false
+holds f (some p) = f p
 
 module _ (L : Layout) where
   -- The lengths, which both calls look at first (9 to 12).
@@ -132,8 +131,8 @@ module _ (L : Layout) where
 
   -- Run.
 
-  -- the lowest applicable number from 9 to 18, where the image is read as p
-  unfoldable pub refusalAs : Option Program → Lent → Option Refusal
+  -- the lowest applicable number from 9 to 19, where the image is read as p
+  unfoldable pub refusalAs : Option RawProgram → Lent → Option Refusal
   refusalAs p x =
       firstFailing
       (lengthChecks (x .nodes) (x .edges) (x .journal) (x .report)
@@ -141,12 +140,13 @@ module _ (L : Layout) where
       ∷ (leb (length (x .image)) (limits .bytes), ImageTooLong)
       ∷ (keepsLayout L (x .nodes) (x .edges), BadHost)
       ∷ (isSome p, BadForm)
-      ∷ (referencesHold p, BadReferences)
-      ∷ (placementHolds p, BadPlacement)
+      ∷ (holds references p, BadReferences)
+      ∷ (holds placement p, BadPlacement)
+      ∷ (holds depthHolds p, BadDepth)
       ∷ [])
 
   abbrev pub runRefusal : Lent → Option Refusal
-  runRefusal x = refusalAs (program (x .image)) x
+  runRefusal x = refusalAs (rawProgram (x .image)) x
 
   -- how many records the journal holds
   abbrev pub journalRoom : List ℕ → ℕ
@@ -182,11 +182,11 @@ module _ (L : Layout) where
   runOn none (some p) x = started p (x .nodes) (x .edges) (x .journal) (x .fuel)
 
   -- what a call returns, where the image is read as p
-  abbrev pub runAs : Option Program → Lent → Returned
-  runAs p x = runOn (refusalAs p x) p x
+  abbrev pub runAs : Option RawProgram → Lent → Returned
+  runAs p x = runOn (refusalAs p x) (p >>= putIn) x
 
   unfoldable pub run : Lent → Returned
-  run x = runAs (program (x .image)) x
+  run x = runAs (rawProgram (x .image)) x
 
   -- Undo.
 

@@ -1,5 +1,5 @@
 -- Commands: what each does to the host, the journal, the fuel and the steps, and what each end does to a sequence, a guard
--- and a loop body. Rests on Basics, Layout, Image, Applying and, for the first match alone, FirstMatch, and on the code's Stop
+-- and a loop body. Rests on Basics, Layout, Image, Procedures, Applying and, for the first match alone, FirstMatch, and on the code's Stop
 -- and End.
 use mathlib.Core.Bool.{Bool, false}
 use mathlib.Core.Option.{Option, some, none}
@@ -8,7 +8,8 @@ use Prim.Native.Nat.{ℕ, zero, suc}
 use lib.ListN.{getD}
 use Rattle.meaning.specs.Basics.{choose}
 use Rattle.meaning.specs.Layout.{Host}
-use Rattle.meaning.specs.Image.{Rule, Command, ruleSet, sequence, guarded, loop, skip, fail, break, Commands, noMore, then}
+use Rattle.meaning.specs.Image.{Rule}
+use Rattle.meaning.specs.Procedures.{Command, ruleSet, sequence, guarded, loop, skip, fail, break, called, Commands, noMore, then}
 use Rattle.meaning.specs.FirstMatch.{firstMatch}
 use Rattle.meaning.specs.Applying.{Ledger, ledgerAt, Applied, applied, hindered, apply}
 use Rattle.meaning.specs.declared.Stop.the-variants.{OutOfFuel}
@@ -119,6 +120,7 @@ module _ (most room : ℕ) (rules : List Rule) where
     work skip s = ends Done s
     work fail s = ends Failed s
     work break s = ends Broke s
+    work (called c) s = enter (λ t. work c t) s
 
     -- commands in order
     pub works : Commands → State → Out

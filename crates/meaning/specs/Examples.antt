@@ -2,12 +2,12 @@
 -- outcome. Rests on Tags, Layout, Calls, ProvedSet and Computing, and on the code's Answer.
 use mathlib.Core.Path.{_≡_, refl}
 use mathlib.Core.List.{List, [], _∷_, _++_, map}
-use Prim.Native.Nat.{ℕ, _*_}
+use Prim.Native.Nat.{ℕ, zero, suc, _*_}
 use lib.ListN.{replicate}
 use Rattle.meaning.specs.Layout.{base, edgeLength, recordLength}
-use Rattle.meaning.specs.Tags.{ruleTag, variablesTag, leftTag, rightTag, interfaceTag, testsTag, modeTag, nodeTag, constantTag, sumTag, inDegreeTag, outDegreeTag, loopTag, guardedTag}
+use Rattle.meaning.specs.Tags.{ruleTag, procedureTag, variablesTag, leftTag, rightTag, interfaceTag, testsTag, modeTag, nodeTag, constantTag, sumTag, inDegreeTag, outDegreeTag, sequenceTag, loopTag, callTag, guardedTag}
 use Rattle.meaning.specs.Calls.{Returned, run, undo, reportOf, lending, lendingUndo}
-use Rattle.meaning.specs.ProvedSet.{Case, Expected, given, liveNode, freeNode, liveEdge, nodeRecord, edgeRecord, plainNode, redNode, fieldBytes, ruleField, nodeField, edgeField, variableField, ruleSetField, marksRed, skipField, breakField, noResult, results, onPlainNode}
+use Rattle.meaning.specs.ProvedSet.{Case, Expected, given, liveNode, freeNode, liveEdge, nodeRecord, edgeRecord, plainNode, redNode, fieldBytes, ruleField, nodeField, edgeField, variableField, ruleSetField, marksRed, skipField, failField, breakField, noResult, results, onPlainNode}
 use Rattle.meaning.specs.Computing.{computing}
 use Rattle.meaning.specs.declared.Answer.the-variants.{Result}
 
@@ -85,6 +85,17 @@ onRoot rule expected =
 abbrev largest : List ℕ
 largest = liveNode 0 0 (1 ∷ 127 ∷ 255 ∷ 255 ∷ 255 ∷ [])
 
+abbrev procedureField : List ℕ → List ℕ
+procedureField command = fieldBytes procedureTag command
+
+abbrev callField : ℕ → List ℕ
+callField i = fieldBytes callTag (i ∷ [])
+
+-- a procedure of skip, and n more that each call the one before
+abbrev chain : ℕ → List ℕ
+chain zero = procedureField skipField
+chain (suc n) = chain n ++ procedureField (callField n)
+
 -- what is left on a plain node with 8 records where the call is refused
 abbrev refuses : ℕ → Expected
 refuses answer =
@@ -155,6 +166,30 @@ examples =
     ∷ onPlainNode 100 (marksWith (fieldBytes modeTag []) ++ ruleSetField 0) (refuses 16)
     ∷ onPlainNode 100 (marksWith (modeField 0 ++ modeField 0) ++ ruleSetField 0) (refuses 16)
     ∷ onPlainNode 100 (modeBeforeTests ++ ruleSetField 0) (refuses 16)
+    -- entering a call costs a step; then its procedure's command is entered
+    ∷ onPlainNode 2 (procedureField skipField ++ callField 0) (results 2 0 plainNode [] [])
+    ∷ onPlainNode 1 (procedureField skipField ++ callField 0) (noResult 2 1 plainNode [])
+    ∷ onPlainNode 0 (procedureField skipField ++ callField 0) (noResult 2 0 plainNode [])
+    -- a loop of a call of (M; fail) is undone, and one of (M; loop of break) leaves its own loop alone
+    ∷ onPlainNode 100 (marksRed ++ procedureField (fieldBytes sequenceTag (ruleSetField 0 ++ failField)) ++ fieldBytes loopTag (callField 0)) (results 5 0 plainNode [] [])
+    ∷ onPlainNode 100 (marksRed ++ procedureField (fieldBytes sequenceTag (ruleSetField 0 ++ fieldBytes loopTag breakField)) ++ fieldBytes loopTag (callField 0)) (results 9 1 redNode [] (nodeRecord 0 plainNode))
+    -- a procedure is one command, a call one byte, and there are 16 procedures at most, behind the rules
+    ∷ onPlainNode 100 (procedureField (skipField ++ skipField) ++ callField 0) (refuses 16)
+    ∷ onPlainNode 100 (procedureField [] ++ callField 0) (refuses 16)
+    ∷ onPlainNode 100 (procedureField skipField ++ fieldBytes callTag (0 ∷ 0 ∷ [])) (refuses 16)
+    ∷ onPlainNode 100 (procedureField skipField ++ fieldBytes callTag []) (refuses 16)
+    ∷ onPlainNode 100 (procedureField skipField ++ marksRed ++ callField 0) (refuses 16)
+    ∷ onPlainNode 100 (chain 15 ++ procedureField skipField ++ skipField) (refuses 16)
+    -- a procedure that is called exists, also from one that nothing calls
+    ∷ onPlainNode 100 (procedureField skipField ++ callField 1) (refuses 17)
+    ∷ onPlainNode 100 (procedureField (callField 1) ++ skipField) (refuses 17)
+    -- the caller's loop is no loop for a break in a procedure
+    ∷ onPlainNode 100 (procedureField breakField ++ fieldBytes loopTag (callField 0)) (refuses 18)
+    -- calls in a ring, whether anything calls into it or not; and calls too deep by one
+    ∷ onPlainNode 100 (procedureField (callField 0) ++ skipField) (refuses 19)
+    ∷ onPlainNode 100 (procedureField (callField 1) ++ procedureField (callField 0) ++ callField 0) (refuses 19)
+    ∷ onPlainNode 100 (chain 15 ++ callField 15) (refuses 19)
+    ∷ onPlainNode 100 (chain 15 ++ callField 14) (results 16 0 plainNode [] [])
     ∷ []
 
 pub as-expected : map given examples ≡ map (λ c. c .expected) examples

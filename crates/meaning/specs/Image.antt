@@ -1,6 +1,6 @@
--- The program image: the tree that it stands for, and the reader of bytes, which succeeds exactly on what has the form
--- of document 01 (answer 16). Rests on Basics, Numbers, Tags and, for marks, Layout, and on the code's Operand, Element,
--- Condition and Test.
+-- The program image: the tree that is read from it, with calls of procedures by their numbers, and the reader of bytes, which
+-- succeeds exactly on what has the form of document 01 (answer 16). Rests on Basics, Numbers, Tags and, for marks, Layout, and on
+-- the code's Operand, Element, Condition and Test.
 use mathlib.Core.Bool.{Bool, true, false}
 use mathlib.Core.Option.{Option, some, none}
 use mathlib.Core.List.{List, [], _∷_}
@@ -10,7 +10,7 @@ use lib.Dec.{eqb, leb}
 use Rattle.meaning.specs.Basics.{choose, both, either, every, isEmpty, ensure, _>>_, _>>=_}
 use Rattle.meaning.specs.Numbers.{number}
 use Rattle.meaning.specs.Layout.{isNodeMark, isEdgeMark}
-use Rattle.meaning.specs.Tags.{ruleTag, variablesTag, leftTag, rightTag, interfaceTag, testsTag, modeTag, nodeTag, edgeTag, constantTag, variableTag, sumTag, differenceTag, edgeTestTag, inDegreeTag, outDegreeTag, relationTag, ruleSetTag, sequenceTag, loopTag, skipTag, failTag, breakTag, guardedTag, intType, listType, equalRelation, lessRelation, anyMark}
+use Rattle.meaning.specs.Tags.{ruleTag, procedureTag, variablesTag, leftTag, rightTag, interfaceTag, testsTag, modeTag, nodeTag, edgeTag, constantTag, variableTag, sumTag, differenceTag, edgeTestTag, inDegreeTag, outDegreeTag, relationTag, ruleSetTag, sequenceTag, loopTag, skipTag, failTag, breakTag, callTag, guardedTag, intType, listType, equalRelation, lessRelation, anyMark}
 use Rattle.meaning.specs.declared.Operand.{Operand}
 use Rattle.meaning.specs.declared.Operand.the-variants.{Constant as constantOperand, Variable as variableOperand}
 use Rattle.meaning.specs.declared.Element.{Element}
@@ -46,30 +46,34 @@ pub record Rule : Type 0 where
   pub tests : List Test
   pub preserving : Bool
 
+-- Raw commands: as they are read, with calls by number. What they stand for is in Procedures.
 mutual
-  -- `guarded keep` is try where a successful guard's changes are kept, and if where they are not
-  pub data Command : Type 0 where
-    ruleSet : List ℕ → Command
-    sequence : Commands → Command
-    guarded : Bool → Command → Command → Command → Command
-    loop : Command → Command
-    skip : Command
-    fail : Command
-    break : Command
+  -- `guarded keep` is try where a successful guard's changes are kept, and if where they are not; `call i` calls procedure i
+  pub data Raw : Type 0 where
+    ruleSet : List ℕ → Raw
+    sequence : Raws → Raw
+    guarded : Bool → Raw → Raw → Raw → Raw
+    loop : Raw → Raw
+    skip : Raw
+    fail : Raw
+    break : Raw
+    call : ℕ → Raw
 
-  pub data Commands : Type 0 where
-    noMore : Commands
-    then : Command → Commands → Commands
+  pub data Raws : Type 0 where
+    noMore : Raws
+    then : Raw → Raws → Raws
 
-pub record Program : Type 0 where
+pub record RawProgram : Type 0 where
   pub rules : List Rule
-  pub main : Command
+  pub procedures : List Raw
+  pub main : Raw
 
 -- The limits of an image.
 
 pub record Limits : Type 0 where
   pub bytes : ℕ
   pub rules : ℕ
+  pub procedures : ℕ
   pub variables : ℕ
   pub nodes : ℕ
   pub edges : ℕ
@@ -84,6 +88,7 @@ limits =
     record {
       bytes = 8192;
       rules = 32;
+      procedures = 16;
       variables = 6;
       nodes = 6;
       edges = 6;
@@ -290,38 +295,41 @@ rule bs = do
 
 -- Commands, nested at most n deep.
 
-unfoldable pub inOrder : List Command → Commands
+unfoldable pub inOrder : List Raw → Raws
 inOrder [] = noMore
 inOrder (c ∷ l) = then c (inOrder l)
 
-unfoldable pub leaf : Command → List ℕ → Option Command
+unfoldable pub leaf : Raw → List ℕ → Option Raw
 leaf c bs = do
   ensure (isEmpty bs)
   some c
 
-unfoldable pub asRuleSet : List ℕ → Option Command
+unfoldable pub asRuleSet : List ℕ → Option Raw
 asRuleSet bs = do
   ensure (both (leb 1 (length bs)) (leb (length bs) (limits .numbers)))
   some (ruleSet bs)
 
-unfoldable pub asSequence : List Command → Option Command
+unfoldable pub asSequence : List Raw → Option Raw
 asSequence [] = none
 asSequence (c ∷ l) = some (sequence (then c (inOrder l)))
 
-unfoldable pub asGuarded : Bool → List Command → Option Command
+unfoldable pub asGuarded : Bool → List Raw → Option Raw
 asGuarded keep [] = none
 asGuarded keep (a ∷ []) = none
 asGuarded keep (a ∷ b ∷ []) = none
 asGuarded keep (a ∷ b ∷ c ∷ []) = some (guarded keep a b c)
 asGuarded keep (a ∷ b ∷ c ∷ d ∷ l) = none
 
-unfoldable pub asLoop : List Command → Option Command
+unfoldable pub asLoop : List Raw → Option Raw
 asLoop [] = none
 asLoop (c ∷ []) = some (loop c)
 asLoop (c ∷ d ∷ l) = none
 
--- every command but the guarded one; `parts` reads the commands in it
-unfoldable pub unguarded : (List ℕ → Option (List Command)) → ℕ → List ℕ → Option Command
+unfoldable pub asCall : List ℕ → Option Raw
+asCall bs = oneByte bs >>= λ i. some (call i)
+
+-- every command but calls and the guarded one; `parts` reads the commands in it
+unfoldable pub unguarded : (List ℕ → Option (List Raw)) → ℕ → List ℕ → Option Raw
 unguarded parts tag bs =
     choose (eqb tag ruleSetTag) (asRuleSet bs)
     (choose (eqb tag sequenceTag) (parts bs >>= asSequence)
@@ -331,22 +339,29 @@ unguarded parts tag bs =
     (choose (eqb tag breakTag) (leaf break bs) none)))))
 
 -- the flag of a guarded command says whether a successful guard's changes are kept
-unfoldable pub command : ℕ → ℕ → List ℕ → Option Command
+unfoldable pub command : ℕ → ℕ → List ℕ → Option Raw
 command zero tag bs = none
 command (suc n) tag bs =
-    let parts : List ℕ → Option (List Command) = only passesAll (command n) (limits .commands) in
-    choose (eqb tag guardedTag) (flag bs >>= λ keep. parts (drop 1 bs) >>= asGuarded keep) (unguarded parts tag bs)
+    let parts : List ℕ → Option (List Raw) = only passesAll (command n) (limits .commands) in
+    choose (eqb tag guardedTag) (flag bs >>= λ keep. parts (drop 1 bs) >>= asGuarded keep)
+    (choose (eqb tag callTag) (asCall bs) (unguarded parts tag bs))
 
--- The whole image: rules, then one command, then nothing.
+-- The whole image: rules, then procedures, then one command, then nothing. A procedure is one command, and nothing else.
 
--- `main` reads the command from its tag and payload
-unfoldable pub programBy : (ℕ → List ℕ → Option Command) → List ℕ → Option Program
-programBy main bs = do
-  r ← leading (eqb ruleTag) (λ tag. rule) (limits .rules) bs
-  d ← field (r .rest)
+-- `read` reads a command from its tag and payload
+unfoldable pub oneCommand : (ℕ → List ℕ → Option Raw) → List ℕ → Option Raw
+oneCommand read bs = do
+  d ← field bs
   ensure (isEmpty (d .rest))
-  c ← main (d .tag) (d .payload)
-  some (record { rules = r .items; main = c })
+  read (d .tag) (d .payload)
 
-unfoldable pub program : List ℕ → Option Program
-program bs = programBy (command (limits .depth)) bs
+-- with at most so many procedures
+unfoldable pub programBy : ℕ → (ℕ → List ℕ → Option Raw) → List ℕ → Option RawProgram
+programBy most read bs = do
+  r ← leading (eqb ruleTag) (λ tag. rule) (limits .rules) bs
+  k ← leading (eqb procedureTag) (λ tag. oneCommand read) most (r .rest)
+  c ← oneCommand read (k .rest)
+  some (record { rules = r .items; procedures = k .items; main = c })
+
+unfoldable pub rawProgram : List ℕ → Option RawProgram
+rawProgram bs = programBy (limits .procedures) (command (limits .depth)) bs

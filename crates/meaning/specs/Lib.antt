@@ -5,6 +5,7 @@ pub mod Tags
 pub mod Image
 pub mod References
 pub mod Placement
+pub mod Procedures
 pub mod Matching
 pub mod Assigned
 pub mod Search

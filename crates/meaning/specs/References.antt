@@ -1,5 +1,5 @@
 -- References (answer 17): one test for each thing that document 01's paragraph asks of an image that has the form.
--- Rests on Basics, Tags and Image, and on the code's Operand, Element and Condition.
+-- Rests on Basics, Tags, Image and, for `everywhere`, Procedures, and on the code's Operand, Element and Condition.
 use mathlib.Core.Bool.{Bool, true, false, not}
 use mathlib.Core.List.{List, [], _∷_, _++_, map}
 use Prim.Native.Nat.{ℕ, suc}
@@ -7,7 +7,8 @@ use lib.ListN.{length, getD}
 use lib.Dec.{eqb, leb, ltb}
 use Rattle.meaning.specs.Basics.{choose, both, either, clauses, all, every, absent, concat}
 use Rattle.meaning.specs.Tags.{intType, listType, noneMark, anyMark}
-use Rattle.meaning.specs.Image.{RuleGraph, Rule, Program, Command, ruleSet, sequence, guarded, loop, skip, fail, break, Commands, noMore, then}
+use Rattle.meaning.specs.Image.{RuleGraph, Rule, RawProgram, Raw, ruleSet, sequence, guarded, loop, skip, fail, break, call, Raws, noMore, then}
+use Rattle.meaning.specs.Procedures.{everywhere}
 use Rattle.meaning.specs.declared.Operand.{Operand}
 use Rattle.meaning.specs.declared.Operand.the-variants.{Constant as constantOperand, Variable as variableOperand}
 use Rattle.meaning.specs.declared.Element.{Element}
@@ -157,20 +158,22 @@ ruleHolds r =
     ∷ anyPlaced r
     ∷ [])
 
--- named rules exist, n being how many there are
+-- named rules and procedures exist, n and m being how many there are
 unfoldable mutual
-  pub rulesExist : Command → ℕ → Bool
-  rulesExist (ruleSet l) n = every (λ i. ltb i n) l
-  rulesExist (sequence cs) n = allRulesExist cs n
-  rulesExist (guarded keep g a b) n = both (rulesExist g n) (both (rulesExist a n) (rulesExist b n))
-  rulesExist (loop c) n = rulesExist c n
-  rulesExist skip n = true
-  rulesExist fail n = true
-  rulesExist break n = true
+  pub namesExist : Raw → ℕ → ℕ → Bool
+  namesExist (ruleSet l) n m = every (λ i. ltb i n) l
+  namesExist (sequence cs) n m = allNamesExist cs n m
+  namesExist (guarded keep g a b) n m = both (namesExist g n m) (both (namesExist a n m) (namesExist b n m))
+  namesExist (loop c) n m = namesExist c n m
+  namesExist skip n m = true
+  namesExist fail n m = true
+  namesExist break n m = true
+  namesExist (call i) n m = ltb i m
 
-  pub allRulesExist : Commands → ℕ → Bool
-  allRulesExist noMore n = true
-  allRulesExist (then c cs) n = both (rulesExist c n) (allRulesExist cs n)
+  pub allNamesExist : Raws → ℕ → ℕ → Bool
+  allNamesExist noMore n m = true
+  allNamesExist (then c cs) n m = both (namesExist c n m) (allNamesExist cs n m)
 
-unfoldable pub references : Program → Bool
-references p = both (every ruleHolds (p .rules)) (rulesExist (p .main) (length (p .rules)))
+unfoldable pub references : RawProgram → Bool
+references p =
+    both (every ruleHolds (p .rules)) (everywhere (λ c. namesExist c (length (p .rules)) (length (p .procedures))) p)

@@ -25,6 +25,11 @@ testsTag = 0x15
 abbrev pub modeTag : ℕ
 modeTag = 0x16
 
+-- A procedure.
+
+abbrev pub procedureTag : ℕ
+procedureTag = 0x17
+
 -- The items of a graph.
 
 abbrev pub nodeTag : ℕ
@@ -80,6 +85,9 @@ failTag = 0x56
 
 abbrev pub breakTag : ℕ
 breakTag = 0x57
+
+abbrev pub callTag : ℕ
+callTag = 0x58
 
 abbrev pub guardedTag : ℕ
 guardedTag = 0x59

@@ -53,6 +53,7 @@ pub enum Refusal {
     BadForm,
     BadReferences,
     BadPlacement,
+    BadDepth,
     BadRecords,
 }
 

@@ -19,6 +19,9 @@ impl Tag {
 
     pub const MODE: u8 = 0x16;
 
+    // A procedure.
+    pub const PROCEDURE: u8 = 0x17;
+
     // The items of a graph.
     pub const NODE: u8 = 0x20;
 
@@ -54,6 +57,8 @@ impl Tag {
     pub const FAIL: u8 = 0x56;
 
     pub const BREAK: u8 = 0x57;
+
+    pub const CALL: u8 = 0x58;
 
     pub const GUARDED: u8 = 0x59;
 }
@@ -109,6 +114,8 @@ impl Limit {
     pub const BYTES: usize = 8192;
 
     pub const RULES: usize = 32;
+
+    pub const PROCEDURES: usize = 16;
 
     pub const VARIABLES: usize = 6;
 

@@ -8,7 +8,7 @@ use Prim.Native.Nat.{ℕ, _<_}
 use native.Mathlib.Omega.{arith}
 use lib.ListN.{length, getD}
 use Rattle.meaning.specs.Layout.{base}
-use Rattle.meaning.specs.Image.{Rule, rule, program}
+use Rattle.meaning.specs.Image.{Rule, rule, rawProgram}
 use Rattle.meaning.specs.References.{ruleHolds, references}
 use Rattle.meaning.specs.Calls.{runRefusal, reportOf, lending}
 use Rattle.meaning.specs.Laws.Tests.{both-true, every-true}
@@ -49,18 +49,18 @@ module _ (nodes edges image : List ℕ) where
     pub legal : (l : Layout) → l ≡ base → Legal l nodes edges
     legal l e = rw e (record { sized = base-sized; few = omega arith; nodesFit = taken .nodesFit; edgesFit = taken .edgesFit; keeps = taken .layout })
 
-    module _ (i : ℕ) (few : For (program image) (λ p. i < length (p .rules))) (part : List ℕ) (read : For (program image) (λ p. i < length (p .rules) → (d : Rule) → rule part ≡ some (getD (p .rules) i d))) where
+    module _ (i : ℕ) (few : For (rawProgram image) (λ p. i < length (p .rules))) (part : List ℕ) (read : For (rawProgram image) (λ p. i < length (p .rules) → (d : Rule) → rule part ≡ some (getD (p .rules) i d))) where
       none-left : Rule
       none-left = record { variables = []; left = record { nodes = []; edges = [] }; right = record { nodes = []; edges = [] }; interface = 0; tests = []; preserving = false }
 
       pub is-rule : IsRule part
       unfolding references
       is-rule =
-          let p = taken .tree in
-          let below = few p (taken .form) in
+          let p = taken .raw in
+          let below = few p (taken .read) in
           record {
             tree = getD (p .rules) i none-left;
-            is = read p (taken .form) below none-left;
+            is = read p (taken .read) below none-left;
             holds = every-true ruleHolds (p .rules) none-left (both-true _ _ (taken .references) .0) i below;
           }
 

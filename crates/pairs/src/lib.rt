@@ -4,7 +4,7 @@ ghost use mathlib.Core.Bool.{true};
 ghost use lib.ListN.{length};
 ghost use Prim.Native.Nat.{_+_, _<_, _≤_};
 ghost use Rattle.meaning.specs.Layout.{mostAtoms};
-ghost use Rattle.meaning.specs.Image.{program};
+ghost use Rattle.meaning.specs.Image.{rawProgram};
 ghost use Rattle.parts.specs.Series.{For};
 ghost use Rattle.values.specs.Values.{Stored, valuesRoom};
 ghost use Rattle.pairs.specs.Pairs.{isMatch, starts as doesStart, Answers};
@@ -40,7 +40,7 @@ pub fn rule_match<'a>(
     atoms: &mut [u32; Room::ATOMS],
 ) -> Matched
     requires { ⌜ doesStart (now nodes) (now edges) (now image) ≡ true ⌝ }
-    requires { ⌜ For (program (now image)) (λ p. i < length (p .rules)) ⌝ }
+    requires { ⌜ For (rawProgram (now image)) (λ p. i < length (p .rules)) ⌝ }
     requires { ⌜ (length (now plan) ≡ planLength) × Stored (now lens) (now atoms) ⌝ }
     ensures { λ x. ⌜ (length (now (plan .exit)) ≡ planLength) × Answers (now (nodes .entry)) (now (edges .entry)) (now (image .entry)) i x (now (lens .exit)) (now (atoms .exit)) ⌝ }
 {

@@ -1,4 +1,4 @@
--- What stands in an image as rows of fields: a graph's items, an image's rules and main command, a rule's parts.
+-- What stands in a rule as rows of fields: a graph's items, a rule's parts.
 -- Rests on the meaning's Image and on Series.
 use mathlib.Core.Path.{_≡_, refl, sym, _∙_, ap}
 use mathlib.Core.Bool.{Bool, true, false}
@@ -10,16 +10,16 @@ use native.Mathlib.Decide.{decLt, ℕ-discrete}
 use borrow.Author.Tests.{eqb-true}
 use lib.Dec.{eqb}
 use lib.ListN.{length, getD, drop, length-append, length-map, List·getD-map, List·getD-append, List·getD-eq-default}
-use lib.Seq.{getD-append-add, getD-at}
-use Rattle.meaning.specs.Tags.{edgeTag, interfaceTag, leftTag, modeTag, nodeTag, rightTag, ruleTag, testsTag, variablesTag}
+use lib.Seq.{getD-append-add}
+use Rattle.meaning.specs.Tags.{edgeTag, interfaceTag, leftTag, modeTag, nodeTag, rightTag, testsTag, variablesTag}
 use Rattle.meaning.specs.Basics.{choose, _>>=_}
-use Rattle.meaning.specs.Image.{RuleNode, RuleEdge, RuleGraph, Rule, Command, Program, Field, field, expect, only, passesAll, oneByte, label, ruleNode, ruleEdge, ruleGraph, test, types, mode, preserves, rule, command, program}
+use Rattle.meaning.specs.Image.{RuleNode, RuleEdge, RuleGraph, Rule, Field, field, expect, only, passesAll, oneByte, label, ruleNode, ruleEdge, ruleGraph, test, types, mode, preserves, rule}
 use Rattle.meaning.specs.Laws.Tests.{choose-true, choose-eq, choose-ne, some-inj, bind-some, ensure-some}
 use Rattle.fields.specs.Image.{field-is, bind-yes}
-use Rattle.fields.specs.Parsed.{oneByte-is, ruleNode-is, ruleEdge-is, ruleGraph-is, types-is, mode-is, rule-is, no-rule, command-tag, program-is}
+use Rattle.fields.specs.Parsed.{oneByte-is, ruleNode-is, ruleEdge-is, ruleGraph-is, types-is, mode-is, rule-is}
 use Rattle.meaning.specs.declared.Element.{Element}
-use Rattle.fields.specs.Laws.{Lies}
-use Rattle.fields.specs.Fields.{nthField}
+use Rattle.fields.specs.Laws.{Lies, at-field}
+use Rattle.fields.specs.Fields.{fieldAt, onward, nthField}
 use Rattle.fields.specs.declared.Found.the-variants.{Field as Lying}
 use Rattle.parts.specs.Series.{Series, For, series-none, series-some, series-there, leading-series, only-series, series-append, series-map, nthPart, nthTag, nth-item, nth-there, nth-beyond}
 
@@ -54,9 +54,11 @@ pub record Counting (tag : ℕ) (bs : List ℕ) (at n : ℕ) : Type 0 where
   pub left : (l : List ℕ) → Series tagItem l [] bs → (m : List ℕ) × (Series tagItem m [] (drop at bs)) × (front tag l ≡ n + front tag m)
   pub few : n ≤ at
   pub inside : at ≤ length bs
+  pub beyond : (m : ℕ) → nthField m bs at ≡ nthField (n + m) bs 0
 
 pub counting-start : (tag : ℕ) (bs : List ℕ) → Counting tag bs 0 0
-counting-start tag bs = record { left = λ l r. (l, r, omega arith); few = omega arith; inside = omega arith }
+counting-start tag bs =
+    record { left = λ l r. (l, r, omega arith); few = omega arith; inside = omega arith; beyond = λ m. ap (λ (k : ℕ). nthField k bs 0) (omega arith) }
 
 module _ {tag : ℕ} {bs : List ℕ} {at n : ℕ} (w : Counting tag bs at n) where
   pub counting-done : length bs ≤ at → (l : List ℕ) → Series tagItem l [] bs → n ≡ front tag l
@@ -78,6 +80,12 @@ module _ {tag : ℕ} {bs : List ℕ} {at n : ℕ} (w : Counting tag bs at n) whe
         let z : found ≡ u .first = some-inj _ _ (u .read) in
         (u .others, u .series, ap (front tag) (u .parts) ∙ ap (λ (x : ℕ). choose (eqb x tag) (suc (front tag (u .others))) 0) (sym z))
 
+    passed : (m : ℕ) → nthField m bs end ≡ nthField (suc m) bs at
+    unfolding nthField onward
+    passed m =
+        let e : fieldAt bs at ≡ Lying found start end = sym (at-field bs at h (k .whole) (k .is)) ∙ rw (k .tagged, k .starts, k .ends) in
+        rw e
+
     pub counting-next : found ≡ tag → Counting tag bs end (n + 1)
     counting-next g = record {
       left = λ l r.
@@ -87,6 +95,7 @@ module _ {tag : ℕ} {bs : List ℕ} {at n : ℕ} (w : Counting tag bs at n) whe
           (u .0, u .1, omega (arith, t .2, u .2, c));
       few = omega (arith, w .few, k .starts, k .ends);
       inside = k .inside;
+      beyond = λ m. passed m ∙ w .beyond (suc m) ∙ ap (λ (j : ℕ). nthField j bs 0) (omega arith);
     }
 
     pub counting-stop : (found ≡ tag → ⊥) → (l : List ℕ) → Series tagItem l [] bs → n ≡ front tag l
@@ -246,7 +255,7 @@ edge-is bs n e =
     let i = ruleEdge-is bs n e in
     record { mark = sym (i .mark); source = sym (i .source); target = sym (i .target); labelled = i .label }
 
-nth-of : {A B : Type 0} (f : A → B) (l : List A) (m : List B) (i : ℕ) (d : A) → i < length l → getD (map f l ++ m) i (f d) ≡ f (getD l i d)
+pub nth-of : {A B : Type 0} (f : A → B) (l : List A) (m : List B) (i : ℕ) (d : A) → i < length l → getD (map f l ++ m) i (f d) ≡ f (getD l i d)
 nth-of f l m i d h = List·getD-append (map f l) m (f d) i (rw (length-map l f) h) ∙ List·getD-map f l i d
 
 -- the node and the edge of a number, in the field of their number
@@ -307,98 +316,6 @@ module _ (bs part : List ℕ) (i n : ℕ) (q : For (ruleGraph bs) (λ g. n ≡ l
 
   pub mark-none : n ≤ i → For (ruleGraph bs) (λ g. 0 ≡ markAt g i)
   mark-none h g e = sym (List·getD-eq-default (map (λ n. n .mark) (g .nodes)) 0 (rw (length-map (g .nodes) (λ n. n .mark)) (omega (arith, q g e))))
-
--- An image.
-
--- a rule, or the main command with its tag
-pub data Part : Type 0 where
-  ruleOf : Rule → Part
-  mainOf : ℕ → Command → Part
-
-unfoldable pub imagePart : ℕ → List ℕ → Option Part
-imagePart tag bs =
-    choose (eqb tag ruleTag) (rule bs >>= λ x. some (ruleOf x)) (command 16 tag bs >>= λ c. some (mainOf tag c))
-
-abbrev pub imageParts : ℕ → Program → List Part
-imageParts tag p = map ruleOf (p .rules) ++ mainOf tag (p .main) ∷ []
-
-abbrev pub IsPart : ℕ → List ℕ → Part → Type 0
-IsPart tag bs (ruleOf x) = (tag ≡ ruleTag) × (rule bs ≡ some x)
-IsPart tag bs (mainOf t c) = (tag ≡ t) × (command 16 tag bs ≡ some c)
-
-pub part-is : (tag : ℕ) (bs : List ℕ) (i : Part) → imagePart tag bs ≡ some i → IsPart tag bs i
-unfolding imagePart
-part-is tag bs i e = at (ℕ-discrete tag ruleTag)
-  where
-    at : Dec (tag ≡ ruleTag) → IsPart tag bs i
-    at (yes h) =
-        let t = bind-some (rule bs) _ i (sym (choose-eq tag ruleTag _ _ h) ∙ e) in
-        rw (← (some-inj (ruleOf (t .0)) i (t .2))) (h, t .1)
-    at (no h) =
-        let t = bind-some (command 16 tag bs) _ i (sym (choose-ne tag ruleTag _ _ h) ∙ e) in
-        rw (← (some-inj (mainOf tag (t .0)) i (t .2))) (refl, t .1)
-
-rule-item : (tag : ℕ) (bs : List ℕ) (x : Rule) → tagged ruleTag rule tag bs ≡ some x → imagePart tag bs ≡ some (ruleOf x)
-unfolding imagePart choose
-rule-item tag bs x e =
-    let t = tagged-some ruleTag rule tag bs x e in
-    rw (← (t .0)) (bind-yes _ _ x (t .1))
-
-pub no-command : (tag : ℕ) (bs : List ℕ) (c : Command) → command 16 tag bs ≡ some c → tag ≡ ruleTag → ⊥
-no-command tag bs c e h = no-rule c (sym (command-tag 16 tag bs c e .1) ∙ h)
-
-main-item : (tag : ℕ) (bs : List ℕ) (c : Command) → command 16 tag bs ≡ some c → imagePart tag bs ≡ some (mainOf tag c)
-unfolding imagePart
-main-item tag bs c e = choose-ne tag ruleTag _ _ (no-command tag bs c e) ∙ bind-yes _ _ c e
-
-pub image-series : (bs : List ℕ) (p : Program) → program bs ≡ some p → (t : ℕ) × (t ≡ ruleTag → ⊥) × (Series imagePart (imageParts t p) [] bs)
-unfolding program Series
-image-series bs p e =
-    let i = program-is (command 16) bs p e in
-    let rs = leading-series (eqb ruleTag) (λ tag. rule) (tagged ruleTag rule) (tagged-yes ruleTag rule) 32 bs _ (i .rules) in (
-      i .whole .tag,
-      no-command _ _ (p .main) (i .command),
-      series-append imagePart (map ruleOf (p .rules)) (mainOf (i .whole .tag) (p .main) ∷ []) (i .behind) bs []
-          (series-map (tagged ruleTag rule) imagePart ruleOf rule-item (p .rules) (i .behind) bs rs)
-          (record { whole = i .whole; there = i .at-command; read = main-item _ _ (p .main) (i .command); more = i .last }),
-    )
-
-unfoldable partTag : Part → ℕ
-partTag (ruleOf x) = ruleTag
-partTag (mainOf t c) = t
-
-part-tag : (tag : ℕ) (bs : List ℕ) (i : Part) → imagePart tag bs ≡ some i → tagItem tag bs ≡ some (partTag i)
-unfolding partTag
-part-tag tag bs (ruleOf x) e = ap some (part-is tag bs (ruleOf x) e .0)
-part-tag tag bs (mainOf t c) e = ap some (part-is tag bs (mainOf t c) e .0)
-
-front-parts : (xs : List Rule) (t : ℕ) (c : Command) → (t ≡ ruleTag → ⊥) → front ruleTag (map partTag (map ruleOf xs ++ mainOf t c ∷ [])) ≡ length xs
-unfolding front partTag choose
-front-parts [] t c h = choose-ne t ruleTag _ _ h
-front-parts (x ∷ xs) t c h = ap suc (front-parts xs t c h)
-
--- the tags at the front are as many as there are rules
-pub rule-count-is : (bs : List ℕ) (r : ℕ) → ((l : List ℕ) → Series tagItem l [] bs → r ≡ front ruleTag l) → For (program bs) (λ p. r ≡ length (p .rules))
-rule-count-is bs r h p e =
-    let t = image-series bs p e in
-    h (map partTag (imageParts (t .0) p)) (series-map imagePart tagItem partTag part-tag (imageParts (t .0) p) [] bs (t .2)) ∙ front-parts (p .rules) (t .0) (p .main) (t .1)
-
--- the rule of a number, and the main command behind them
-pub nth-rule : (bs : List ℕ) (p : Program) → program bs ≡ some p → (i : ℕ) → i < length (p .rules) → (d : Rule) → rule (nthPart i bs) ≡ some (getD (p .rules) i d)
-nth-rule bs p e i h d =
-    let r = image-series bs p e in
-    let k : i < length (imageParts (r .0) p) = rw (length-append (map ruleOf (p .rules)) (mainOf (r .0) (p .main) ∷ []), length-map (p .rules) ruleOf) (omega arith) in
-    let t = nth-item bs imagePart (imageParts (r .0) p) i (ruleOf d) (r .2) k in
-    part-is (nthTag i bs) (nthPart i bs) (ruleOf (getD (p .rules) i d)) (t ∙ ap some (nth-of ruleOf (p .rules) (mainOf (r .0) (p .main) ∷ []) i d h)) .1
-
-pub main-command : (bs : List ℕ) (p : Program) → program bs ≡ some p → command 16 (nthTag (length (p .rules)) bs) (nthPart (length (p .rules)) bs) ≡ some (p .main)
-main-command bs p e =
-    let r = image-series bs p e in
-    let n = length (p .rules) in
-    let m = mainOf (r .0) (p .main) in
-    let k : n < length (imageParts (r .0) p) = rw (length-append (map ruleOf (p .rules)) (m ∷ []), length-map (p .rules) ruleOf) (omega arith) in
-    let t = nth-item bs imagePart (imageParts (r .0) p) n m (r .2) k in
-    part-is (nthTag n bs) (nthPart n bs) m (t ∙ ap some (getD-at (map ruleOf (p .rules)) m [] m n (length-map (p .rules) ruleOf))) .1
 
 -- A rule.
 
@@ -469,9 +386,6 @@ interface-is bs part k h q x e =
 
 pub preserving-is : (bs part : List ℕ) (b : Bool) → part ≡ nthPart 5 bs → b ≡ eqb (getD part 0 0) 1 → For (rule bs) (λ x. b ≡ x .preserving)
 preserving-is bs part b h q x e = q ∙ ap (λ (l : List ℕ). eqb (getD l 0 0) 1) h ∙ sym (rule-parted bs x e .preserving)
-
-pub main-is : (bs part : List ℕ) (tag : ℕ) (p : Program) → program bs ≡ some p → tag ≡ nthTag (length (p .rules)) bs → part ≡ nthPart (length (p .rules)) bs → command 16 tag part ≡ some (p .main)
-main-is bs part tag p e h k = rw (h, k) (main-command bs p e)
 
 -- The label of an item.
 

@@ -3,13 +3,15 @@
 ghost use mathlib.Core.Path.{_≡_};
 ghost use mathlib.Core.Option.{some, none};
 ghost use mathlib.Core.List.{List, []};
-ghost use Prim.Native.Nat.{ℕ, _<_, _≤_};
+ghost use Prim.Native.Nat.{ℕ, _+_, _<_, _≤_};
 ghost use lib.Dec.{eqb};
 ghost use lib.ListN.{length, getD, drop};
 ghost use Rattle.meaning.specs.Numbers.{number};
-ghost use Rattle.meaning.specs.Image.{Rule, only, passesAll, constant, label, ruleNode, ruleEdge, RuleNode, RuleEdge, ruleGraph, test, rule, program};
+ghost use Rattle.meaning.specs.Image.{Rule, only, passesAll, constant, label, ruleNode, ruleEdge, RuleNode, RuleEdge, ruleGraph, test, Raw, rule, rawProgram};
+ghost use Rattle.fields.specs.Fields.{nthField};
 ghost use Rattle.parts.specs.Series.{For, Series, nthPart, nthTag};
 ghost use Rattle.parts.specs.Rows.{tagItem, front, markAt, graphItem, itemLabel};
+ghost use Rattle.parts.specs.Images.{procedure};
 use fields::Found;
 use meaning::Element;
 use meaning::tags::Tag;
@@ -22,6 +24,12 @@ pub enum Front {
     // An element, and the place behind it.
     First(Element, usize),
     Nothing,
+}
+
+// Fields of one tag at the front: how many they are, and the place behind them.
+pub struct Run {
+    pub count: usize,
+    pub place: usize,
 }
 
 // How many elements a label has, and how many of them are list variables.
@@ -88,7 +96,7 @@ pub fn degree_of(p: &[u8]) -> usize
 pub fn nth_part(p: &[u8], n: usize) -> &[u8]
     ensures { λ r. ⌜ now r ≡ nthPart n (now (p .entry)) ⌝ }
 {
-    let found = fields::nth_field(p, n);
+    let found = fields::nth_field(p, 0, n);
     let Found::Field(_, start, end) = found else {
         return &p[..0];
     };
@@ -99,11 +107,42 @@ pub fn nth_part(p: &[u8], n: usize) -> &[u8]
 pub fn nth_tag(p: &[u8], n: usize) -> u8
     ensures { λ r. ⌜ r ≡ nthTag n (now (p .entry)) ⌝ }
 {
-    let found = fields::nth_field(p, n);
+    let found = fields::nth_field(p, 0, n);
     let Found::Field(tag, _, _) = found else {
         return 0;
     };
     tag
+}
+
+// The fields at the front that have a tag.
+fn front_run(p: &[u8], tag: u8) -> Run
+    ensures { λ r. ⌜ ((l : List ℕ) → Series tagItem l [] (now (p .entry)) → r .count ≡ front tag l) ⌝ }
+    ensures { λ r. ⌜ (r .count ≤ length (now (p .entry))) × ((n : ℕ) → nthField n (now (p .entry)) (r .place) ≡ nthField (r .count + n) (now (p .entry)) 0) ⌝ }
+{
+    let mut at: usize = 0;
+    let mut n: usize = 0;
+    while at < p.len() {
+        let found = fields::read_field(p, at);
+        let Found::Field(t, _, end) = found else {
+            return Run {
+                count: n,
+                place: at,
+            };
+        };
+        if t == tag {
+            at = end;
+            n += 1;
+        } else {
+            return Run {
+                count: n,
+                place: at,
+            };
+        }
+    }
+    Run {
+        count: n,
+        place: at,
+    }
 }
 
 // How many fields at the front have a tag.
@@ -111,21 +150,20 @@ pub fn count_front(p: &[u8], tag: u8) -> usize
     ensures { λ r. ⌜ ((l : List ℕ) → Series tagItem l [] (now (p .entry)) → r ≡ front tag l) ⌝ }
     ensures { λ r. ⌜ r ≤ length (now (p .entry)) ⌝ }
 {
-    let mut at: usize = 0;
-    let mut n: usize = 0;
-    while at < p.len() {
-        let found = fields::read_field(p, at);
-        let Found::Field(t, _, end) = found else {
-            return n;
-        };
-        if t == tag {
-            at = end;
-            n += 1;
-        } else {
-            return n;
-        }
-    }
-    n
+    let run = front_run(p, tag);
+    run.count
+}
+
+// The payload of the field of number n behind those at the front that have a tag.
+fn nth_behind(p: &[u8], tag: u8, n: usize) -> &[u8]
+    ensures { λ r. ⌜ ((l : List ℕ) → Series tagItem l [] (now (p .entry)) → now r ≡ nthPart (front tag l + n) (now (p .entry))) ⌝ }
+{
+    let run = front_run(p, tag);
+    let found = fields::nth_field(p, run.place, n);
+    let Found::Field(_, start, end) = found else {
+        return &p[..0];
+    };
+    &p[start..end]
 }
 
 // How many fields there are.
@@ -244,30 +282,59 @@ pub fn test_count(p: &[u8]) -> usize
     count_fields(p)
 }
 
-// The image: its rules, then the main command.
+// The image: its rules, then its procedures, then the main command.
 
 pub fn rule_count(image: &[u8]) -> usize
-    ensures { λ r. ⌜ For (program (now (image .entry))) (λ p. r ≡ length (p .rules)) ⌝ }
+    ensures { λ r. ⌜ For (rawProgram (now (image .entry))) (λ p. r ≡ length (p .rules)) ⌝ }
 {
     count_front(image, Tag::RULE)
 }
 
 pub fn rule_part(image: &[u8], i: usize) -> &[u8]
-    ensures { λ r. ⌜ For (program (now (image .entry))) (λ p. i < length (p .rules) → (d : Rule) → rule (now r) ≡ some (getD (p .rules) i d)) ⌝ }
+    ensures { λ r. ⌜ For (rawProgram (now (image .entry))) (λ p. i < length (p .rules) → (d : Rule) → rule (now r) ≡ some (getD (p .rules) i d)) ⌝ }
 {
     nth_part(image, i)
 }
 
-pub fn main_tag(image: &[u8]) -> u8
-    ensures { λ r. ⌜ For (program (now (image .entry))) (λ p. r ≡ nthTag (length (p .rules)) (now (image .entry))) ⌝ }
+pub fn procedure_count(image: &[u8]) -> usize
+    ensures { λ r. ⌜ For (rawProgram (now (image .entry))) (λ p. r ≡ length (p .procedures)) ⌝ }
 {
-    nth_tag(image, rule_count(image))
+    let rules = rule_count(image);
+    let all = count_fields(image);
+    if rules < all {
+        return all - rules - 1;
+    }
+    0
+}
+
+// The command that a procedure is, as a field.
+pub fn procedure_part(image: &[u8], i: usize) -> &[u8]
+    ensures { λ r. ⌜ For (rawProgram (now (image .entry))) (λ p. i < length (p .procedures) → (d : Raw) → procedure (now r) ≡ some (getD (p .procedures) i d)) ⌝ }
+{
+    nth_behind(image, Tag::RULE, i)
+}
+
+// The number of the main command among the fields of the image: it is the last.
+fn main_number(image: &[u8]) -> usize
+    ensures { λ r. ⌜ For (rawProgram (now (image .entry))) (λ p. r ≡ length (p .rules) + length (p .procedures)) ⌝ }
+{
+    let all = count_fields(image);
+    if all > 0 {
+        return all - 1;
+    }
+    0
+}
+
+pub fn main_tag(image: &[u8]) -> u8
+    ensures { λ r. ⌜ For (rawProgram (now (image .entry))) (λ p. r ≡ nthTag (length (p .rules) + length (p .procedures)) (now (image .entry))) ⌝ }
+{
+    nth_tag(image, main_number(image))
 }
 
 pub fn main_part(image: &[u8]) -> &[u8]
-    ensures { λ r. ⌜ For (program (now (image .entry))) (λ p. now r ≡ nthPart (length (p .rules)) (now (image .entry))) ⌝ }
+    ensures { λ r. ⌜ For (rawProgram (now (image .entry))) (λ p. now r ≡ nthPart (length (p .rules) + length (p .procedures)) (now (image .entry))) ⌝ }
 {
-    nth_part(image, rule_count(image))
+    nth_part(image, main_number(image))
 }
 
 // The label of a node or an edge, from its tag and payload.

@@ -15,7 +15,8 @@ use mathlib.Core.List.{List, map}
 use native.Mathlib.Omega.{arith}
 use lib.ListN.{length, getD, length-map}
 use Rattle.meaning.specs.Layout.{Slot, free, live, Node, Edge, Host, isLive, liveAt, isNodeMark, isEdgeMark}
-use Rattle.meaning.specs.Image.{Rule, ruleSet}
+use Rattle.meaning.specs.Image.{Rule}
+use Rattle.meaning.specs.Procedures.{ruleSet}
 use Rattle.meaning.specs.Matching.{nodeIn, edgeIn, Match}
 use Rattle.meaning.specs.Applying.{Ledger, applied, apply}
 use Rattle.meaning.specs.Commands.{State, Chosen, ruleAt, firstRule}

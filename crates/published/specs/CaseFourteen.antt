@@ -12,7 +12,8 @@ use lib.IntN.{ℤ, pos, _+ℤ_}
 use Rattle.meaning.specs.Basics.{choose}
 use Rattle.meaning.specs.Layout.{base, recordLength}
 use Rattle.meaning.specs.Tags.{constantTag, intType, noneMark, sumTag}
-use Rattle.meaning.specs.Image.{Rule, Program, program, ruleSet}
+use Rattle.meaning.specs.Image.{Rule}
+use Rattle.meaning.specs.Procedures.{Program, program, ruleSet}
 use Rattle.meaning.specs.References.{ruleHolds}
 use Rattle.meaning.specs.Commands.{ruleAt}
 use Rattle.meaning.specs.Calls.{Lent}

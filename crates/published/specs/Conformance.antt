@@ -8,7 +8,7 @@ use mathlib.Core.List.{List}
 use Prim.Native.Nat.{ℕ}
 use native.Mathlib.Omega.{arith}
 use Rattle.meaning.specs.Layout.{base}
-use Rattle.meaning.specs.Image.{Program, program}
+use Rattle.meaning.specs.Procedures.{Program, program}
 use Rattle.meaning.specs.Calls.{Lent}
 use Rattle.demands.specs.Demands.{Lendable, Interpreter, Demand1, Demand2}
 use Rattle.demands.specs.Exported.{Exported, exported-met}

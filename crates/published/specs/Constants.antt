@@ -6,12 +6,12 @@ use mathlib.Core.Path.{_≡_}
 use mathlib.Core.Bool.{true}
 use mathlib.Core.Option.{some}
 use mathlib.Core.List.{List}
-use Rattle.meaning.specs.Image.{Rule, Program, program}
+use Rattle.meaning.specs.Image.{Rule, RawProgram, rawProgram}
 use Rattle.meaning.specs.References.{conditionOperands, references}
 use Rattle.meaning.specs.Laws.Every.{Every, Every-then}
 use Rattle.laws.specs.Numbers.{Bytes, value}
 use Rattle.laws.specs.Values.{LegalOperand, LegalElement, LegalRule}
-use Rattle.laws.specs.LegalImage.{program-legal}
+use Rattle.laws.specs.LegalImage.{raw-legal}
 use Rattle.meaning.specs.declared.Operand.{Operand}
 use Rattle.meaning.specs.declared.Operand.the-variants.{Constant as constantOperand, Variable as variableOperand}
 use Rattle.meaning.specs.declared.Element.{Element}
@@ -54,5 +54,5 @@ constants-signed r rule =
       tests = Every-then _ _ (λ t k. Every-then _ _ operand-signed (conditionOperands (t .condition)) k) (r .tests) (rule .tests);
     }
 
-pub image-signed : (bs : List ℕ) (p : Program) → Bytes bs → program bs ≡ some p → references p ≡ true → Every SignedConstants (p .rules)
-image-signed bs p h e k = Every-then LegalRule SignedConstants constants-signed (p .rules) (program-legal bs p h e k)
+pub image-signed : (bs : List ℕ) (p : RawProgram) → Bytes bs → rawProgram bs ≡ some p → references p ≡ true → Every SignedConstants (p .rules)
+image-signed bs p h e k = Every-then LegalRule SignedConstants constants-signed (p .rules) (raw-legal bs p h e k)

@@ -7,8 +7,9 @@ use mathlib.Core.Bool.{Bool, true, false}
 use mathlib.Core.List.{List, map}
 use Prim.Native.Nat.{ℕ}
 use Rattle.meaning.specs.Layout.{Host}
-use Rattle.meaning.specs.Image
-use Rattle.meaning.specs.Image.{Rule, Command, ruleSet, guarded, Commands}
+use Rattle.meaning.specs.Image.{Rule}
+use Rattle.meaning.specs.Procedures
+use Rattle.meaning.specs.Procedures.{Command, ruleSet, guarded, Commands}
 use Rattle.meaning.specs.Applying.{Ledger, applied, apply}
 use Rattle.meaning.specs.Commands.{State, ruleAt}
 use Rattle.demands.specs.Inference
@@ -42,8 +43,8 @@ module _ {ℓ κ} (Graph : Type ℓ) (Applied : List Rule → Graph → Graph �
   ends-followed : (rules : List Rule) (cs : Commands) (P : ComSeq) (e : End) (s t : State) → (e ≡ Done → ⊥) → Ending P s e t
       → Ending (followed rules cs P) s e t
   unfolding followed
-  ends-followed rules Image.noMore P e s t n p = p
-  ends-followed rules (Image.then c cs) P e s t n p = ends-behind Graph Applied e P (followed rules cs (comSeq rules c)) _ _ n p
+  ends-followed rules Procedures.noMore P e s t n p = p
+  ends-followed rules (Procedures.then c cs) P e s t n p = ends-behind Graph Applied e P (followed rules cs (comSeq rules c)) _ _ n p
 
   module _ (most room : ℕ) (rules : List Rule) (Good : Ledger → Type 0)
       (hit : (l : List ℕ) (r : Rule) (p : List ℕ) (g g′ : Ledger) → Good g → FirstCalled rules (g .host) l r p
@@ -79,6 +80,7 @@ module _ {ℓ κ} (Graph : Type ℓ) (Applied : List Rule → Graph → Graph �
         does-ending (Inference.applies {l = l} {s = s} {t = t} r p g f a v) q = call-applies l s t r p g f a v q
         does-ending (Inference.hinders r p w f a) q = (q, tt)
         does-ending (Inference.inSequence f) q = let x = follows-ending f q in (x .0, x .1)
+        does-ending (Inference.calls r) q = executes-ending r q
         does-ending (Inference.thenIf {e = e} t g a) q =
             let x = executes-ending g q in
             let y = executes-ending a q in

@@ -10,7 +10,8 @@ use mathlib.Core.Option.{Option, some, none}
 use mathlib.Core.List.{List, map}
 use native.Mathlib.Omega.{arith}
 use lib.ListN.{length, getD, length-map}
-use Rattle.meaning.specs.Image.{Rule, ruleSet, Program, program}
+use Rattle.meaning.specs.Image.{Rule}
+use Rattle.meaning.specs.Procedures.{ruleSet, Program, program}
 use Rattle.meaning.specs.References.{ruleHolds}
 use Rattle.meaning.specs.Matching.{Match}
 use Rattle.meaning.specs.Commands.{Chosen, ruleAt, firstRule}
@@ -18,7 +19,7 @@ use Rattle.meaning.specs.Calls.{Lent}
 use Rattle.meaning.specs.Laws.Tests.{some-inj}
 use Rattle.laws.specs.Hosts.{LegalHost, legal-host}
 use Rattle.laws.specs.LegalCommands.{LegalRules, legal-rule, legal-sound}
-use Rattle.laws.specs.LegalImage.{program-legal}
+use Rattle.laws.specs.Calls.{accepted-legal}
 use Rattle.demands.specs.Demands.{Interpreter, Lendable, runRefusedWith, Demand2}
 use Rattle.demands.specs.Ours.{good}
 use Rattle.demands.specs.Fails.{host, fails-exactly}
@@ -67,7 +68,7 @@ module _ (L : Layout) (I : Interpreter) (second : Demand2 L I) (x : Lent) (b : L
     legal =
         let a = good L x accepted in
         let q : p ≡ a .tree = some-inj p (a .tree) (sym form ∙ a .form) in
-        program-legal (x .image) p (b .image .bytewise) form (rw q (a .references))
+        rw q (accepted-legal L x (b .image .bytewise) a)
 
     lent-legal : LegalHost L (host L x)
     lent-legal = legal-host L (x .nodes) (x .edges) (b .nodes .bytewise) (b .edges .bytewise) (good L x accepted .layout)

@@ -9,8 +9,9 @@ use mathlib.Core.List.{List, [], _∷_, map}
 use Prim.Native.Nat.{ℕ, _≤_}
 use native.Mathlib.Omega.{arith}
 use Rattle.meaning.specs.Layout.{base}
-use Rattle.meaning.specs.Image
-use Rattle.meaning.specs.Image.{Rule, Command, Commands, Program, program}
+use Rattle.meaning.specs.Image.{Rule}
+use Rattle.meaning.specs.Procedures
+use Rattle.meaning.specs.Procedures.{Command, Commands, Program, program}
 use Rattle.meaning.specs.Commands.{ruleAt}
 use Rattle.meaning.specs.Calls.{Lent}
 use Rattle.demands.specs.Demands.{Lendable, Interpreter, Outcome as Answered}
@@ -19,7 +20,7 @@ use Rattle.demands.specs.First.{run-settled}
 use Rattle.demands.specs.Exported.{Exported, exported-run}
 use Rattle.meaning.specs.Laws.Tests.{some-inj}
 use Rattle.laws.specs.LegalCommands.{LegalRules, legal-rule}
-use Rattle.laws.specs.LegalImage.{program-legal}
+use Rattle.laws.specs.Calls.{accepted-legal}
 use Rattle.published.specs.Graphs.{Graph, HostGraph}
 use Rattle.published.specs.RuleApplication.{Applied}
 use Rattle.published.specs.Semantics.{ComSeq, Outcome, graph, fails, ⟦_⟧, comSeq, inOrder, followed}
@@ -39,22 +40,23 @@ module _ (rules : List Rule) (legal : LegalRules rules) where
     unfolding comSeq inOrder followed
 
     legal-calls : (c : Command) → Calls LegalRules (comSeq rules c)
-    legal-calls (Image.ruleSet l) = legal-set l
-    legal-calls (Image.sequence cs) = legal-order cs
-    legal-calls (Image.guarded false g a b) = (legal-calls g, legal-calls a, legal-calls b)
-    legal-calls (Image.guarded true g a b) = (legal-calls g, legal-calls a, legal-calls b)
-    legal-calls (Image.loop c) = legal-calls c
-    legal-calls Image.skip = tt
-    legal-calls Image.fail = tt
-    legal-calls Image.break = tt
+    legal-calls (Procedures.ruleSet l) = legal-set l
+    legal-calls (Procedures.sequence cs) = legal-order cs
+    legal-calls (Procedures.guarded false g a b) = (legal-calls g, legal-calls a, legal-calls b)
+    legal-calls (Procedures.guarded true g a b) = (legal-calls g, legal-calls a, legal-calls b)
+    legal-calls (Procedures.loop c) = legal-calls c
+    legal-calls Procedures.skip = tt
+    legal-calls Procedures.fail = tt
+    legal-calls Procedures.break = tt
+    legal-calls (Procedures.called c) = legal-calls c
 
     legal-order : (cs : Commands) → Calls LegalRules (inOrder rules cs)
-    legal-order Image.noMore = tt
-    legal-order (Image.then c cs) = legal-followed cs (comSeq rules c) (legal-calls c)
+    legal-order Procedures.noMore = tt
+    legal-order (Procedures.then c cs) = legal-followed cs (comSeq rules c) (legal-calls c)
 
     legal-followed : (cs : Commands) (P : ComSeq) → Calls LegalRules P → Calls LegalRules (followed rules cs P)
-    legal-followed Image.noMore P u = u
-    legal-followed (Image.then c cs) P u = (u, legal-followed cs (comSeq rules c) (legal-calls c))
+    legal-followed Procedures.noMore P u = u
+    legal-followed (Procedures.then c cs) P u = (u, legal-followed cs (comSeq rules c) (legal-calls c))
 
   -- on isomorphic graphs a command comes to isomorphic outcomes
   pub names-free : (c : Command) (G G′ : Graph) → Alike G G′ → (X : Outcome Graph) → ⟦_⟧ Graph Applied (comSeq rules c) G X
@@ -81,7 +83,7 @@ module _ (I : Interpreter) (exported : Exported I) (x : Lent) (b : Lendable x) (
       let q = ap (λ (o : Answered). o .answer) (exported-run I exported x b) in
       let a = good base x (run-settled base x (omega arith)) in
       let e : a .tree ≡ p = some-inj (a .tree) p (sym (a .form) ∙ form) in
-      legal-calls (p .rules) (program-legal (x .image) p (b .image .bytewise) form (rw e at (a .references))) (p .main)
+      legal-calls (p .rules) (rw e at (accepted-legal base x (b .image .bytewise) a)) (p .main)
 
   comes : (X : Outcome Graph) → CanComeTo (x .nodes) (x .edges) (x .image) X → Comes X
   comes X c = let e : c .tree ≡ p = some-inj (c .tree) p (sym (c .form) ∙ form) in rw e at (c .outcome)

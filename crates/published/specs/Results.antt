@@ -9,22 +9,22 @@ use Prim.Native.Nat.{ℕ, _/_, _^_, _≤_}
 use native.Mathlib.Omega.{arith}
 use lib.ListN.{length, getD}
 use Rattle.meaning.specs.Layout.{Host, nodeLength, edgeLength, recordLength, readNodes, readEdges}
-use Rattle.meaning.specs.Image.{Rule, Command, Program, program}
-use Rattle.meaning.specs.Placement.{breaksLie, placement}
+use Rattle.meaning.specs.Image.{Rule}
+use Rattle.meaning.specs.Procedures.{Command, Program, program}
 use Rattle.meaning.specs.Applying.{Ledger, applied, apply}
 use Rattle.meaning.specs.Commands.{State, Out, ruleAt, exec}
 use Rattle.demands.specs.Inference.{NoMatch, FirstCalled, Executes}
 use Rattle.meaning.specs.Calls.{Lent}
-use Rattle.demands.specs.Demands.{Outcome, Interpreter, Lendable, runRefusedWith, start, Means, outcomeAt, Demand1, Demand2}
+use Rattle.demands.specs.Demands.{Interpreter, Lendable, runRefusedWith, start, Means, outcomeAt, Demand1, Demand2}
 use Rattle.demands.specs.Ours.{Good, good}
 use Rattle.demands.specs.First.{stop-answer, refusal-answer}
 use Rattle.laws.specs.Pieces.{fits-length}
 use Rattle.laws.specs.Hosts.{LegalHost, read-write-nodes, read-write-edges}
-use Rattle.laws.specs.Commands.{exec-unbroken}
+use Rattle.laws.specs.Breaks.{breaksStay, exec-unbroken}
 use Rattle.laws.specs.Values.{LegalRule}
 use Rattle.laws.specs.Legality.{LegalLedger, apply-legal}
 use Rattle.laws.specs.LegalCommands.{LegalRules, legal-rule, legal-sound}
-use Rattle.laws.specs.LegalImage.{program-legal}
+use Rattle.laws.specs.Calls.{accepted-legal, accepted-stays}
 use Rattle.demands.specs.Laws.Inference.{exec-executes, executes-exec}
 use Rattle.laws.specs.Undoing.{Numbered, start-legal}
 use Rattle.meaning.specs.declared.Layout.{Layout}
@@ -77,11 +77,11 @@ module _ {ℓ κ} (L : Layout) (Graph : Type ℓ) (Applied : List Rule → Graph
         executes-published r q = executes-ending Graph Applied read (L .atoms) room rules (LegalLedger L m n) hits misses r q
 
         -- and so what it is computed to do
-        pub exec-published : (c : Command) (s : State) → breaksLie c false ≡ true → LegalLedger L m n (s .ledger)
+        pub exec-published : (c : Command) (s : State) → breaksStay c false ≡ true → LegalLedger L m n (s .ledger)
             → Ending Graph Applied read (comSeq rules c) s (exec (L .atoms) room rules c s .end) (exec (L .atoms) room rules c s .state)
         exec-published c s b q = executes-published (exec-executes (L .atoms) room rules (legal-sound rules legal) c s b) q .1
 
-        unbroken : (c : Command) (s t : State) → breaksLie c false ≡ true → Executes (L .atoms) room rules c s Broke t → ⊥
+        unbroken : (c : Command) (s t : State) → breaksStay c false ≡ true → Executes (L .atoms) room rules c s Broke t → ⊥
         unbroken c s t b r =
             exec-unbroken (L .atoms) room rules c s b (ap (λ (o : Out). o .end) (executes-exec (L .atoms) room rules (legal-sound rules legal) r))
 
@@ -118,7 +118,7 @@ module _ {ℓ κ} (L : Layout) (Graph : Type ℓ) (Applied : List Rule → Graph
         fewEdges = omega (arith, numbered .edges, fits-length (edgeLength L) (L .edges) (x .edges) (a .edgesFit) .1)
 
         legal : LegalRules (a .tree .rules)
-        legal = program-legal (x .image) (a .tree) (b .image .bytewise) (a .form) (a .references)
+        legal = accepted-legal L x (b .image .bytewise) a
 
         start-good : LegalLedger L nodeSlots edgeSlots (start L x .ledger)
         start-good =
@@ -153,11 +153,10 @@ module _ {ℓ κ} (L : Layout) (Graph : Type ℓ) (Applied : List Rule → Graph
         legal-at (Stopped w) t r v z = absurd (omega (arith, stop-answer w .1, rw v at z))
 
         fail-at : (e : End) (t : State) → Means L x (a .tree) e t → I .run x ≡ outcomeAt L x e t → I .run x .answer ≡ 1 → Comes fails
-        unfolding placement
         fail-at Done t r v z = let w : _≡_ {A = ℕ} 0 1 = rw v at z in absurd (omega arith)
         fail-at Failed t r v z = record { tree = a .tree; form = a .form; outcome = whole Failed t r .1 }
         fail-at Broke t r v z =
-            absurd (unbroken nodeSlots edgeSlots fewNodes fewEdges room (a .tree .rules) legal (a .tree .main) (start L x) t (a .placement) r)
+            absurd (unbroken nodeSlots edgeSlots fewNodes fewEdges room (a .tree .rules) legal (a .tree .main) (start L x) t (accepted-stays L x a) r)
         fail-at (Stopped w) t r v z = absurd (omega (arith, stop-answer w .1, rw v at z))
 
       -- where it answers 0, the graph that it leaves is a possible result of the program on the graph that came in

@@ -9,7 +9,7 @@ use borrow.Author.Tests.{ltb-true, lt-ltb, le-ltb, le-leb, lt-leb, eq-eqb, ne-eq
 use lib.ListN.{length, getD}
 use lib.Dec.{eqb, leb, ltb}
 use Rattle.meaning.specs.Basics.{choose, both, either, clauses, all, every, absent, concat}
-use Rattle.meaning.specs.Image.{RuleGraph, Rule, Program, rule}
+use Rattle.meaning.specs.Image.{RuleGraph, Rule, Raw, RawProgram, rule}
 use Rattle.meaning.specs.Tags.{anyMark, ruleTag}
 use Rattle.meaning.specs.References.{operandNames, elementOperands, elementNames, conditionOperands, isPlain, labels, elements, names, testOperands, testNames, takesList, lists, operandInt, variablesExist, endsExist, testNodesExist, interfaceFits, leftPlain, leftSimple, operandsInt, variablesOnLeft, anyKept, anyPlaced, ruleHolds}
 use Rattle.meaning.specs.Laws.Tests.{both-of, both-true, both-yes, both-no, both-last, either-left, either-right, every-append, every-map, every-true, absent-true, absent-false, all-of, all-no}
@@ -20,7 +20,8 @@ use Rattle.meaning.specs.declared.Element.the-variants.{Constant, Variable, Sum
 use Rattle.references.specs.declared.Ask.{Ask}
 use Rattle.references.specs.declared.Ask.the-variants.{Left, Right, Lacks}
 use Rattle.parts.specs.Series.{For}
-use Rattle.parts.specs.Rows.{Item, node, edge, items, markAt, ruleOf, mainOf, imagePart, imageParts, part-is, no-command, itemLabel}
+use Rattle.parts.specs.Rows.{Item, node, edge, items, markAt, itemLabel}
+use Rattle.parts.specs.Images.{ruleOf, procedureOf, mainOf, commandParts, imagePart, imageParts, part-is, no-command}
 use Rattle.references.specs.Asked.{intOperand, exist, operandAsked, elementAsked, listsIn, endsBelow, edgeMarked, itemFits, itemAsked, graphAsked, conditionFits, conditionAsked, testAsked, rightAsked, sidesAsked, keptOnLeft, partHolds}
 use Rattle.references.proofs.Asks.{absent-append, both-swap}
 
@@ -435,18 +436,26 @@ pub all-next : (f : ℕ → Bool) (n : ℕ) → all f n ≡ true → f n ≡ tru
 unfolding all
 all-next f n h k = rw (add-one n) (both-yes _ _ k ∙ h)
 
+-- of procedures and the main command nothing is asked
+commands-hold : (ks : List Raw) (t : ℕ) (c : Raw) → every partHolds (map procedureOf ks ++ mainOf t c ∷ []) ≡ true
+unfolding partHolds every both
+commands-hold [] t c = refl
+commands-hold (k ∷ ks) t c = commands-hold ks t c
+
 -- the rules of an image
-pub parts-hold : (t : ℕ) (p : Program) → every ruleHolds (p .rules) ≡ every partHolds (imageParts t p)
+pub parts-hold : (t : ℕ) (p : RawProgram) → every ruleHolds (p .rules) ≡ every partHolds (imageParts t p)
 unfolding partHolds every both
 parts-hold t p =
-    sym (every-append partHolds (map ruleOf (p .rules)) (mainOf t (p .main) ∷ []) ∙ sym (both-last _) ∙ every-map partHolds ruleOf (p .rules))
+    sym (every-append partHolds (map ruleOf (p .rules)) (commandParts t p) ∙ rw (commands-hold (p .procedures) t (p .main)) (sym (both-last _)) ∙ every-map partHolds ruleOf (p .rules))
 
 pub part-rule : (tag : ℕ) (bs : List ℕ) (r : Bool) → tag ≡ ruleTag → For (rule bs) (λ x. r ≡ ruleHolds x) → For (imagePart tag bs) (λ i. r ≡ partHolds i)
 unfolding partHolds
 part-rule tag bs r h q (ruleOf x) e = q x (part-is tag bs (ruleOf x) e .1)
-part-rule tag bs r h q (mainOf t c) e = absurd (no-command tag bs c (part-is tag bs (mainOf t c) e .1) h)
+part-rule tag bs r h q (procedureOf c) e = absurd (omega (arith, part-is tag bs (procedureOf c) e .0))
+part-rule tag bs r h q (mainOf t c) e = absurd (omega (arith, no-command tag bs c (part-is tag bs (mainOf t c) e .1)))
 
 pub part-main : (tag : ℕ) (bs : List ℕ) → (tag ≡ ruleTag → ⊥) → For (imagePart tag bs) (λ i. true ≡ partHolds i)
 unfolding partHolds
 part-main tag bs h (ruleOf x) e = absurd (h (part-is tag bs (ruleOf x) e .0))
+part-main tag bs h (procedureOf c) e = refl
 part-main tag bs h (mainOf t c) e = refl

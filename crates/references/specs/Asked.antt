@@ -1,4 +1,4 @@
--- What the walks ask of each element, item, test and rule. Rests on the meaning's References and on parts' Rows.
+-- What the walks ask of each element, item, test and rule. Rests on the meaning's References and on parts' Rows and Images.
 use mathlib.Core.Bool.{Bool, true, false, not}
 use mathlib.Core.List.{List, []}
 use Prim.Native.Nat.{ℕ}
@@ -15,7 +15,8 @@ use Rattle.meaning.specs.declared.Condition.{Condition}
 use Rattle.meaning.specs.declared.Test.{Test}
 use Rattle.references.specs.declared.Ask.{Ask}
 use Rattle.references.specs.declared.Ask.the-variants.{Left, Right, Lacks}
-use Rattle.parts.specs.Rows.{itemLabel, Item, node, edge, items, Part, ruleOf, mainOf}
+use Rattle.parts.specs.Rows.{itemLabel, Item, node, edge, items}
+use Rattle.parts.specs.Images.{Part, ruleOf, procedureOf, mainOf}
 
 -- Elements and operands; `ts` are the types of the variables.
 
@@ -99,4 +100,5 @@ keptOnLeft x v = either (not (graphAsked (Lacks v) (x .variables) (x .left))) (r
 
 unfoldable pub partHolds : Part → Bool
 partHolds (ruleOf x) = ruleHolds x
+partHolds (procedureOf c) = true
 partHolds (mainOf t c) = true

@@ -2,10 +2,10 @@
 // lie, and once more for each variable.
 ghost use mathlib.Core.Path.{_≡_};
 ghost use Rattle.meaning.specs.Basics.{every};
-ghost use Rattle.meaning.specs.Image.{program};
+ghost use Rattle.meaning.specs.Image.{rawProgram};
 ghost use Rattle.meaning.specs.References.{ruleHolds};
 ghost use Rattle.parts.specs.Series.{For};
-ghost use Rattle.parts.specs.Rows.{imagePart};
+ghost use Rattle.parts.specs.Images.{imagePart};
 ghost use Rattle.references.specs.Asked.{partHolds};
 use fields::Found;
 use meaning::tags::Tag;
@@ -37,7 +37,7 @@ fn part_holds(tag: u8, p: &[u8]) -> bool
 }
 
 pub fn rules_hold(image: &[u8]) -> bool
-    ensures { λ r. ⌜ For (program (now (image .entry))) (λ x. r ≡ every ruleHolds (x .rules)) ⌝ }
+    ensures { λ r. ⌜ For (rawProgram (now (image .entry))) (λ x. r ≡ every ruleHolds (x .rules)) ⌝ }
 {
     let mut at: usize = 0;
     while at < image.len() {

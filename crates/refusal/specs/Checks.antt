@@ -6,18 +6,22 @@ use lib.ListN.{length}
 use lib.Dec.{leb}
 use Rattle.meaning.specs.Basics.{isSome}
 use Rattle.meaning.specs.Layout.{keepsLayout}
-use Rattle.meaning.specs.Image.{limits, program}
-use Rattle.meaning.specs.Calls.{lengthChecks, referencesHold, placementHolds, mostFuel}
+use Rattle.meaning.specs.Image.{limits, rawProgram}
+use Rattle.meaning.specs.References.{references}
+use Rattle.meaning.specs.Placement.{placement}
+use Rattle.meaning.specs.Procedures.{depthHolds}
+use Rattle.meaning.specs.Calls.{lengthChecks, holds, mostFuel}
 use Rattle.meaning.specs.declared.Layout.{Layout}
 use Rattle.meaning.specs.declared.Refusal.{Refusal}
-use Rattle.meaning.specs.declared.Refusal.the-variants.{TooMuchFuel, ImageTooLong, BadHost, BadForm, BadReferences, BadPlacement}
+use Rattle.meaning.specs.declared.Refusal.the-variants.{TooMuchFuel, ImageTooLong, BadHost, BadForm, BadReferences, BadPlacement, BadDepth}
 
--- form, references, placement: 16, 17, 18
+-- form, references, placement, depth: 16 to 19
 abbrev pub imageChecks : List ℕ → List (Bool × Refusal)
 imageChecks image =
-    (isSome (program image), BadForm)
-    ∷ (referencesHold (program image), BadReferences)
-    ∷ (placementHolds (program image), BadPlacement)
+    (isSome (rawProgram image), BadForm)
+    ∷ (holds references (rawProgram image), BadReferences)
+    ∷ (holds placement (rawProgram image), BadPlacement)
+    ∷ (holds depthHolds (rawProgram image), BadDepth)
     ∷ []
 
 module _ (L : Layout) where
@@ -29,6 +33,6 @@ module _ (L : Layout) where
       ∷ (leb (length image) (limits .bytes), ImageTooLong)
       ∷ []
 
-  -- the host and the image: 15 to 18
+  -- the host and the image: 15 to 19
   abbrev pub contentChecks : List ℕ → List ℕ → List ℕ → List (Bool × Refusal)
   contentChecks nodes edges image = (keepsLayout L nodes edges, BadHost) ∷ imageChecks image

@@ -1,8 +1,8 @@
-// What a run refuses before it starts: the lowest applicable number from 9 to 18, over the whole input, changing nothing.
+// What a run refuses before it starts: the lowest applicable number from 9 to 19, over the whole input, changing nothing.
 ghost use mathlib.Core.Path.{_≡_};
 ghost use Rattle.meaning.specs.Basics.{firstFailing};
 ghost use Rattle.meaning.specs.Layout.{Sized, base};
-ghost use Rattle.meaning.specs.Image.{program};
+ghost use Rattle.meaning.specs.Image.{rawProgram};
 ghost use Rattle.meaning.specs.References.{references};
 ghost use Rattle.meaning.specs.Calls.{runRefusal, lending};
 ghost use Rattle.parts.specs.Series.{For};
@@ -13,24 +13,27 @@ use meaning::Layout;
 use meaning::Refusal;
 use meaning::tags::Limit;
 
-// References, of an image that has the form: its rules hold, and the rules that its commands name exist.
+// References, of an image that has the form: its rules hold, and the rules and procedures that its commands name exist.
 fn references_ok(image: &[u8]) -> bool
-    ensures { λ r. ⌜ For (program (now (image .entry))) (λ p. r ≡ references p) ⌝ }
+    ensures { λ r. ⌜ For (rawProgram (now (image .entry))) (λ p. r ≡ references p) ⌝ }
 {
     if references::rules_hold(image) {
-        return command_checks::rules_exist(image);
+        return command_checks::names_exist(image);
     }
     false
 }
 
-// Form, references and placement of an image: 16, 17, 18.
+// Form, references, placement and depth of an image: 16 to 19.
 pub fn image_check(image: &[u8]) -> Checked
     ensures { λ r. ⌜ refusalOf r ≡ firstFailing (imageChecks (now (image .entry))) ⌝ }
 {
     if image::form_ok(image) {
         if references_ok(image) {
             if command_checks::breaks_lie(image) {
-                return Checked::Fine;
+                if command_checks::depth_holds(image) {
+                    return Checked::Fine;
+                }
+                return Checked::Refused(Refusal::BadDepth);
             }
             return Checked::Refused(Refusal::BadPlacement);
         }
@@ -67,7 +70,7 @@ pub fn length_check(
     }
 }
 
-// The host and the image: 15 to 18.
+// The host and the image: 15 to 19.
 pub fn content_check(l: Layout, nodes: &[u8], edges: &[u8], image: &[u8]) -> Checked
     requires { ⌜ Sized l ⌝ }
     ensures { λ r. ⌜ refusalOf r ≡ firstFailing (contentChecks l (now (nodes .entry)) (now (edges .entry)) (now (image .entry))) ⌝ }
@@ -78,7 +81,7 @@ pub fn content_check(l: Layout, nodes: &[u8], edges: &[u8], image: &[u8]) -> Che
     Checked::Refused(Refusal::BadHost)
 }
 
-// The lowest applicable number from 9 to 18.
+// The lowest applicable number from 9 to 19.
 pub fn run_check(
     l: Layout,
     nodes: &[u8],

@@ -11,8 +11,8 @@ use borrow.Author.Tests.{ne-eqb, le-leb}
 use lib.Dec.{eqb}
 use lib.ListN.{length, length-append}
 use Rattle.meaning.specs.Basics.{choose, either, concat, _>>=_}
-use Rattle.meaning.specs.Tags.{ruleSetTag, sequenceTag, loopTag, guardedTag}
-use Rattle.meaning.specs.Image.{Command, ruleSet, sequence, guarded, loop, skip, fail, break, Commands, noMore, then, inOrder, limits, flag, only, passesAll, asRuleSet, asSequence, asGuarded, asLoop, unguarded, command}
+use Rattle.meaning.specs.Tags.{ruleSetTag, sequenceTag, loopTag, callTag, guardedTag}
+use Rattle.meaning.specs.Image.{Raw, ruleSet, sequence, guarded, loop, skip, fail, break, call, Raws, noMore, then, inOrder, limits, flag, only, passesAll, asRuleSet, asSequence, asGuarded, asLoop, unguarded, command}
 use Rattle.meaning.specs.ProvedSet.{fieldBytes}
 use Rattle.meaning.specs.Laws.Tests.{choose-eq, choose-ne, choose-either, both-of, some-inj, bind-some, ensure-some, ensure-yes}
 use Rattle.fields.specs.Image.{field-is, bind-yes, command-sequence, command-guarded, command-loop}
@@ -23,7 +23,7 @@ use Rattle.renewing.specs.Written.{field-written, length-field, series-o
 
 -- how many guarded commands there are in a command
 unfoldable mutual
-  pub guards : Command → ℕ
+  pub guards : Raw → ℕ
   guards (ruleSet l) = 0
   guards (sequence cs) = allGuards cs
   guards (guarded keep a b c) = 1 + guards a + guards b + guards c
@@ -31,13 +31,14 @@ unfoldable mutual
   guards skip = 0
   guards fail = 0
   guards break = 0
+  guards (call i) = 0
 
-  pub allGuards : Commands → ℕ
+  pub allGuards : Raws → ℕ
   allGuards noMore = 0
   allGuards (then c cs) = guards c + allGuards cs
 
 -- what a command of the old form becomes
-pub record New (n tag : ℕ) (bs : List ℕ) (c : Command) : Type 0 where
+pub record New (n tag : ℕ) (bs : List ℕ) (c : Raw) : Type 0 where
   pub newTag : ℕ
   pub payload : List ℕ
   pub is : renewedCommand n tag bs ≡ some (fieldBytes newTag payload)
@@ -46,15 +47,15 @@ pub record New (n tag : ℕ) (bs : List ℕ) (c : Command) : Type 0 where
 
 -- Commands in a row.
 
-record NewRow (n : ℕ) (cs : List Command) (bs : List ℕ) : Type 0 where
+record NewRow (n : ℕ) (cs : List Raw) (bs : List ℕ) : Type 0 where
   news : List (List ℕ)
   is : Series (renewedCommand n) news [] bs
   counted : length news ≡ length cs
   longer : length (concat news) ≡ length bs + allGuards (inOrder cs)
   reads : length (concat news) ≤ limits .bytes → Series (command n) cs [] (concat news)
 
-module _ (n : ℕ) (renews : (tag : ℕ) (bs : List ℕ) (c : Command) → oldCommand n tag bs ≡ some c → New n tag bs c) where
-  new-row : (cs : List Command) (bs : List ℕ) → Series (oldCommand n) cs [] bs → NewRow n cs bs
+module _ (n : ℕ) (renews : (tag : ℕ) (bs : List ℕ) (c : Raw) → oldCommand n tag bs ≡ some c → New n tag bs c) where
+  new-row : (cs : List Raw) (bs : List ℕ) → Series (oldCommand n) cs [] bs → NewRow n cs bs
   unfolding Series concat guards inOrder
   new-row [] bs r = record { news = []; is = r; counted = refl; longer = let z : length bs ≡ 0 = ap length r in omega arith; reads = λ h. refl }
   new-row (c ∷ cs) bs r =
@@ -78,13 +79,13 @@ module _ (n : ℕ) (renews : (tag : ℕ) (bs : List ℕ) (c : Command) → oldCo
       }
 
   -- the commands in a command
-  record NewParts (cs : List Command) (bs : List ℕ) : Type 0 where
+  record NewParts (cs : List Raw) (bs : List ℕ) : Type 0 where
     new : List ℕ
     is : (f : List ℕ → List ℕ) → (only passesAll (renewedCommand n) (limits .commands) bs >>= λ l. some (f (concat l))) ≡ some (f new)
     longer : length new ≡ length bs + allGuards (inOrder cs)
     reads : length new ≤ limits .bytes → only passesAll (command n) (limits .commands) new ≡ some cs
 
-  new-parts : (cs : List Command) (bs : List ℕ) → only passesAll (oldCommand n) (limits .commands) bs ≡ some cs → NewParts cs bs
+  new-parts : (cs : List Raw) (bs : List ℕ) → only passesAll (oldCommand n) (limits .commands) bs ≡ some cs → NewParts cs bs
   new-parts cs bs e =
       let r = new-row cs bs (only-series passesAll (oldCommand n) (oldCommand n) (λ t b a p x. x) (limits .commands) bs cs e) in
       let few = only-few passesAll (oldCommand n) (limits .commands) bs cs e in
@@ -95,7 +96,7 @@ module _ (n : ℕ) (renews : (tag : ℕ) (bs : List ℕ) (c : Command) → oldCo
         reads = λ h. series-only (command n) cs (limits .commands) (concat (r .news)) few (r .reads h);
       }
 
-  module _ (tag : ℕ) (bs : List ℕ) (c : Command) where
+  module _ (tag : ℕ) (bs : List ℕ) (c : Raw) where
     -- If and try.
 
     new-guarded : (keep : Bool) (byte : ℕ) → ((l : List ℕ) → flag (byte ∷ l) ≡ some keep)
@@ -122,7 +123,7 @@ module _ (n : ℕ) (renews : (tag : ℕ) (bs : List ℕ) (c : Command) → oldCo
 
     -- Sequences and loops.
 
-    new-series : (make : List Command → Option Command) → ((l : List Command) (x : Command) → make l ≡ some x → guards x ≡ allGuards (inOrder l))
+    new-series : (make : List Raw → Option Raw) → ((l : List Raw) (x : Raw) → make l ≡ some x → guards x ≡ allGuards (inOrder l))
         → (only passesAll (oldCommand n) (limits .commands) bs >>= make) ≡ some c
         → renewedCommand (suc n) tag bs ≡ (only passesAll (renewedCommand n) (limits .commands) bs >>= λ new. some (fieldBytes tag (concat new)))
         → ((l : List ℕ) → command (suc n) tag l ≡ (only passesAll (command n) (limits .commands) l >>= make))
@@ -140,7 +141,7 @@ module _ (n : ℕ) (renews : (tag : ℕ) (bs : List ℕ) (c : Command) → oldCo
 
     -- Rule sets, skip, fail and break: there is no command in them.
 
-    alone : (parts other : List ℕ → Option (List Command)) → (tag ≡ sequenceTag → ⊥) → (tag ≡ loopTag → ⊥) → unguarded parts tag bs ≡ unguarded other tag bs
+    alone : (parts other : List ℕ → Option (List Raw)) → (tag ≡ sequenceTag → ⊥) → (tag ≡ loopTag → ⊥) → unguarded parts tag bs ≡ unguarded other tag bs
     unfolding unguarded
     alone parts other h k =
         ap (choose (eqb tag ruleSetTag) (asRuleSet bs)) (choose-ne tag sequenceTag _ _ h ∙ choose-ne tag loopTag _ _ k ∙ sym (choose-ne tag sequenceTag _ _ h ∙ choose-ne tag loopTag _ _ k))
@@ -156,27 +157,32 @@ module _ (n : ℕ) (renews : (tag : ℕ) (bs : List ℕ) (c : Command) → oldCo
         (λ e. choose-either _ _ _ _ e (λ e. rw (leaf-is break bs c e .1))
         (λ e. let z : _≡_ {A = ℕ} 0 1 = cc in absurd (omega arith)))))))
 
-    not-guarded : (parts : List ℕ → Option (List Command)) → unguarded parts tag bs ≡ some c → tag ≡ guardedTag → ⊥
+    -- none of them has a tag that the old form lacked
+    not-new : (parts : List ℕ → Option (List Raw)) → unguarded parts tag bs ≡ some c → (tag ≡ guardedTag → ⊥) × (tag ≡ callTag → ⊥)
     unfolding unguarded choose
-    not-guarded parts e h =
-        let k : unguarded parts guardedTag bs ≡ some c = ap (λ (t : ℕ). unguarded parts t bs) (sym h) ∙ e in
-        let z : _≡_ {A = ℕ} 0 1 = cc in
-        omega arith
+    not-new parts e = (other guardedTag refl, other callTag refl)
+      where
+        other : (t : ℕ) → unguarded parts t bs ≡ none → tag ≡ t → ⊥
+        other t q h =
+            let k : unguarded parts t bs ≡ some c = ap (λ (t : ℕ). unguarded parts t bs) (sym h) ∙ e in
+            let z : _≡_ {A = ℕ} 0 1 = cc in
+            omega arith
 
     new-leaf : unguarded (only passesAll (oldCommand n) (limits .commands)) tag bs ≡ some c → (tag ≡ sequenceTag → ⊥) → (tag ≡ loopTag → ⊥)
         → renewedCommand (suc n) tag bs ≡ some (fieldBytes tag bs) → New (suc n) tag bs c
     unfolding command
     new-leaf e h k r =
         let z = no-guards (alone (λ l. none) _ h k ∙ e) in
+        let u = not-new _ e in
         record {
           newTag = tag;
           payload = bs;
           is = r;
           longer = omega arith;
-          reads = λ l. choose-ne tag guardedTag _ _ (not-guarded _ e) ∙ alone _ (only passesAll (oldCommand n) (limits .commands)) h k ∙ e;
+          reads = λ l. choose-ne tag guardedTag _ _ (u .0) ∙ choose-ne tag callTag _ _ (u .1) ∙ alone _ (only passesAll (oldCommand n) (limits .commands)) h k ∙ e;
         }
 
-module _ (parts : List ℕ → Option (List Command)) (tag : ℕ) (bs : List ℕ) where
+module _ (parts : List ℕ → Option (List Raw)) (tag : ℕ) (bs : List ℕ) where
   unguarded-sequence : tag ≡ sequenceTag → unguarded parts tag bs ≡ (parts bs >>= asSequence)
   unfolding unguarded choose
   unguarded-sequence h = rw h
@@ -189,16 +195,16 @@ flag-front : (byte : ℕ) (l : List ℕ) → byte ≤ 1 → flag (byte ∷ l) �
 unfolding flag
 flag-front byte l h = ensure-yes _ _ (both-of _ _ (le-leb 1 (length (byte ∷ l)) (omega arith)) (le-leb byte 1 h))
 
-sequence-guards : (l : List Command) (x : Command) → asSequence l ≡ some x → guards x ≡ allGuards (inOrder l)
+sequence-guards : (l : List Raw) (x : Raw) → asSequence l ≡ some x → guards x ≡ allGuards (inOrder l)
 unfolding guards
 sequence-guards l x e = rw (asSequence-is l x e .1)
 
-loop-guards : (l : List Command) (x : Command) → asLoop l ≡ some x → guards x ≡ allGuards (inOrder l)
+loop-guards : (l : List Raw) (x : Raw) → asLoop l ≡ some x → guards x ≡ allGuards (inOrder l)
 unfolding guards inOrder
 loop-guards l x e =
     let s = asLoop-is l x e in
     let g : guards x ≡ guards (s .0) = ap guards (s .2) in
-    let h : allGuards (inOrder l) ≡ guards (s .0) + 0 = ap (λ (m : List Command). allGuards (inOrder m)) (s .1) in
+    let h : allGuards (inOrder l) ≡ guards (s .0) + 0 = ap (λ (m : List Raw). allGuards (inOrder m)) (s .1) in
     omega arith
 
 -- a command that is neither if nor try
@@ -212,15 +218,15 @@ module _ (n tag : ℕ) (bs : List ℕ) (g : tag ≡ ifTag → ⊥) (h : tag ≡ 
   unfolding renewedCommand
   new-unguarded = choose-ne tag ifTag _ _ g ∙ choose-ne tag tryTag _ _ h
 
-pub renews : (n tag : ℕ) (bs : List ℕ) (c : Command) → oldCommand n tag bs ≡ some c → New n tag bs c
+pub renews : (n tag : ℕ) (bs : List ℕ) (c : Raw) → oldCommand n tag bs ≡ some c → New n tag bs c
 unfolding oldCommand renewedCommand either choose
 renews zero tag bs c e = let z : _≡_ {A = ℕ} 0 1 = cc in absurd (omega arith)
 renews (suc n) tag bs c e = at (ℕ-discrete tag ifTag) (ℕ-discrete tag tryTag) (ℕ-discrete tag sequenceTag) (ℕ-discrete tag loopTag) (λ t b x y. renews n t b x y)
   where
-    parts : List ℕ → Option (List Command)
+    parts : List ℕ → Option (List Raw)
     parts = only passesAll (oldCommand n) (limits .commands)
 
-    at : Dec (tag ≡ ifTag) → Dec (tag ≡ tryTag) → Dec (tag ≡ sequenceTag) → Dec (tag ≡ loopTag) → ((t : ℕ) (b : List ℕ) (x : Command) → oldCommand n t b ≡ some x → New n t b x) → New (suc n) tag bs c
+    at : Dec (tag ≡ ifTag) → Dec (tag ≡ tryTag) → Dec (tag ≡ sequenceTag) → Dec (tag ≡ loopTag) → ((t : ℕ) (b : List ℕ) (x : Raw) → oldCommand n t b ≡ some x → New n t b x) → New (suc n) tag bs c
     at (yes h) k l m i = new-guarded n i tag bs c false 0 (λ l. flag-front 0 l (omega arith)) (sym (choose-eq tag ifTag _ _ h) ∙ e) (choose-eq tag ifTag _ _ h)
     at (no g) (yes h) l m i = new-guarded n i tag bs c true 1 (λ l. flag-front 1 l (omega arith)) (sym (choose-ne tag ifTag _ _ g ∙ choose-eq tag tryTag _ _ h) ∙ e) (choose-ne tag ifTag _ _ g ∙ choose-eq tag tryTag _ _ h)
     at (no g) (no h) (yes k) m i =

@@ -7,7 +7,7 @@ use Prim.Native.Nat.{ℕ, _*_}
 use lib.ListN.{replicate}
 use Rattle.meaning.specs.Basics.{padded}
 use Rattle.meaning.specs.Layout.{base, recordLength}
-use Rattle.meaning.specs.Tags.{sequenceTag, loopTag, guardedTag}
+use Rattle.meaning.specs.Tags.{procedureTag, sequenceTag, loopTag, callTag, guardedTag}
 use Rattle.meaning.specs.Calls.{Lent, lending, reportOf}
 use Rattle.meaning.specs.ProvedSet.{nodeRecord, plainNode, redNode, fieldBytes, ruleSetField, marksRed, skipField, failField, breakField}
 use Rattle.meaning.specs.Computing.{computing}
@@ -29,10 +29,18 @@ pub old-case-9 : oldRun base (guardedBy tryTag)
 unfolding computing oldCommand
 old-case-9 = refl
 
--- today's tag was none of the old form
-pub today-not-old : oldProgram (fieldBytes guardedTag (0 ∷ skipField ++ skipField ++ skipField)) ≡ none
+-- today's tags were none of the old form: the guarded command's, a procedure's, a call's
+pub guarded-not-old : oldProgram (fieldBytes guardedTag (0 ∷ skipField ++ skipField ++ skipField)) ≡ none
 unfolding computing oldCommand
-today-not-old = refl
+guarded-not-old = refl
+
+pub procedure-not-old : oldProgram (fieldBytes procedureTag skipField ++ skipField) ≡ none
+unfolding computing oldCommand
+procedure-not-old = refl
+
+pub call-not-old : oldProgram (fieldBytes callTag (0 ∷ [])) ≡ none
+unfolding computing oldCommand
+call-not-old = refl
 
 -- an if with a try in its guard, in a sequence in a loop: rewritten, nothing but the two and the lengths around them differs
 abbrev nested : (List ℕ → List ℕ) → (List ℕ → List ℕ) → List ℕ

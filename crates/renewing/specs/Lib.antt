@@ -2,5 +2,6 @@
 pub mod OldForm
 pub mod Written
 pub mod Commands
+pub mod Depth
 pub mod Renewed
 pub mod Examples

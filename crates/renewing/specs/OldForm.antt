@@ -1,5 +1,6 @@
--- The form that images had when if (0x52) and try (0x53) were commands of their own, of three commands each and without a flag:
--- how they were read and what a run of them came to; and how they are rewritten, tag for tag, in today's form.
+-- The form that images had when if (0x52) and try (0x53) were commands of their own, of three commands each and without a flag, and
+-- there were neither procedures nor calls: how they were read and what a run of them came to; and how they are rewritten, tag for
+-- tag, in today's form.
 -- Rests on the meaning's Basics, Tags, Image, Calls and ProvedSet.
 use mathlib.Core.Bool.{true, false}
 use mathlib.Core.Option.{Option, some, none}
@@ -9,7 +10,7 @@ use lib.ListN.{length, take}
 use lib.Dec.{eqb}
 use Rattle.meaning.specs.Basics.{choose, either, concat, isSome, ensure, _>>_, _>>=_}
 use Rattle.meaning.specs.Tags.{ruleTag, sequenceTag, loopTag, guardedTag}
-use Rattle.meaning.specs.Image.{Command, Program, limits, field, leading, only, passesAll, rule, asGuarded, unguarded, programBy}
+use Rattle.meaning.specs.Image.{Raw, RawProgram, limits, field, leading, only, passesAll, rule, asGuarded, unguarded, programBy}
 use Rattle.meaning.specs.Calls.{Lent, Returned, runAs}
 use Rattle.meaning.specs.ProvedSet.{fieldBytes}
 use Rattle.meaning.specs.declared.Layout.{Layout}
@@ -20,18 +21,19 @@ ifTag = 0x52
 abbrev pub tryTag : ℕ
 tryTag = 0x53
 
--- Its meaning. It differs from today's in how a guarded command is read.
+-- Its meaning. It differs from today's in how a guarded command is read, and in what it did not have: procedures and calls.
 
-unfoldable pub oldCommand : ℕ → ℕ → List ℕ → Option Command
+unfoldable pub oldCommand : ℕ → ℕ → List ℕ → Option Raw
 oldCommand zero tag bs = none
 oldCommand (suc n) tag bs =
-    let parts : List ℕ → Option (List Command) = only passesAll (oldCommand n) (limits .commands) in
+    let parts : List ℕ → Option (List Raw) = only passesAll (oldCommand n) (limits .commands) in
     choose (eqb tag ifTag) (parts bs >>= asGuarded false)
     (choose (eqb tag tryTag) (parts bs >>= asGuarded true) (unguarded parts tag bs))
 
-abbrev pub oldProgram : List ℕ → Option Program
-oldProgram bs = programBy (oldCommand (limits .depth)) bs
+abbrev pub oldProgram : List ℕ → Option RawProgram
+oldProgram bs = programBy 0 (oldCommand (limits .depth)) bs
 
+-- the check of the depth that came with procedures refuses none of them (`old-depth` in Renewed)
 abbrev pub oldRun : Layout → Lent → Returned
 oldRun L x = runAs L (oldProgram (x .image)) x
 

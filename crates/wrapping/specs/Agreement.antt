@@ -1,5 +1,5 @@
--- What is said of runs of programs that differ in wrapping alone: what they are lent, in what they agree, and how many steps they take.
--- Rests on Entering, on the meaning's Commands and on the demands' Demands.
+-- What is said of runs of programs that differ in wrapping alone, or in that calls are written out: what they are lent, in what they
+-- agree, and how many steps they take. Rests on Wrapping, WrittenOut and Entering, on the meaning's Commands and on the demands' Demands.
 use mathlib.Core.Path.{_≡_}
 use mathlib.Core.Option.{some, none}
 use mathlib.Core.List.{[]}
@@ -7,12 +7,14 @@ use Prim.Native.Nat.{ℕ, _+_, _<_, _≤_}
 use lib.ListN.{length, take}
 use Rattle.meaning.specs.Numbers.{number}
 use Rattle.meaning.specs.Layout.{hostOf}
-use Rattle.meaning.specs.Image.{Program, program}
+use Rattle.meaning.specs.Procedures.{Program, program}
 use Rattle.meaning.specs.Commands as Plain
 use Rattle.meaning.specs.Commands.{beginning}
 use Rattle.meaning.specs.Calls.{Lent, journalRoom}
 use Rattle.demands.specs.Demands.{Lendable, Outcome, Interpreter, recordsIn, runRefusedWith, start}
-use Rattle.wrapping.specs.Entering.{wrappings, NotedOut, exec}
+use Rattle.wrapping.specs.Wrapping.{wraps}
+use Rattle.wrapping.specs.WrittenOut.{isCall}
+use Rattle.wrapping.specs.Entering.{passing, NotedOut, exec}
 use Rattle.meaning.specs.declared.Layout.{Layout}
 use Rattle.meaning.specs.declared.Stop.the-variants.{OutOfFuel}
 use Rattle.meaning.specs.declared.End.the-variants.{Stopped}
@@ -35,15 +37,20 @@ pub record Starts (L : Layout) (x : Lent) (p : Program) : Type 0 where
 abbrev pub Fuelled : Interpreter → Lent → Type 0
 Fuelled I x = I .run x .answer ≡ 2 → ⊥
 
--- The sequence and skip commands entered.
+-- The commands entered.
 
 module _ (L : Layout) (x : Lent) (p : Program) where
   -- what p does on what x lends, with the commands noted that are entered
   abbrev pub noting : NotedOut
   noting = exec (L .atoms) (journalRoom L (x .journal)) (p .rules) (p .main) (record { state = start L x; entered = [] })
 
+  -- the sequence, skip and call commands entered
   abbrev pub wrapsIn : ℕ
-  wrapsIn = wrappings (noting .noted .entered)
+  wrapsIn = passing wraps (noting .noted .entered)
+
+  -- the calls entered
+  abbrev pub callsIn : ℕ
+  callsIn = passing isCall (noting .noted .entered)
 
 -- In what two runs agree.
 
@@ -51,13 +58,17 @@ module _ (L : Layout) (x : Lent) (p : Program) where
 abbrev pub stepsIn : Outcome → ℕ
 stepsIn o = number (take 4 (o .report))
 
--- all is the same but the steps; w of the one's and v of the other's only wrap, and the other commands entered are as many
-pub record Agree (o q : Outcome) (w v : ℕ) : Type 0 where
+-- all is the same but the steps
+pub record SameButSteps (o q : Outcome) : Type 0 where
   pub answer : o .answer ≡ q .answer
   pub nodes : o .nodes ≡ q .nodes
   pub edges : o .edges ≡ q .edges
   pub journal : o .journal ≡ q .journal
   pub records : recordsIn o ≡ recordsIn q
+
+-- the same but for the steps; w of the one's and v of the other's only wrap, and the other commands entered are as many
+pub record Agree (o q : Outcome) (w v : ℕ) : Type 0 where
+  pub same : SameButSteps o q
   pub others : ℕ
   pub steps : stepsIn o ≡ others + w
   pub steps′ : stepsIn q ≡ others + v

@@ -1,20 +1,20 @@
 -- The meaning of commands with the commands noted that are entered: Commands.antt of the meaning, clause by clause, with one list more.
--- How many of them only wrap. Rests on Wrapping and on the meaning's Basics, Image and Commands.
+-- How many of them pass a test. Rests on the meaning's Basics, Image, Procedures and Commands.
 use mathlib.Core.Bool.{Bool}
 use mathlib.Core.List.{List, [], _∷_}
 use Prim.Native.Nat.{ℕ, zero, suc}
 use Rattle.meaning.specs.Basics.{choose}
-use Rattle.meaning.specs.Image.{Rule, Command, ruleSet, sequence, guarded, loop, skip, fail, break, Commands, noMore, then}
+use Rattle.meaning.specs.Image.{Rule}
+use Rattle.meaning.specs.Procedures.{Command, ruleSet, sequence, guarded, loop, skip, fail, break, called, Commands, noMore, then}
 use Rattle.meaning.specs.Commands.{State, stateAt, Out, back, firstRule, ruleCall}
-use Rattle.wrapping.specs.Wrapping.{wraps}
 use Rattle.meaning.specs.declared.Stop.the-variants.{OutOfFuel}
 use Rattle.meaning.specs.declared.End.{End}
 use Rattle.meaning.specs.declared.End.the-variants.{Done, Failed, Broke, Stopped}
 
--- how many of the commands only wrap
-unfoldable pub wrappings : List Command → ℕ
-wrappings [] = 0
-wrappings (c ∷ l) = let n = wrappings l in choose (wraps c) (suc n) n
+-- how many of the commands pass the test
+unfoldable pub passing : (Command → Bool) → List Command → ℕ
+passing test [] = 0
+passing test (c ∷ l) = let n = passing test l in choose (test c) (suc n) n
 
 -- a state, and the commands that have been entered on the way to it, the last first
 pub record Noted : Type 0 where
@@ -62,13 +62,13 @@ rounds zero body s = ends (Stopped OutOfFuel) s
 rounds (suc n) body s = let o = body s in again (o .end) s (o .noted) (λ t. rounds n body t)
 
 -- a rule set enters no command
-abbrev pub calls : Out → Noted → NotedOut
-calls o s = ends (o .end) (record { state = o .state; entered = s .entered })
+abbrev pub unnoted : Out → Noted → NotedOut
+unnoted o s = ends (o .end) (record { state = o .state; entered = s .entered })
 
 module _ (most room : ℕ) (rules : List Rule) where
   unfoldable mutual
     pub work : Command → Noted → NotedOut
-    work (ruleSet l) s = calls (ruleCall most room rules (firstRule rules (s .state .ledger .host) l) (s .state)) s
+    work (ruleSet l) s = unnoted (ruleCall most room rules (firstRule rules (s .state .ledger .host) l) (s .state)) s
     work (sequence cs) s = works cs s
     work (guarded keep g a b) s =
         let o = enter g (λ t. work g t) s in
@@ -77,6 +77,7 @@ module _ (most room : ℕ) (rules : List Rule) where
     work skip s = ends Done s
     work fail s = ends Failed s
     work break s = ends Broke s
+    work (called c) s = enter c (λ t. work c t) s
 
     pub works : Commands → Noted → NotedOut
     works noMore s = ends Done s

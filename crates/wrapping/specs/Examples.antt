@@ -1,15 +1,16 @@
--- Computed cases, from bytes to bytes, and one in which all that the theorems ask is met. M marks a plain node red. Rests on Runs and
--- Regrouping, on the demands' Met and Cases, and on the meaning's ProvedSet and Computing.
+-- Computed cases, from bytes to bytes; one in which all that the theorems on wrapping ask is met, and one in which all is met that those
+-- on calls written out ask. M marks a plain node red. Rests on Runs, Regrouping, RawWritten and WrittenRuns, on the demands' Met and
+-- Cases, and on the meaning's ProvedSet and Computing.
 use mathlib.Core.Path.{_≡_, refl, sym, subst}
 use mathlib.Core.Option.{Option, some, none}
 use mathlib.Core.List.{List, [], _∷_, _++_, map}
-use Prim.Native.Nat.{ℕ, _*_, _<_}
+use Prim.Native.Nat.{ℕ, _+_, _*_, _<_}
 use native.Mathlib.Omega.{arith}
 use native.Mathlib.Decide.{decLt}
 use lib.ListN.{replicate}
 use Rattle.meaning.specs.Layout.{base, recordLength}
-use Rattle.meaning.specs.Tags.{sequenceTag, loopTag, guardedTag}
-use Rattle.meaning.specs.Image.{Program, program, ruleSet, skip, fail, break}
+use Rattle.meaning.specs.Tags.{procedureTag, sequenceTag, loopTag, callTag, guardedTag}
+use Rattle.meaning.specs.Procedures.{Program, program, ruleSet, skip, fail, break}
 use Rattle.meaning.specs.Calls.{Lent, lending, reportOf}
 use Rattle.meaning.specs.Computing.{computing}
 use Rattle.meaning.specs.ProvedSet.{fieldBytes, ruleSetField, skipField, failField, breakField, marksRed, plainNode, redNode, nodeRecord, results, noResult}
@@ -19,15 +20,18 @@ use Rattle.demands.specs.Ours.{ours}
 use Rattle.demands.specs.Met.{met}
 use Rattle.demands.specs.Cases.{expects, lendable}
 use Rattle.wrapping.specs.Wrapping.{wraps, joined, bare, allBare, AlikePrograms}
-use Rattle.wrapping.specs.Entering.{wrappings, enterAt, next, decide, again, rounds, work, works}
+use Rattle.wrapping.specs.WrittenOut.{isCall, WrittenOut}
+use Rattle.wrapping.specs.RawWritten.{eachRaw, writtenRaw, images-written}
+use Rattle.wrapping.specs.Entering.{passing, enterAt, next, decide, again, rounds, work, works}
 use Rattle.wrapping.specs.Places.{here, inLoop, put}
-use Rattle.wrapping.specs.Agreement.{SameTables, Starts, Fuelled, wrapsIn, Agree, Needs}
+use Rattle.wrapping.specs.Agreement.{SameTables, Starts, Fuelled, wrapsIn, callsIn, stepsIn, SameButSteps, Agree, Needs}
 use Rattle.wrapping.specs.Runs.{alike-ends}
 use Rattle.wrapping.specs.Regrouping.{regrouping}
+use Rattle.wrapping.specs.WrittenRuns.{written-ends, written-agree}
 
 -- opens every definition that a case is computed by
 unfoldable counting : Unit {0}
-unfolding computing wraps wrappings enterAt next decide again rounds work works
+unfolding computing wraps isCall passing enterAt next decide again rounds work works
 counting = tt
 
 -- The fields of (P; Q); R and of P; (Q; R).
@@ -38,7 +42,7 @@ leftwards P Q R = fieldBytes sequenceTag (fieldBytes sequenceTag (P ++ Q) ++ R)
 abbrev rightwards : List ℕ → List ℕ → List ℕ → List ℕ
 rightwards P Q R = fieldBytes sequenceTag (P ++ fieldBytes sequenceTag (Q ++ R))
 
--- M and a command, on one plain node, with so many records and fuel 100
+-- M, procedures and a command, on one plain node, with so many records and fuel 100
 abbrev lends : ℕ → List ℕ → Lent
 lends records command =
     lending plainNode [] (replicate (records * recordLength base) 1) (marksRed ++ command) 100 (replicate 8 7)
@@ -144,3 +148,68 @@ pub right-needs-three : Needs base (ours base) (lends 8 left) (treeOf (lends 8 r
 right-needs-three =
     let n = alike-ends base base-numbered (ours base) (met .0) (met .1) (lends 8 left) (treeOf (lends 8 left)) starts-left fuelled-left _ alike-right in
     subst (Needs base (ours base) (lends 8 left) (treeOf (lends 8 right))) (only-three (n .0) (n .1)) (n .1)
+
+-- Calls written out. One procedure is M, another tries it; that one is called twice. M is done once and then fails: 11 steps with 4 calls
+-- entered, one of them in what is undone, and 7 with the calls written out.
+
+abbrev tries : List ℕ → List ℕ
+tries guard = fieldBytes guardedTag (1 ∷ guard ++ skipField ++ skipField)
+
+abbrev callField : ℕ → List ℕ
+callField i = fieldBytes callTag (i ∷ [])
+
+abbrev calling : List ℕ
+calling =
+    fieldBytes procedureTag (ruleSetField 0)
+    ++ fieldBytes procedureTag (tries (callField 0))
+    ++ fieldBytes sequenceTag (callField 1 ++ callField 1)
+
+abbrev uncalled : List ℕ
+uncalled = fieldBytes sequenceTag (tries (ruleSetField 0) ++ tries (ruleSetField 0))
+
+-- what a run leaves, and the calls entered
+abbrev leavesCalls : List ℕ → Outcome × ℕ
+leavesCalls command = let x = lends 8 command in (ours base .run x, callsIn base x (treeOf x))
+
+pub calls-entered :
+    map leavesCalls (calling ∷ uncalled ∷ [])
+    ≡ (expects (results 11 1 redNode [] (nodeRecord 0 plainNode)), 4) ∷ (expects (results 7 1 redNode [] (nodeRecord 0 plainNode)), 0) ∷ []
+unfolding counting
+calls-entered = refl
+
+-- All that the theorems ask is met.
+
+starts-calling : Starts base (lends 8 calling) (treeOf (lends 8 calling))
+unfolding computing
+starts-calling = record { lendable = lendable (lends 8 calling) refl; reads = refl; accepted = refl }
+
+starts-uncalled : Starts base (lends 8 uncalled) (treeOf (lends 8 uncalled))
+unfolding computing
+starts-uncalled = record { lendable = lendable (lends 8 uncalled) refl; reads = refl; accepted = refl }
+
+fuelled-calling : Fuelled (ours base) (lends 8 calling)
+unfolding computing
+fuelled-calling e = omega arith
+
+fuelled-uncalled : Fuelled (ours base) (lends 8 uncalled)
+unfolding computing
+fuelled-uncalled e = omega arith
+
+written-out : WrittenOut (treeOf (lends 8 calling)) (treeOf (lends 8 uncalled))
+unfolding computing eachRaw writtenRaw
+written-out = images-written (lends 8 calling .image) (lends 8 uncalled .image) _ _ _ _ refl refl (record { rules = refl; main = refl }) refl refl
+
+pub calling-agrees :
+    SameButSteps (ours base .run (lends 8 calling)) (ours base .run (lends 8 uncalled))
+    × (stepsIn (ours base .run (lends 8 calling)) ≡ stepsIn (ours base .run (lends 8 uncalled)) + 4)
+unfolding counting
+calling-agrees =
+    written-agree base base-numbered (ours base) (met .0) (met .1) _ _ written-out (lends 8 calling) starts-calling fuelled-calling
+    (lends 8 uncalled) starts-uncalled (record { nodes = refl; edges = refl; journal = refl }) fuelled-uncalled
+
+pub uncalled-needs-seven : Needs base (ours base) (lends 8 calling) (treeOf (lends 8 uncalled)) 7
+unfolding counting
+uncalled-needs-seven =
+    let n = written-ends base base-numbered (ours base) (met .0) (met .1) _ _ written-out (lends 8 calling) starts-calling fuelled-calling in
+    let seven : n .0 ≡ 7 = omega (arith, n .2) in
+    subst (Needs base (ours base) (lends 8 calling) (treeOf (lends 8 uncalled))) seven (n .1)

@@ -4,7 +4,8 @@ use mathlib.Core.Bool.{Bool, true, false}
 use mathlib.Core.List.{List}
 use Prim.Native.Nat.{ℕ, zero, suc}
 use Rattle.meaning.specs.Basics.{choose}
-use Rattle.meaning.specs.Image.{Rule, Command, ruleSet, sequence, guarded, loop, skip, fail, break, Commands, noMore, then}
+use Rattle.meaning.specs.Image.{Rule}
+use Rattle.meaning.specs.Procedures.{Command, ruleSet, sequence, guarded, loop, skip, fail, break, called, Commands, noMore, then}
 use Rattle.meaning.specs.Commands as Plain
 use Rattle.meaning.specs.Commands.{State, Out}
 use Rattle.wrapping.specs.Entering.{Noted, NotedOut, enterAt, next, decide, again, rounds, work, works, exec}
@@ -73,6 +74,7 @@ module _ (most room : ℕ) (rules : List Rule) where
     work-plain skip s = refl
     work-plain fail s = refl
     work-plain break s = refl
+    work-plain (called c) s = enter-plain c (s .state .fuel) _ _ (λ t. work-plain c t) s
 
     works-plain : (cs : Commands) (s : Noted) → plain (works most room rules cs s) ≡ Plain.works most room rules cs (s .state)
     works-plain noMore s = refl

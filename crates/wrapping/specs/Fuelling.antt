@@ -1,5 +1,5 @@
--- From what commands come to back to the meaning: what a command comes to, it comes to with as much fuel as it takes, and with more.
--- Rests on Coming and laws' Fuel.
+-- From what commands come to back to the meaning: what a command comes to, it comes to with as much fuel as commands are entered, and with
+-- more. Rests on Coming and laws' Fuel.
 use mathlib.Core.Path.{_≡_, refl, _∙_, ap}
 use mathlib.Core.Bool.{Bool, true, false}
 use mathlib.Core.List.{List}
@@ -7,11 +7,12 @@ use Prim.Native.Nat.{ℕ, zero, suc, _+_, _-_, _≤_}
 use native.Mathlib.Omega.{arith}
 use native.Mathlib.Nat.{le-refl}
 use Rattle.meaning.specs.Basics.{choose}
-use Rattle.meaning.specs.Image.{Rule, Command, ruleSet, sequence, guarded, loop, skip, fail, break, Commands, noMore, then}
+use Rattle.meaning.specs.Image.{Rule}
+use Rattle.meaning.specs.Procedures.{Command, ruleSet, sequence, guarded, loop, skip, fail, break, called, Commands, noMore, then}
 use Rattle.meaning.specs.Applying.{Ledger}
 use Rattle.meaning.specs.Commands.{State, stateAt, Out, ends, enterAt, firstRule, next, decide, again, rounds, work, works, exec}
 use Rattle.laws.specs.Fuel.{exec-spending, again-same, rounds-bound}
-use Rattle.wrapping.specs.Coming.{Use, whole, sequel, branches, further, Task, halts, enters, follows, resume, call-frame, does, Comes, halted, goes}
+use Rattle.wrapping.specs.Coming.{nothing, Use, whole, sequel, branches, further, Task, halts, enters, follows, resume, rule-frame, does, Comes, halted, goes}
 use Rattle.meaning.specs.declared.End.{End}
 use Rattle.meaning.specs.declared.End.the-variants.{Done, Failed, Broke, Stopped}
 
@@ -67,13 +68,14 @@ module _ (most room : ℕ) (rules : List Rule) where
 
   working : (c : Command) (g : Ledger) (f k : ℕ) → work most room rules c (stateAt g f k) ≡ doing (does most room rules c g) f k
   unfolding work
-  working (ruleSet l) g f k = call-frame most room rules (firstRule rules (g .host) l) g f k 0 0
+  working (ruleSet l) g f k = rule-frame most room rules (firstRule rules (g .host) l) g f k 0 0
   working (sequence cs) g f k = following cs g f k
   working (guarded keep x a b) g f k = refl
   working (loop c) g f k = looping c g f k
   working skip g f k = refl
   working fail g f k = refl
   working break g f k = refl
+  working (called c) g f k = refl
 
   -- with s fuel or more the task ends in e at h, and s of it is gone
   abbrev pub Takes : Task → End → Ledger → ℕ → Type 0
@@ -82,19 +84,19 @@ module _ (most room : ℕ) (rules : List Rule) where
   at : (e : End) (h : Ledger) (f k f′ k′ : ℕ) → f ≡ f′ → k ≡ k′ → ends e (stateAt h f k) ≡ ends e (stateAt h f′ k′)
   at e h f k f′ k′ p q = rw (p, q)
 
-  goes-takes : (c : Command) (g : Ledger) (u : Use) (e : End) (h : Ledger) (e′ : End) (h′ : Ledger) (s s′ : ℕ)
-      → Takes (does most room rules c g) e h s → Takes (resume u c g e h) e′ h′ s′ → Takes (enters c g u) e′ h′ (suc (s + s′))
+  goes-takes : (c : Command) (g : Ledger) (u : Use) (e : End) (h : Ledger) (e′ : End) (h′ : Ledger) (s s′ n : ℕ)
+      → Takes (does most room rules c g) e h s → Takes (resume u c g e h) e′ h′ s′ → n ≡ suc (s + s′) → Takes (enters c g u) e′ h′ n
   unfolding enterAt
-  goes-takes c g u e h e′ h′ s s′ a r zero k p = absurd (omega arith)
-  goes-takes c g u e h e′ h′ s s′ a r (suc f) k p =
+  goes-takes c g u e h e′ h′ s s′ n a r q zero k p = absurd (omega arith)
+  goes-takes c g u e h e′ h′ s s′ n a r q (suc f) k p =
       ap (used u c (stateAt g (suc f) k)) (working c g f (suc k) ∙ a f (suc k) (omega arith))
       ∙ resuming u c g e h (suc f) k (f - s) (suc k + s)
       ∙ r (f - s) (suc k + s) (omega arith)
       ∙ at e′ h′ _ _ _ _ (omega arith) (omega arith)
 
-  pub comes-takes : {t : Task} {e : End} {h : Ledger} {n : ℕ} → Comes most room rules t e h n → (s : ℕ) × Takes t e h s
-  comes-takes (halted {e = e} {g = g} z) = (0, λ f k p. at e g _ _ _ _ (omega arith) (omega arith))
-  comes-takes (goes {c = c} {g = g} {u = u} {e = e} {e′ = e′} {h = h} {h′ = h′} a r q) =
-      let i = comes-takes a in
-      let j = comes-takes r in
-      (suc (i .0 + j .0), goes-takes c g u e h e′ h′ (i .0) (j .0) (i .1) (j .1))
+  -- where each command is counted, the count is the steps
+  pub comes-takes : {t : Task} {e : End} {h : Ledger} {n : ℕ} → Comes nothing most room rules t e h n → Takes t e h n
+  unfolding choose
+  comes-takes (halted {e = e} {g = g} z) = λ f k p. at e g _ _ _ _ (omega arith) (omega arith)
+  comes-takes (goes {c = c} {g = g} {u = u} {e = e} {e′ = e′} {h = h} {h′ = h′} {m = m} {m′ = m′} {n = n} a r q) =
+      goes-takes c g u e h e′ h′ m m′ n (comes-takes a) (comes-takes r) (omega arith)

@@ -1,9 +1,9 @@
 -- Places in a command. Commands that differ in wrapping alone do so at the same place of any command; and the ways in which they can
--- differ: a sequence of one command, skips before, between and behind, any stretch of a sequence made a sequence of its own.
--- Rests on Wrapping.
+-- differ: a sequence of one command, skips before, between and behind, any stretch of a sequence made a sequence of its own, a call for
+-- the command of its procedure. Rests on Wrapping.
 use mathlib.Core.Path.{_≡_, refl, sym, _∙_, ap}
 use mathlib.Core.Bool.{Bool}
-use Rattle.meaning.specs.Image.{Command, sequence, guarded, loop, skip, Commands, noMore, then}
+use Rattle.meaning.specs.Procedures.{Command, sequence, guarded, loop, skip, called, Commands, noMore, then}
 use Rattle.wrapping.specs.Wrapping.{one, joined, bare, allBare, Alike}
 
 mutual
@@ -15,6 +15,7 @@ mutual
     inThen : Bool → Command → Place → Command → Place
     inElse : Bool → Command → Command → Place → Place
     inLoop : Place → Place
+    inCall : Place → Place
 
   pub data Places : Type 0 where
     first : Place → Commands → Places
@@ -29,6 +30,7 @@ unfoldable mutual
   put (inThen keep g p b) c = guarded keep g (put p c) b
   put (inElse keep g a p) c = guarded keep g a (put p c)
   put (inLoop p) c = loop (put p c)
+  put (inCall p) c = called (put p c)
 
   pub puts : Places → Command → Commands
   puts (first p cs) c = then (put p c) cs
@@ -48,6 +50,7 @@ module _ (c d : Command) (h : Alike c d) where
     alike-at (inElse keep g a p) =
         ap (λ (x : Commands). one (guarded keep (sequence (bare g)) (sequence (bare a)) (sequence x))) (alike-at p)
     alike-at (inLoop p) = ap (λ (x : Commands). one (loop (sequence x))) (alike-at p)
+    alike-at (inCall p) = alike-at p
 
     alike-all : (ps : Places) → allBare (puts ps c) ≡ allBare (puts ps d)
     alike-all (first p cs) = ap (λ (x : Commands). joined x (allBare cs)) (alike-at p)
@@ -79,6 +82,11 @@ two c d = sequence (then c (one d))
 pub alone : (c : Command) → Alike (sequence (one c)) c
 unfolding bare allBare
 alone c = joined-none (bare c)
+
+-- a call of a procedure whose command is c
+pub call-of : (c : Command) → Alike (called c) c
+unfolding bare
+call-of c = refl
 
 pub skip-before : (c : Command) → Alike (two skip c) c
 unfolding bare allBare joined

@@ -6,18 +6,22 @@ use mathlib.Core.List.{List}
 use Prim.Native.Nat.{ℕ, _+_}
 use native.Mathlib.Omega.{arith}
 use Rattle.meaning.specs.Basics.{choose}
-use Rattle.meaning.specs.Image.{Rule, Command, sequence, skip, Commands, noMore, then}
+use Rattle.meaning.specs.Image.{Rule}
+use Rattle.meaning.specs.Procedures.{Command, sequence, skip, called, Commands, noMore, then}
 use Rattle.meaning.specs.Applying.{Ledger}
 use Rattle.wrapping.specs.Wrapping.{wraps, one, joined, Alike}
-use Rattle.wrapping.specs.Places.{Place, here, inSequence, inGuard, inThen, inElse, inLoop, Places, first, later, put, puts}
-use Rattle.wrapping.specs.Rewrapping.{Rewrapped, same, back, via, at, single, stretch, skips, rewrapped-exactly}
-use Rattle.wrapping.specs.Coming.{acting, Use, whole, sequel, branches, further, Task, halts, enters, follows, onward, resume, does, Comes, halted, goes, comes-one}
+use Rattle.wrapping.specs.Places.{Place, here, inSequence, inGuard, inThen, inElse, inLoop, inCall, Places, first, later, put, puts}
+use Rattle.wrapping.specs.Rewrapping.{Rewrapped, same, back, via, at, single, call, stretch, skips, rewrapped-exactly}
+use Rattle.wrapping.specs.Coming.{counted, Use, whole, sequel, branches, further, Task, halts, enters, follows, onward, resume, does, Comes, halted, goes, Idle, idle-whole, idle-last, idle-comes}
 use Rattle.meaning.specs.declared.End.{End}
 use Rattle.meaning.specs.declared.End.the-variants.{Done, Failed, Broke, Stopped}
 
 module _ (most room : ℕ) (rules : List Rule) where
   abbrev C : Task → End → Ledger → ℕ → Type 0
-  C t e h n = Comes most room rules t e h n
+  C t e h n = Comes wraps most room rules t e h n
+
+  abbrev acting : Command → ℕ
+  acting c = counted wraps c
 
   abbrev D : Command → Ledger → Task
   D c g = does most room rules c g
@@ -93,6 +97,7 @@ module _ (most room : ℕ) (rules : List Rule) where
       refines-at (inThen keep x p b) = λ g e h m t. (m, branches-replaced (put p c) b (put p d) b (refines-at p) (refines-same b) t, refl)
       refines-at (inElse keep x a p) = λ g e h m t. (m, branches-replaced a (put p c) a (put p d) (refines-same a) (refines-at p) t, refl)
       refines-at (inLoop p) = λ g e h m t. (m, rounds-replaced (put p c) (put p d) (refines-at p) t, refl)
+      refines-at (inCall p) = λ g e h m t. (m, whole-replaced (put p c) (put p d) (refines-at p) t, refl)
 
       all-at : (ps : Places) → RefinesAll (puts ps c) (puts ps d)
       all-at (first p cs) g e h n (goes a r q) = replaced (put p c) (put p d) (refines-at p) a r q
@@ -106,24 +111,30 @@ module _ (most room : ℕ) (rules : List Rule) where
   joined-refines cs ds f (then c before) g e h n (goes {e = y} {h = i} a r q) =
       goes a (behind-end (joined before cs) (joined before ds) (joined-refines cs ds f before) y i r) q
 
-  -- A sequence of one command.
+  -- A sequence of one command, and a call.
 
-  at-end : (x : End) (i : Ledger) → C (onward noMore x i) x i 0
-  at-end Done i = halted refl
-  at-end Failed i = halted refl
-  at-end Broke i = halted refl
-  at-end (Stopped w) i = halted refl
+  -- b enters c, and does nothing else
+  module _ (b c : Command) (u : Use) (idle : Idle wraps most room rules u) (wrapper : acting b ≡ 0) (inside : (g : Ledger) → D b g ≡ enters c g u) where
+    inside-out : Refines b c
+    inside-out g e h m a =
+        let i = idle-comes wraps most room rules u idle (rw (inside g) at a) in
+        (i .0, i .1, omega (arith, i .2))
 
-  single-out : (c : Command) → Refines (sequence (one c)) c
+    inside-in : Refines c b
+    inside-in g e h m a =
+        let t : C (enters c g u) e h (acting c + m) = goes {c = c} {u = u} {m = m} {m′ = 0} {n = acting c + m} a (idle c g e h) (omega arith) in
+        (acting c + m, rw (inside g) t, omega arith)
+
+    inside-refines : Refines b c × Refines c b
+    inside-refines = (inside-out, inside-in)
+
+  single-refines : (c : Command) → Refines (sequence (one c)) c × Refines c (sequence (one c))
   unfolding wraps choose
-  single-out c g e h m (goes {e = x} {h = i} {m = k} a r q) =
-      let t = comes-one most room rules (at-end x i) r in
-      (k, rw (← (t .0), ← (t .1)) a, omega (arith, t .2))
+  single-refines c = inside-refines (sequence (one c)) c (sequel noMore) (idle-last wraps most room rules) refl (λ g. refl)
 
-  single-in : (c : Command) → Refines c (sequence (one c))
+  call-refines : (c : Command) → Refines (called c) c × Refines c (called c)
   unfolding wraps choose
-  single-in c g e h m a =
-      (acting c + m, goes {c = c} {u = sequel noMore} {m = m} {m′ = 0} {n = acting c + m} a (at-end e h) (omega arith), omega arith)
+  call-refines c = inside-refines (called c) c whole (idle-whole wraps most room rules) refl (λ g. refl)
 
   -- A row of commands, and what is behind it.
 
@@ -218,7 +229,8 @@ module _ (most room : ℕ) (rules : List Rule) where
       let j = rewrapped-refines s in
       (refines-via c d e (i .0) (j .0), refines-via e d c (j .1) (i .1))
   rewrapped-refines (at {c = c} {d = d} p r) = let i = rewrapped-refines r in (refines-at c d (i .0) p, refines-at d c (i .1) p)
-  rewrapped-refines (single {c = c}) = (single-out c, single-in c)
+  rewrapped-refines (single {c = c}) = single-refines c
+  rewrapped-refines (call {c = c}) = call-refines c
   rewrapped-refines (stretch before inner after) = (
     refines-sequence _ _ (joined-refines _ _ (stretch-out inner after) before),
     refines-sequence _ _ (joined-refines _ _ (stretch-in inner after) before),

@@ -1,11 +1,12 @@
 -- Two commands differ in wrapping alone exactly when one can be changed into the other step by step: at any place a stretch of a
--- sequence becomes a sequence of its own, a command a sequence of one, a skip comes into a sequence, or one of these is taken back.
+-- sequence becomes a sequence of its own, a command a sequence of one or a call, a skip comes into a sequence, or one of these is taken
+-- back.
 -- What stands in between need not be of a legal image: a sequence may be empty there, or too long. Rests on Places.
 use mathlib.Core.Path.{_≡_, refl, sym, _∙_, ap, subst}
 use mathlib.Core.Logic.{_↔_}
-use Rattle.meaning.specs.Image.{Command, ruleSet, sequence, guarded, loop, skip, fail, break, Commands, noMore, then}
+use Rattle.meaning.specs.Procedures.{Command, ruleSet, sequence, guarded, loop, skip, fail, break, called, Commands, noMore, then}
 use Rattle.wrapping.specs.Wrapping.{one, joined, bare, allBare, Alike}
-use Rattle.wrapping.specs.Places.{Place, here, inSequence, inGuard, inThen, inElse, inLoop, Places, first, later, put, puts, alike-at, joined-assoc, alone, grouped, skip-between}
+use Rattle.wrapping.specs.Places.{Place, here, inSequence, inGuard, inThen, inElse, inLoop, Places, first, later, put, puts, alike-at, joined-assoc, alone, call-of, grouped, skip-between}
 
 pub data Rewrapped : Command → Command → Type 0 where
   same : {c : Command} → Rewrapped c c
@@ -13,6 +14,7 @@ pub data Rewrapped : Command → Command → Type 0 where
   via : {c d e : Command} → Rewrapped c d → Rewrapped d e → Rewrapped c e
   at : {c d : Command} → (p : Place) → Rewrapped c d → Rewrapped (put p c) (put p d)
   single : {c : Command} → Rewrapped (sequence (one c)) c
+  call : {c : Command} → Rewrapped (called c) c
   stretch : (before inner after : Commands)
       → Rewrapped (sequence (joined before (then (sequence inner) after))) (sequence (joined before (joined inner after)))
   skips : (before after : Commands) → Rewrapped (sequence (joined before (then skip after))) (sequence (joined before after))
@@ -23,6 +25,7 @@ rewrapped-alike (back r) = sym (rewrapped-alike r)
 rewrapped-alike (via r s) = rewrapped-alike r ∙ rewrapped-alike s
 rewrapped-alike (at {c = c} {d = d} p r) = alike-at c d (rewrapped-alike r) p
 rewrapped-alike (single {c = c}) = alone c
+rewrapped-alike (call {c = c}) = call-of c
 rewrapped-alike (stretch before inner after) = grouped before inner after
 rewrapped-alike (skips before after) = skip-between before after
 
@@ -60,6 +63,7 @@ mutual
   to-bare skip = via (back single) (skips noMore noMore)
   to-bare fail = back single
   to-bare break = back single
+  to-bare (called c) = via call (to-bare c)
 
   -- the commands behind those of a sequence that are changed already
   all-to-bare : (before cs : Commands) → Rewrapped (sequence (joined before cs)) (sequence (joined before (allBare cs)))

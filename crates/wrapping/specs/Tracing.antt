@@ -1,5 +1,5 @@
 -- From the meaning to what commands come to: a command that did not run out of fuel comes to its end; each step is a command noted; and
--- the steps are the commands entered that do not wrap and those that do. Rests on Entering, Coming and laws' Fuel.
+-- the steps are the commands entered that are counted and the silent ones. Rests on Entering, Coming and laws' Fuel.
 use mathlib.Core.Path.{_≡_, refl, sym, subst}
 use mathlib.Core.Bool.{Bool, true, false}
 use mathlib.Core.List.{List, _∷_}
@@ -7,12 +7,13 @@ use Prim.Native.Nat.{ℕ, zero, suc, _+_}
 use native.Mathlib.Omega.{arith}
 use lib.ListN.{length}
 use Rattle.meaning.specs.Basics.{choose}
-use Rattle.meaning.specs.Image.{Rule, Command, ruleSet, sequence, guarded, loop, skip, fail, break, Commands, noMore, then}
+use Rattle.meaning.specs.Image.{Rule}
+use Rattle.meaning.specs.Procedures.{Command, ruleSet, sequence, guarded, loop, skip, fail, break, called, Commands, noMore, then}
 use Rattle.meaning.specs.Applying.{Ledger}
 use Rattle.meaning.specs.Commands.{Out, stateAt, firstRule, ruleCall}
 use Rattle.laws.specs.Fuel.{AtOut}
-use Rattle.wrapping.specs.Entering.{wrappings, Noted, NotedOut, ends, backTo, enterAt, enter, next, decide, again, rounds, calls, work, works, exec}
-use Rattle.wrapping.specs.Coming.{acting, acting-wrapping, Use, whole, sequel, branches, further, Task, halts, enters, follows, onward, decided, repeated, resume, called, call-frame, does, Comes, halted, goes}
+use Rattle.wrapping.specs.Entering.{passing, Noted, NotedOut, ends, backTo, enterAt, enter, next, decide, again, rounds, unnoted, work, works, exec}
+use Rattle.wrapping.specs.Coming.{counted, counted-passing, Use, whole, sequel, branches, further, Task, halts, enters, follows, onward, decided, repeated, resume, rule-frame, does, Comes, halted, goes}
 use Rattle.meaning.specs.declared.End.{End}
 use Rattle.meaning.specs.declared.End.the-variants.{Done, Failed, Broke, Stopped}
 
@@ -20,27 +21,27 @@ use Rattle.meaning.specs.declared.End.the-variants.{Done, Failed, Broke, Stoppe
 abbrev pub Enough : NotedOut → Type 0
 Enough o = AtOut (o .end) ⊥
 
-module _ (most room : ℕ) (rules : List Rule) where
+module _ (silent : Command → Bool) (most room : ℕ) (rules : List Rule) where
   -- from s on, task t comes to o
   pub record Trace (t : Task) (s : Noted) (o : NotedOut) : Type 0 where
-    pub acts : ℕ
-    pub comes : Comes most room rules t (o .end) (o .noted .state .ledger) acts
-    pub total : o .noted .state .steps + wrappings (s .entered) ≡ acts + s .state .steps + wrappings (o .noted .entered)
+    pub counts : ℕ
+    pub comes : Comes silent most room rules t (o .end) (o .noted .state .ledger) counts
+    pub total : o .noted .state .steps + passing silent (s .entered) ≡ counts + s .state .steps + passing silent (o .noted .entered)
     pub each : o .noted .state .steps + length (s .entered) ≡ s .state .steps + length (o .noted .entered)
 
   trace-halts : (e : End) (s : Noted) → Trace (halts e (s .state .ledger)) s (ends e s)
-  trace-halts e s = record { acts = 0; comes = halted refl; total = omega arith; each = omega arith }
+  trace-halts e s = record { counts = 0; comes = halted refl; total = omega arith; each = omega arith }
 
   -- the steps and the commands entered are those at t
   from-back : (s t : Noted) {u : Task} {o : NotedOut} → Trace u (backTo s t) o → Trace u t o
-  from-back s t i = record { acts = i .acts; comes = i .comes; total = i .total; each = i .each }
+  from-back s t i = record { counts = i .counts; comes = i .comes; total = i .total; each = i .each }
 
   abbrev Traces : (Ledger → Task) → (Noted → NotedOut) → Type 0
   Traces t k = (s : Noted) → Enough (k s) → Trace (t (s .state .ledger)) s (k s)
 
   -- where all is not out of fuel, what came before was not
   enough-before : (u : Use) (c : Command) (g : Ledger) (e : End) (h : Ledger) {e′ : End} {h′ : Ledger} {n : ℕ}
-      → Comes most room rules (resume u c g e h) e′ h′ n → AtOut e′ ⊥ → AtOut e ⊥
+      → Comes silent most room rules (resume u c g e h) e′ h′ n → AtOut e′ ⊥ → AtOut e ⊥
   enough-before u c g Done h t k = tt
   enough-before u c g Failed h t k = tt
   enough-before u c g Broke h t k = tt
@@ -59,9 +60,9 @@ module _ (most room : ℕ) (rules : List Rule) where
   enter-trace c u (suc f) k h s r n t =
       let i = h (record { state = stateAt (s .state .ledger) f (suc (s .state .steps)); entered = c ∷ s .entered }) (enough-before u c _ _ _ (t .comes) n) in
       record {
-        acts = acting c + i .acts + t .acts;
+        counts = counted silent c + i .counts + t .counts;
         comes = goes (i .comes) (t .comes) refl;
-        total = omega (arith, i .total, t .total, acting-wrapping c (s .entered));
+        total = omega (arith, i .total, t .total, counted-passing silent c (s .entered));
         each = omega (arith, i .each, t .each);
       }
 
@@ -104,21 +105,20 @@ module _ (most room : ℕ) (rules : List Rule) where
       let o = enter c k s in
       enter-trace c further (s .state .fuel) k h s _ n (again-trace c (o .end) s (o .noted) _ (rounds-trace c k h m) n)
 
-  call-trace : (l : List ℕ) (s : Noted)
+  rule-trace : (l : List ℕ) (s : Noted)
       → Trace (does most room rules (ruleSet l) (s .state .ledger)) s
-      (calls (ruleCall most room rules (firstRule rules (s .state .ledger .host) l) (s .state)) s)
-  call-trace l s =
+      (unnoted (ruleCall most room rules (firstRule rules (s .state .ledger .host) l) (s .state)) s)
+  rule-trace l s =
       let g = s .state .ledger in
-      let o = called most room rules l g in
-      subst (λ (r : Out). Trace (does most room rules (ruleSet l) g) s (calls r s))
-      (sym (call-frame most room rules (firstRule rules (g .host) l) g (s .state .fuel) (s .state .steps) 0 0))
-      (record { acts = 0; comes = halted refl; total = omega arith; each = omega arith })
+      subst (λ (r : Out). Trace (does most room rules (ruleSet l) g) s (unnoted r s))
+      (sym (rule-frame most room rules (firstRule rules (g .host) l) g (s .state .fuel) (s .state .steps) 0 0))
+      (record { counts = 0; comes = halted refl; total = omega arith; each = omega arith })
 
   mutual
     unfolding work works
 
     work-trace : (c : Command) → Traces (does most room rules c) (work most room rules c)
-    work-trace (ruleSet l) s n = call-trace l s
+    work-trace (ruleSet l) s n = rule-trace l s
     work-trace (sequence cs) s n = works-trace cs s n
     work-trace (guarded keep x a b) s n =
         let o = exec most room rules x s in
@@ -128,6 +128,7 @@ module _ (most room : ℕ) (rules : List Rule) where
     work-trace skip s n = trace-halts Done s
     work-trace fail s n = trace-halts Failed s
     work-trace break s n = trace-halts Broke s
+    work-trace (called c) s n = whole-trace c _ (λ t e. work-trace c t e) s n
 
     works-trace : (cs : Commands) → Traces (follows cs) (works most room rules cs)
     works-trace noMore s n = trace-halts Done s

@@ -1,8 +1,8 @@
--- Commands that only wrap others: sequence and skip. What is left of a command without them, and when two commands and two programs
--- differ in wrapping alone. Rests on the meaning's Image.
+-- Commands that only wrap others: sequence, skip and the call of a procedure. What is left of a command without them, and when two
+-- commands and two programs differ in wrapping alone. Rests on the meaning's Procedures.
 use mathlib.Core.Path.{_≡_}
 use mathlib.Core.Bool.{Bool, true, false}
-use Rattle.meaning.specs.Image.{Program, Command, ruleSet, sequence, guarded, loop, skip, fail, break, Commands, noMore, then}
+use Rattle.meaning.specs.Procedures.{Program, Command, ruleSet, sequence, guarded, loop, skip, fail, break, called, Commands, noMore, then}
 
 -- whether a command only wraps: what it does is what the commands in it do, one after the other
 unfoldable pub wraps : Command → Bool
@@ -13,6 +13,7 @@ wraps (loop c) = false
 wraps skip = true
 wraps fail = false
 wraps break = false
+wraps (called c) = true
 
 abbrev pub one : Command → Commands
 one c = then c noMore
@@ -33,6 +34,7 @@ unfoldable mutual
   bare skip = noMore
   bare fail = one fail
   bare break = one break
+  bare (called c) = bare c
 
   pub allBare : Commands → Commands
   allBare noMore = noMore

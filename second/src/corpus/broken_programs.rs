@@ -27,9 +27,9 @@ pub fn break_guarded(random: &mut Random, bytes: &mut Vec<u8>) {
         return flip_bits(random, bytes);
     }
     let at = random.pick(&places);
-    match random.below(4) {
-        0 => bytes[at] = random.pick(&[0x52, 0x53, 0x58, 0x5A]),
-        1 => drop(bytes.remove(at + 3)),
+    match random.below(5) {
+        0 | 1 => bytes[at] = random.pick(&[0x52, 0x53, 0x58, 0x5A]),
+        2 => drop(bytes.remove(at + 3)),
         _ => bytes[at + 3] = random.pick(&[2, 3, 0x80, 0xFF]),
     }
 }

@@ -50,7 +50,7 @@ fn case(rules: Vec<Rule>, main: Command) -> RunnerInput {
         edges: Vec::new(),
         records: AMPLE_RECORDS,
         fuel: AMPLE_FUEL,
-        program: encode::program(&Program { rules, main }),
+        program: encode::program(&Program::without_procedures(rules, main)),
     }
 }
 
@@ -69,7 +69,7 @@ fn deleting() -> Rule {
 }
 
 /// The rule M.
-fn marking() -> Rule {
+pub fn marking() -> Rule {
     node_rule(&[plain()], &[node(mark::RED, &[])], 1)
 }
 

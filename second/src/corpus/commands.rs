@@ -263,15 +263,11 @@ impl Writer<'_> {
     }
 }
 
-fn depth(command: &Command) -> usize {
-    1 + command.parts().into_iter().map(depth).max().unwrap_or(0)
-}
-
 /// The command inside others that keep its effect mostly, so many levels in all.
 pub fn deepened(random: &mut Random, mut command: Command, levels: usize) -> Command {
     use Command::{Break, Fail, Sequence, Skip};
-    while depth(&command) < levels {
-        let one_level = depth(&command) + 1 == levels;
+    while command.depth() < levels {
+        let one_level = command.depth() + 1 == levels;
         command = match random.below(if one_level { 5 } else { 7 }) {
             0 => Sequence(vec![command]),
             1 => if_command(Skip, command, Fail),

@@ -87,10 +87,7 @@ fn input_of(reasons: Reasons) -> RunnerInput {
         edges: vec![0; one_slot(reasons.edges, LAYOUT.edge_length())],
         records: if reasons.journal { 2 } else { 3 },
         fuel: 10,
-        program: encode::program(&Program {
-            rules: vec![rule],
-            main,
-        }),
+        program: encode::program(&Program::without_procedures(vec![rule], main)),
     }
 }
 
@@ -105,10 +102,10 @@ fn over_red_node(rules: Vec<Rule>, numbers: Vec<u8>) -> RunnerInput {
         edges: vec![],
         records: 1,
         fuel: 1,
-        program: encode::program(&Program {
+        program: encode::program(&Program::without_procedures(
             rules,
-            main: Command::RuleSet(numbers),
-        }),
+            Command::RuleSet(numbers),
+        )),
     }
 }
 
@@ -150,10 +147,7 @@ fn one_list_twice(first: &[i32], second: &[i32]) -> RunnerInput {
         edges: vec![],
         records: 2,
         fuel: 1,
-        program: encode::program(&Program {
-            rules: vec![rule],
-            main: call(0),
-        }),
+        program: encode::program(&Program::without_procedures(vec![rule], call(0))),
     }
 }
 
@@ -215,10 +209,7 @@ fn at_loops(looped: Looped) -> RunnerInput {
         edges: edges.concat().concat(),
         records: 1,
         fuel: 1,
-        program: encode::program(&Program {
-            rules: vec![rule],
-            main: call(0),
-        }),
+        program: encode::program(&Program::without_procedures(vec![rule], call(0))),
     }
 }
 

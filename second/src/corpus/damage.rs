@@ -1,5 +1,6 @@
 //! Damaged images: a legal draft with one thing wrong, sometimes two, so that the order of the answers shows.
 
+use super::broken_calls::{break_calls, break_procedures};
 use super::broken_inputs::*;
 use super::broken_modes::break_mode;
 use super::broken_programs::*;
@@ -14,7 +15,9 @@ enum Kind {
     Form,
     References,
     Placement,
+    Calls,
     Layout,
+    Procedures,
     Mode,
     Guarded,
     Bytes,
@@ -27,11 +30,13 @@ enum Kind {
 }
 
 /// Each kind with its weight.
-const KINDS: [(Kind, usize); 13] = [
+const KINDS: [(Kind, usize); 15] = [
     (Kind::Form, 14),
     (Kind::References, 24),
     (Kind::Placement, 10),
+    (Kind::Calls, 32),
     (Kind::Layout, 16),
+    (Kind::Procedures, 32),
     (Kind::Mode, 13),
     (Kind::Guarded, 13),
     (Kind::Bytes, 11),
@@ -57,6 +62,7 @@ pub fn damaged(random: &mut Random, mut draft: Draft) -> Vec<u8> {
     for kind in &kinds {
         match kind {
             Kind::Layout => break_layout(random, &draft.host, &mut input),
+            Kind::Procedures => break_procedures(random, &draft.program, &mut input.program),
             Kind::Mode => break_mode(random, &draft.program.rules, &mut input.program),
             Kind::Guarded => break_guarded(random, &mut input.program),
             Kind::Bytes => mangle(random, &mut input.program),
@@ -86,6 +92,7 @@ fn damage_tree(random: &mut Random, kind: Kind, draft: &mut Draft) {
         Kind::Form => bad_form(random, &mut draft.program),
         Kind::References => bad_reference(random, &mut draft.program),
         Kind::Placement => misplaced_break(random, &mut draft.program.main),
+        Kind::Calls => break_calls(random, &mut draft.program),
         _ => {}
     }
 }

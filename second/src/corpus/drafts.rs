@@ -2,12 +2,16 @@
 
 use super::commands::main_command;
 use super::hosts::{Host, Size};
+use super::outlining::outline;
 use super::palette::Palette;
 use super::rules::rules;
 use crate::calls::MOST_FUEL;
 use crate::encode::{self, RunnerInput};
 use crate::random::Random;
 use crate::tree::*;
+
+/// The percentage of drafts that have procedures.
+const WITH_PROCEDURES: usize = 40;
 
 #[derive(Clone, Debug)]
 pub struct Draft {
@@ -52,10 +56,12 @@ impl Draft {
     pub fn over(random: &mut Random, palette: &Palette, host: Host, extent: Extent) -> Draft {
         let drawn = rules(random, palette, &host, extent.rules);
         let main = main_command(random, &drawn, extent.commands, extent.levels);
-        let program = Program {
-            rules: drawn.into_iter().map(|drawn| drawn.rule).collect(),
-            main,
-        };
+        let rules = drawn.into_iter().map(|drawn| drawn.rule).collect();
+        let mut program = Program::without_procedures(rules, main);
+        let beside = &mut random.beside();
+        if beside.chance(WITH_PROCEDURES) {
+            outline(beside, &mut program, extent.levels);
+        }
         let fuel = fuel(random, most_fuel(&host, &program));
         Draft {
             host,
@@ -78,7 +84,8 @@ impl Draft {
 
 /// The most fuel with which a run takes no long time.
 fn most_fuel(host: &Host, program: &Program) -> usize {
-    if !has_loop(&program.main) || program.rules.is_empty() {
+    let repeats = !program.procedures.is_empty() || has_loop(&program.main);
+    if !repeats || program.rules.is_empty() {
         return MOST_FUEL as usize;
     }
     (4_000_000 / longest_search(host, program)).clamp(60, MOST_FUEL as usize)

@@ -1,5 +1,5 @@
 //! The images at the front of every corpus: the cases of document 01, corners that random images meet seldom, modes of rules,
-//! groupings of sequences, an image for each clause that can refuse, the accepted ones that stand beside them, and some refused
+//! groupings of sequences, procedures, an image for each clause that can refuse, the accepted ones that stand beside them, and some refused
 //! twice over.
 
 use super::cases::cases;
@@ -7,6 +7,7 @@ use super::corners::corners;
 use super::groupings::groupings;
 use super::mode_programs::mode_programs;
 use super::modes::modes;
+use super::procedures::procedures;
 use crate::encode::{runner_input, RunnerInput};
 use crate::refusals::{of_run, of_runner, run_refused_for};
 use std::sync::OnceLock;
@@ -26,6 +27,7 @@ fn cases_and_refusals() -> Vec<Vec<u8>> {
     inputs.extend(modes());
     inputs.extend(mode_programs());
     inputs.extend(groupings());
+    inputs.extend(procedures());
     let calls = of_run();
     inputs.extend(calls.iter().filter_map(|it| it.accepted.runner_input()));
     inputs.extend(calls.iter().filter_map(|it| it.refused.runner_input()));
@@ -39,7 +41,7 @@ fn cases_and_refusals() -> Vec<Vec<u8>> {
 
 /// Two numbers apply to each of these. Those of 14 are long, so there are few of them.
 fn refused_twice() -> Vec<RunnerInput> {
-    const NUMBERS: [u32; 7] = [10, 11, 13, 15, 16, 17, 18];
+    const NUMBERS: [u32; 8] = [10, 11, 13, 15, 16, 17, 18, 19];
     let mut pairs = vec![[13, 14], [14, 15]];
     for (index, low) in NUMBERS.into_iter().enumerate() {
         pairs.extend(NUMBERS[index + 1..].iter().map(|high| [low, *high]));

@@ -1,7 +1,7 @@
 //! Rows of three commands in several groupings, with and without skips, at each place where a command can stand; and sequences
 //! nested as widely and as deeply as they may be.
 
-use super::cases::adding_one;
+use super::cases::{adding_one, marking};
 use super::modes::{over, unmarked};
 use crate::build::*;
 use crate::encode::{node_slot, RunnerInput};
@@ -28,6 +28,15 @@ enum Row {
     ThirdFails,
     /// The second ends the run with this answer.
     SecondStops(u32),
+}
+
+impl Row {
+    fn stops(self) -> Option<u32> {
+        match self {
+            Row::SecondStops(answer) => Some(answer),
+            _ => None,
+        }
+    }
 }
 
 /// Puts a command at some place of a program.
@@ -110,11 +119,11 @@ fn grouped([p, q, r]: [Command; 3]) -> [Command; 4] {
 /// The row on two unmarked nodes that fill their table, with no slot for an edge.
 fn groupings_of(around: Around, row: Row) -> [RunnerInput; 4] {
     let rules = vec![
-        node_rule(&[node(mark::NONE, &[])], &[node(mark::RED, &[])], 1),
-        second_rule(row),
+        marking(),
+        red_to_blue(row.stops()),
         node_rule(&[node(mark::BLUE, &[])], &[node(mark::GREEN, &[])], 1),
     ];
-    let records = if row == Row::SecondStops(5) { 1 } else { 10 };
+    let records = if row.stops() == Some(5) { 1 } else { 10 };
     grouped(commands(row)).map(|command| RunnerInput {
         records,
         fuel: AMPLE_FUEL,
@@ -125,14 +134,14 @@ fn groupings_of(around: Around, row: Row) -> [RunnerInput; 4] {
 const AMPLE_FUEL: u32 = 400;
 
 /// The rule that marks a red node blue. To stop with 3, 4 or 6 it also makes a node or an edge, or a label that can't be held.
-fn second_rule(row: Row) -> Rule {
+pub fn red_to_blue(stops: Option<u32>) -> Rule {
     let red = || (vec![node(mark::RED, &[])], vec![]);
     let blue = || node(mark::BLUE, &[]);
     let over_the_range = Element::Sum(Operand::Constant(i32::MAX), Operand::Constant(1));
-    let right = match row {
-        Row::SecondStops(3) => (vec![blue(), blue()], vec![]),
-        Row::SecondStops(4) => (vec![blue()], vec![edge(mark::NONE, 0, 0, &[])]),
-        Row::SecondStops(6) => (vec![node(mark::BLUE, &[over_the_range])], vec![]),
+    let right = match stops {
+        Some(3) => (vec![blue(), blue()], vec![]),
+        Some(4) => (vec![blue()], vec![edge(mark::NONE, 0, 0, &[])]),
+        Some(6) => (vec![node(mark::BLUE, &[over_the_range])], vec![]),
         _ => (vec![blue()], vec![]),
     };
     rule(red(), right, 1)

@@ -185,10 +185,10 @@ fn root_on_a_path() -> RunnerInput {
         edges: (0..LAST).flat_map(edge).collect(),
         records: RECORDS,
         fuel: 1000,
-        program: encode::program(&Program {
-            rules: vec![one_step()],
-            main: looped(call(0)),
-        }),
+        program: encode::program(&Program::without_procedures(
+            vec![one_step()],
+            looped(call(0)),
+        )),
     }
 }
 
@@ -218,10 +218,7 @@ fn filled_up(random: &mut Random) -> RunnerInput {
         edges: vec![],
         records: random.pick(&[511, 512, RECORDS]),
         fuel: 1000,
-        program: encode::program(&Program {
-            rules: vec![rule],
-            main: looped(call(0)),
-        }),
+        program: encode::program(&Program::without_procedures(vec![rule], looped(call(0)))),
     }
 }
 

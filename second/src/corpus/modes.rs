@@ -23,7 +23,7 @@ pub fn over(nodes: Vec<u8>, rules: Vec<Rule>, main: Command) -> RunnerInput {
         edges: vec![],
         records: 10,
         fuel: 10,
-        program: encode::program(&Program { rules, main }),
+        program: encode::program(&Program::without_procedures(rules, main)),
     }
 }
 

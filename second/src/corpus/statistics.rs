@@ -1,9 +1,11 @@
 //! What running a corpus exercises: how often each answer occurs, and the counters of the second interpreter.
 
 use super::LAYOUT;
+use crate::decode;
 use crate::encode::RunnerInput;
 use crate::exercised::{Exercised, TestCounts};
 use crate::listing::{call_of, read_input};
+use crate::tree::{Command, Program};
 use std::collections::BTreeMap;
 use std::fmt;
 
@@ -32,7 +34,7 @@ const FIRST_REFUSAL: u32 = 9;
 impl Statistics {
     pub fn of(images: &[&[u8]]) -> Statistics {
         let mut statistics = Statistics::default();
-        statistics.add_counters(&Exercised::default());
+        statistics.add_counters(&Exercised::default(), Procedures::default());
         for image in images {
             statistics.add(image);
         }
@@ -51,13 +53,17 @@ impl Statistics {
     fn add_run(&mut self, input: &RunnerInput) {
         let mut exercised = Exercised::default();
         let outcome = call_of(LAYOUT, input).outcome_at(LAYOUT, &mut exercised);
+        let started = outcome.answer < FIRST_REFUSAL;
         *self.answers.entry(outcome.answer).or_default() += 1;
-        self.started += u64::from(outcome.answer < FIRST_REFUSAL);
-        self.add_counters(&exercised);
+        self.started += u64::from(started);
+        let program = decode::program(&input.program).ok();
+        let procedures = program.filter(|_| started).map(|it| Procedures::of(&it));
+        self.add_counters(&exercised, procedures.unwrap_or_default());
     }
 
-    fn add_counters(&mut self, exercised: &Exercised) {
-        for (index, (name, count)) in named(exercised).into_iter().enumerate() {
+    fn add_counters(&mut self, exercised: &Exercised, procedures: Procedures) {
+        let counts = named(exercised).into_iter().chain(procedures.named());
+        for (index, (name, count)) in counts.enumerate() {
             if index == self.counters.len() {
                 self.counters.push(Counter {
                     name,
@@ -77,6 +83,42 @@ impl Statistics {
     }
 }
 
+/// The procedures of a program whose run started.
+#[derive(Default)]
+struct Procedures {
+    all: usize,
+    /// Those that no call names.
+    not_called: usize,
+}
+
+impl Procedures {
+    fn of(program: &Program) -> Procedures {
+        let all = program.procedures.len();
+        let mut calls = vec![0; all];
+        program.commands().for_each(|it| count_calls(it, &mut calls));
+        Procedures {
+            all,
+            not_called: calls.iter().filter(|count| **count == 0).count(),
+        }
+    }
+
+    fn named(&self) -> [(String, u64); 2] {
+        [
+            ("procedures".to_string(), self.all as u64),
+            ("procedures not called".to_string(), self.not_called as u64),
+        ]
+    }
+}
+
+/// Adds 1 for each call to the count of its procedure.
+fn count_calls(command: &Command, counts: &mut [u64]) {
+    if let Command::Procedure(number) = command {
+        counts[usize::from(*number)] += 1;
+    }
+    let parts = command.parts().into_iter();
+    parts.for_each(|part| count_calls(part, counts));
+}
+
 /// Each counter with its name.
 fn named(exercised: &Exercised) -> Vec<(String, u64)> {
     let e = exercised;
@@ -88,6 +130,9 @@ fn named(exercised: &Exercised) -> Vec<(String, u64)> {
         ("guards undone", e.guards_undone),
         ("bodies undone", e.bodies_undone),
         ("breaks", e.breaks),
+        ("calls", e.calls),
+        ("calls in calls", e.calls_in_calls),
+        ("calls failed", e.calls_failed),
         ("slots reused", e.slots_reused),
         ("dangling refusals", e.dangling_refusals),
         ("negated tests", e.negated_tests),

@@ -1,7 +1,7 @@
 //! The refusals 16 of an image and a rule as wholes, and the list of all of them.
 
 use super::programs::{images, rule, Images};
-use super::{form_of_commands, form_of_graphs, form_of_mode, form_of_tests};
+use super::{form_of_commands, form_of_graphs, form_of_mode, form_of_procedures, form_of_tests};
 use crate::encode::{self, field};
 use crate::tree::{Command, Rule, VariableType};
 
@@ -17,6 +17,8 @@ pub(super) fn images_of_form() -> Vec<Images> {
     images.extend(form_of_tests::images_of_tests());
     images.extend(form_of_commands::images_of_commands());
     images.extend(form_of_commands::images_of_depth());
+    images.extend(form_of_procedures::images_of_procedures());
+    images.extend(form_of_procedures::images_of_calls());
     images
 }
 
@@ -35,7 +37,7 @@ fn form_of_image() -> Vec<Images> {
         refused("zero byte behind the command", &[&legal[..], &[0]].concat()),
         images("command of tag 0x11", &skip, &[0x11, 0, 0]),
         images("command of tag 0x4f", &skip, &[0x4f, 0, 0]),
-        images("command of tag 0x58", &skip, &[0x58, 0, 0]),
+        images("command of tag 0x5a", &skip, &[0x5a, 0, 0]),
         images("command of tag 0", &skip, &[0, 0, 0]),
         images("tag without a length", &skip, &skip[..1]),
         images("tag with half a length", &skip, &skip[..2]),

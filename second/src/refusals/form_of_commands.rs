@@ -50,7 +50,7 @@ fn form_of_sequence() -> Vec<Images> {
             "sequence that ends in a rule",
             &of(&[&SKIP, &encode::rule(&rule())]),
         ),
-        refused("sequence with tag 0x58", &of(&[&[0x58, 0, 0]])),
+        refused("sequence with tag 0x5a", &of(&[&[0x5a, 0, 0]])),
         refused(
             "sequence with a command longer than itself",
             &of(&[&[0x55, 0, 1]]),
@@ -140,7 +140,7 @@ fn form_of_loop() -> Vec<Images> {
     vec![
         refused("loop of no command", &[]),
         refused("loop of two commands", &[FAIL, FAIL].concat()),
-        refused("loop of tag 0x58", &[0x58, 0, 0]),
+        refused("loop of tag 0x5a", &[0x5a, 0, 0]),
     ]
 }
 
@@ -153,23 +153,31 @@ fn form_of_empty_commands() -> Vec<Images> {
     ]
 }
 
+/// Puts a command inside of another.
+pub(super) type Wrap = fn(Command) -> Command;
+
+/// Each place inside of a command, with its name for many of them.
+pub(super) const WRAPS: [(&str, Wrap); 8] = [
+    ("sequences", |inner| Sequence(vec![inner])),
+    ("loops", looped),
+    ("if guards", |inner| if_command(inner, Skip, Skip)),
+    ("if thens", |inner| if_command(Skip, inner, Skip)),
+    ("if elses", |inner| if_command(Skip, Skip, inner)),
+    ("try guards", |inner| try_command(inner, Skip, Skip)),
+    ("try thens", |inner| try_command(Skip, inner, Skip)),
+    ("try elses", |inner| try_command(Skip, Skip, inner)),
+];
+
+/// The command so many times wrapped.
+pub(super) fn wrapped(wrap: Wrap, inner: Command, times: usize) -> Command {
+    (0..times).fold(inner, |command, _| wrap(command))
+}
+
 /// A command of depth 17.
 pub(super) fn images_of_depth() -> Vec<Images> {
-    let wraps: [(&str, fn(Command) -> Command); 8] = [
-        ("sequences", |inner| Sequence(vec![inner])),
-        ("loops", looped),
-        ("if guards", |inner| if_command(inner, Skip, Skip)),
-        ("if thens", |inner| if_command(Skip, inner, Skip)),
-        ("if elses", |inner| if_command(Skip, Skip, inner)),
-        ("try guards", |inner| try_command(inner, Skip, Skip)),
-        ("try thens", |inner| try_command(Skip, inner, Skip)),
-        ("try elses", |inner| try_command(Skip, Skip, inner)),
-    ];
     let mut list = Vec::new();
-    for (words, wrap) in wraps {
-        let nested = |inner: &Command, wraps: usize| {
-            program((0..wraps).fold(inner.clone(), |command, _| wrap(command)))
-        };
+    for (words, wrap) in WRAPS {
+        let nested = |inner: &Command, times: usize| program(wrapped(wrap, inner.clone(), times));
         for inner in [Skip, Fail, call(0)] {
             let name = format!("depth 17 by {words} around {inner:?}");
             list.push(images(name, &nested(&inner, 15), &nested(&inner, 16)));

@@ -1,4 +1,4 @@
-//! What the refusals 14 to 18 share: a legal rule, and images made from it. With the refusal 14.
+//! What the refusals 14 to 19 share: a legal rule, and images made from it or from procedures. With the refusal 14.
 
 use super::{refusal, run_with, Refusal, RunCall};
 use crate::build::{self, edge, node};
@@ -59,7 +59,16 @@ pub(super) fn command_of_bytes(bytes: usize) -> Command {
 /// An image of one legal rule and this command.
 pub(super) fn program(main: Command) -> Vec<u8> {
     let rules = vec![rule()];
-    encode::program(&Program { rules, main })
+    encode::program(&Program::without_procedures(rules, main))
+}
+
+/// An image of these procedures and this command, without rules.
+pub(super) fn with_procedures(procedures: &[Command], main: Command) -> Vec<u8> {
+    encode::program(&Program {
+        rules: vec![],
+        procedures: procedures.to_vec(),
+        main,
+    })
 }
 
 /// A rule that uses each kind of reference. Its variables are an int, a list and an int that it doesn't use.

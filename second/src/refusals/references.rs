@@ -1,14 +1,16 @@
 //! The refusals 17.
 
-use super::programs::{images, one, program, rule, Images};
+use super::programs::{images, one, program, rule, with_procedures, Images};
 use crate::build::{call, if_command, looped, try_command};
 use crate::encode;
-use crate::tree::Command::{self, RuleSet, Sequence, Skip};
-use crate::tree::{mark, Element, Operand, Program, Relation, Rule, TestKind, VariableType};
+use crate::tree::Command::{self, Procedure, RuleSet, Sequence, Skip};
+use crate::tree::{limit, mark, Element, Operand, Program, Relation, Rule, TestKind, VariableType};
 
 /// The number 17.
 pub(super) fn images_of_references() -> Vec<Images> {
     let mut images = references_of_commands();
+    images.extend(references_of_procedures());
+    images.extend(references_of_calls());
     images.extend(references_to_variables());
     images.extend(references_to_nodes());
     images.extend(references_of_left_labels());
@@ -45,6 +47,71 @@ fn references_of_commands() -> Vec<Images> {
     list
 }
 
+/// Rules that are named in a procedure, which is called or not.
+fn references_of_procedures() -> Vec<Images> {
+    let image = |body: Command, main: Command| {
+        encode::program(&Program {
+            rules: vec![Rule::default()],
+            procedures: vec![Skip, body],
+            main,
+        })
+    };
+    let bodies: [(&str, fn(u8) -> Command); 3] = [
+        ("alone", call),
+        ("last of eight", |n| RuleSet(vec![0, 0, 0, 0, 0, 0, 0, n])),
+        ("in a guard", |n| if_command(call(n), Skip, Skip)),
+    ];
+    let mut list = Vec::new();
+    for (words, body) in bodies {
+        for (called, main) in [("called", Procedure(1)), ("not called", Skip)] {
+            let of = |number| image(body(number), main.clone());
+            let name = format!("rule 1 of one in a procedure that is {called}, {words}");
+            list.push(images(name, &of(0), &of(1)));
+        }
+    }
+    list
+}
+
+/// Procedures that are named in the main command, and in a procedure, which is called or not.
+fn references_of_calls() -> Vec<Images> {
+    let places: [(&str, fn(u8) -> Command); 7] = [
+        ("alone", Procedure),
+        ("behind a call", |n| {
+            Sequence(vec![Procedure(0), Procedure(n)])
+        }),
+        ("in a guard", |n| if_command(Procedure(n), Skip, Skip)),
+        ("in a then", |n| try_command(Skip, Procedure(n), Skip)),
+        ("in an else", |n| try_command(Skip, Skip, Procedure(n))),
+        ("in a loop", |n| looped(Procedure(n))),
+        ("in a sequence", |n| Sequence(vec![Skip, Procedure(n)])),
+    ];
+    let mut list = Vec::new();
+    for (words, command) in places {
+        let main = |number| with_procedures(&[Skip], command(number));
+        list.push(images(
+            format!("procedure 1 of one, {words}"),
+            &main(0),
+            &main(1),
+        ));
+    }
+    for (words, command) in &places[..3] {
+        for (called, main) in [("called", Procedure(1)), ("not called", Skip)] {
+            let of = |number| with_procedures(&[Skip, command(number)], main.clone());
+            let name = format!("procedure 2 of two in one that is {called}, {words}");
+            list.push(images(name, &of(0), &of(2)));
+        }
+    }
+    let one = |number| with_procedures(&[Skip], Procedure(number));
+    let all = |number| with_procedures(&vec![Skip; limit::PROCEDURES], Procedure(number));
+    let none = encode::command(&Procedure(0));
+    list.extend([
+        images("procedure 255 of one", &one(0), &one(255)),
+        images("procedure 16 of sixteen", &all(15), &all(16)),
+        images("procedure 0 of none", &one(0), &none),
+    ]);
+    list
+}
+
 /// The legal rule, and the same with an edit.
 fn edited(name: impl Into<String>, refused: impl Fn(&mut Rule)) -> Images {
     neighbours(name, |_| (), refused)
@@ -62,10 +129,7 @@ fn neighbours(
 fn image_with(edit: impl Fn(&mut Rule)) -> Vec<u8> {
     let mut rule = rule();
     edit(&mut rule);
-    encode::program(&Program {
-        rules: vec![rule],
-        main: Skip,
-    })
+    encode::program(&Program::without_procedures(vec![rule], Skip))
 }
 
 /// Puts the variable of a number somewhere in a rule.

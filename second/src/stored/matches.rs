@@ -88,10 +88,11 @@ pub fn seen() -> Seen {
     seen
 }
 
-/// The groupings are left out: they differ in commands, which no match looks at.
+/// The groupings and the procedures are left out: they differ in commands, which no match looks at.
 pub fn pairs() -> Vec<Pairs> {
-    let groupings: Vec<Vec<u8>> = corpus::groupings().iter().map(encode::runner_input).collect();
-    let images = corpus::images(2, corpus::fixed_count() + DRAWN).into_iter().filter(|image| !groupings.contains(image));
+    let left_out = [corpus::groupings(), corpus::procedures()].concat();
+    let left_out: Vec<Vec<u8>> = left_out.iter().map(encode::runner_input).collect();
+    let images = corpus::images(2, corpus::fixed_count() + DRAWN).into_iter().filter(|image| !left_out.contains(image));
     let (refused, started): (Vec<Pairs>, Vec<Pairs>) =
         images.filter_map(|image| drawn_pairs(&image)).partition(|pair| super::refused_by(&pair.call()) != 0);
     let few = refused.into_iter().rev().take(REFUSED);
@@ -151,7 +152,7 @@ fn full_pairs(index: u64) -> Pairs {
             rules.push(rule);
         }
     }
-    let program = Program { rules, main: Command::Skip };
+    let program = Program::without_procedures(rules, Command::Skip);
     Pairs { nodes: host.node_table(LAYOUT), edges: host.edge_table(LAYOUT), program: encode::program(&program) }
 }
 

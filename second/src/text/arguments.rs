@@ -1,20 +1,23 @@
 //! The command line of `gp2`.
 
+use super::keeping::Procedures;
 use super::sizes::Sizes;
 use std::slice::Iter;
 
 pub const HELP: &str = "\
 gp2: text tools for graph program images
 
-gp2 asm PROGRAM [--host GRAPH] [--fuel N] [--records N] [--nodes N] [--edges N] -o IMAGE
+gp2 asm PROGRAM [--host GRAPH] [--fuel N] [--records N] [--nodes N] [--edges N]
+        [--write-out] -o IMAGE
     Assembles a program in GP 2 notation. Without a host graph IMAGE is a program
     image; with one (from GRAPH, or in PROGRAM behind the word `host`) it is a whole
-    runner image.
+    runner image. Procedures stay procedures where an image can hold them.
       --host GRAPH   the host graph, as [ nodes | edges ]
       --fuel N       0 to 1000000, usually 100000
       --records N    journal records, 0 to 1024, usually 1024
       --nodes N      node slots, up to 512, usually the graph's and 16 free ones
       --edges N      edge slots, up to 1024, usually the graph's and 16 free ones
+      --write-out    writes every procedure out where it is called
       -o IMAGE       the file to write
 
 gp2 dis IMAGE [--host]
@@ -54,6 +57,7 @@ pub struct AssembleTask {
     pub program: String,
     pub host: Option<String>,
     pub sizes: Sizes,
+    pub procedures: Procedures,
     pub image: String,
 }
 
@@ -118,10 +122,12 @@ fn set_file(place: &mut Option<String>, argument: &str, what: &str) -> Result<()
 fn assemble_task(arguments: &[String]) -> Result<AssembleTask, String> {
     let (mut program, mut host, mut image) = (None, None, None);
     let mut sizes = Sizes::default();
+    let mut procedures = Procedures::Kept;
     let mut rest = arguments.iter();
     while let Some(argument) = rest.next() {
         match argument.as_str() {
             "-o" => set_file(&mut image, value(argument, &mut rest)?, "-o")?,
+            "--write-out" => procedures = Procedures::WrittenOut,
             "--host" => set_file(&mut host, value(argument, &mut rest)?, "--host")?,
             "--fuel" | "--records" | "--nodes" | "--edges" => {
                 let set = sizes.set(&argument[2..], value(argument, &mut rest)?);
@@ -129,7 +135,7 @@ fn assemble_task(arguments: &[String]) -> Result<AssembleTask, String> {
             }
             file if is_file(file) => set_file(&mut program, file, "PROGRAM")?,
             option => {
-                let options = "--host, --fuel, --records, --nodes, --edges or -o";
+                let options = "--host, --fuel, --records, --nodes, --edges, --write-out or -o";
                 return Err(format!("no option `{option}`, expected {options}"));
             }
         }
@@ -138,6 +144,7 @@ fn assemble_task(arguments: &[String]) -> Result<AssembleTask, String> {
         program: program.ok_or("no PROGRAM, expected a file or -")?,
         host,
         sizes,
+        procedures,
         image: image.ok_or(NO_OUTPUT)?,
     })
 }

@@ -2,7 +2,8 @@
 
 use super::complaint::{Complaint, Place, Problem};
 use super::host_graph::{host_graph, HostGraph};
-use super::lower_commands::main_command;
+use super::keeping::{no_numbers, numbers, Numbers, Procedures};
+use super::lower_commands::{commands, Obstacle};
 use super::parse_host;
 use super::parse_program;
 use super::scopes::Scopes;
@@ -10,7 +11,7 @@ use super::sizes::{Sizes, USUAL_FUEL, USUAL_RECORDS};
 use super::syntax::{HostText, ProgramText};
 use crate::encode::{self, RunnerInput};
 use crate::tree::{limit, Program};
-use crate::{decode, placement, references};
+use crate::{decode, depth, placement, references};
 
 /// What a program text stands for.
 #[derive(Clone, Debug, PartialEq, Eq)]
@@ -28,7 +29,16 @@ pub struct HostSection {
 
 /// A program with its host section, if it has one.
 pub fn assemble(file_name: &str, source: &str) -> Result<Assembly, Complaint> {
-    assembly(source).map_err(|problem| problem.in_file(file_name))
+    assemble_as(file_name, source, Procedures::Kept)
+}
+
+/// The same, where it is said what is to become of procedures.
+pub fn assemble_as(
+    file_name: &str,
+    source: &str,
+    procedures: Procedures,
+) -> Result<Assembly, Complaint> {
+    assembly(source, procedures).map_err(|problem| problem.in_file(file_name))
 }
 
 /// The program that a text stands for.
@@ -59,9 +69,9 @@ pub fn runner_input(
     })
 }
 
-fn assembly(source: &str) -> Result<Assembly, Problem> {
+fn assembly(source: &str, procedures: Procedures) -> Result<Assembly, Problem> {
     let text = parse_program::program(source)?;
-    let program = lower(&text)?;
+    let program = lower(&text, procedures)?;
     let host = text.host.as_ref().map(host_section).transpose()?;
     Ok(Assembly { program, host })
 }
@@ -84,36 +94,103 @@ fn host_section(text: &HostText) -> Result<HostSection, Problem> {
     Ok(HostSection { sizes, graph })
 }
 
-fn lower(text: &ProgramText) -> Result<Program, Problem> {
+fn lower(text: &ProgramText, procedures: Procedures) -> Result<Program, Problem> {
     let scopes = Scopes::of_program(text)?;
-    let main = main_command(&text.main, &scopes)?;
-    check_length(text, &scopes, encode::command(&main).len())?;
+    if procedures == Procedures::WrittenOut {
+        return lower_as(text, &scopes, &no_numbers(&scopes)).map_err(Problem::from);
+    }
+    match lower_as(text, &scopes, &numbers(&scopes)) {
+        Err(Obstacle::Depth(_)) => lower_deep(text, &scopes),
+        lowered => lowered.map_err(Problem::from),
+    }
+}
+
+/// The program with its procedures written out, since calls of them would lead too deep.
+fn lower_deep(text: &ProgramText, scopes: &Scopes) -> Result<Program, Problem> {
+    lower_as(text, scopes, &no_numbers(scopes)).map_err(|obstacle| match obstacle {
+        Obstacle::Length(Problem { place, message }) => {
+            let reason = "procedures are written out, since with calls of them commands would lie over 16 deep";
+            Problem::new(place, format!("{message} ({reason})"))
+        }
+        other => other.into(),
+    })
+}
+
+impl From<Obstacle> for Problem {
+    fn from(obstacle: Obstacle) -> Problem {
+        match obstacle {
+            Obstacle::Depth(problem) | Obstacle::Length(problem) | Obstacle::Other(problem) => {
+                problem
+            }
+        }
+    }
+}
+
+/// The program whose procedures have these numbers.
+fn lower_as(text: &ProgramText, scopes: &Scopes, numbers: &Numbers) -> Result<Program, Obstacle> {
+    let commands = commands(&text.main, scopes, numbers)?;
     let program = Program {
-        rules: scopes.rules,
-        main,
+        rules: scopes.rules.clone(),
+        procedures: commands.procedures,
+        main: commands.main,
     };
+    depth::check(&program)
+        .map_err(|fault| Obstacle::Depth(Problem::new(text.main.place, fault.reason)))?;
+    check_length(text, scopes, numbers, &program).map_err(Obstacle::Length)?;
     check_legal(&program)?;
     Ok(program)
 }
 
-/// Complains of the rule that makes the image too long, or of `Main` if its commands do.
-fn check_length(text: &ProgramText, scopes: &Scopes, main: usize) -> Result<(), Problem> {
-    let mut bytes = 0;
-    let most = limit::IMAGE_BYTES;
-    for (rule, place) in scopes.rules.iter().zip(&scopes.rule_places) {
-        bytes += encode::rule(rule).len();
-        if bytes > most {
-            let message =
-                format!("the rules up to this one take {bytes} bytes, expected at most {most}");
-            return Err(Problem::new(*place, message));
+/// Complains of the rule or procedure that makes the image too long, or of `Main` if its commands do.
+fn check_length(
+    text: &ProgramText,
+    scopes: &Scopes,
+    numbers: &Numbers,
+    program: &Program,
+) -> Result<(), Problem> {
+    let rules = program.rules.iter().map(|rule| encode::rule(rule).len());
+    let rules = rules.zip(scopes.rule_places.iter().copied());
+    let kept = scopes.procedures.iter().zip(numbers);
+    let places = kept.filter_map(|(procedure, number)| number.map(|_| procedure.name.place));
+    let procedures = program
+        .procedures
+        .iter()
+        .map(|it| encode::procedure(it).len());
+    let rules = add_lengths("rules", 0, rules)?;
+    let declared = add_lengths("rules and procedures", rules, procedures.zip(places))?;
+    let whole = declared + encode::command(&program.main).len();
+    match whole > limit::IMAGE_BYTES {
+        true => Err(too_long(text.main.place, "the image takes", whole)),
+        false => Ok(()),
+    }
+}
+
+/// These bytes and those of the parts of an image, each of which has a place in the text.
+fn add_lengths(
+    words: &str,
+    before: usize,
+    parts: impl Iterator<Item = (usize, Place)>,
+) -> Result<usize, Problem> {
+    let mut bytes = before;
+    for (length, place) in parts {
+        bytes += length;
+        if bytes > limit::IMAGE_BYTES {
+            return Err(too_long(
+                place,
+                &format!("the {words} up to this one take"),
+                bytes,
+            ));
         }
     }
-    let whole = bytes + main;
-    if whole > most {
-        let message = format!("the image takes {whole} bytes, expected at most {most}");
-        return Err(Problem::new(text.main.place, message));
-    }
-    Ok(())
+    Ok(bytes)
+}
+
+fn too_long(place: Place, what: &str, bytes: usize) -> Problem {
+    let most = limit::IMAGE_BYTES;
+    Problem::new(
+        place,
+        format!("{what} {bytes} bytes, expected at most {most}"),
+    )
 }
 
 /// A last look with the interpreter's own checks, which the lowering has made with places already.
@@ -124,6 +201,7 @@ fn check_legal(program: &Program) -> Result<(), Problem> {
         Ok(_) => references::check(program).err(),
     };
     let fault = fault.or_else(|| (!placement::check(program)).then(|| "placement".to_string()));
+    let fault = fault.or_else(|| depth::check(program).err().map(|fault| fault.reason));
     match fault {
         None => Ok(()),
         Some(fault) => {

@@ -8,7 +8,7 @@ use crate::encode::RunnerInput;
 use crate::host::Host;
 use crate::listing::INPUT_BYTES;
 use crate::tree::{self, Command, Program};
-use crate::{decode, old_form, placement, references};
+use crate::{decode, depth, old_form, placement, references};
 use std::fmt;
 
 /// Where reading an image stopped, and why.
@@ -227,6 +227,7 @@ pub fn program(image: &[u8], start: usize) -> Result<Program, Fault> {
     })?;
     check_references(&program, start)?;
     check_placement(&program, start)?;
+    check_depth(&program, start)?;
     Ok(program)
 }
 
@@ -256,10 +257,10 @@ fn check_references(program: &Program, start: usize) -> Result<(), Fault> {
         let at = start + offset_of_rule(program, number);
         return Err(fault(at, "references", reason, answer::REFERENCES));
     }
-    let rules = program.rules.len();
-    let names_too_much = |command: &Command, _| match command {
-        Command::RuleSet(numbers) => numbers.iter().any(|number| usize::from(*number) >= rules),
-        _ => false,
+    let (rules, procedures) = (program.rules.len(), program.procedures.len());
+    let names_too_much = |command: &Command, _| {
+        references::named_rules_exist(command, rules).is_err()
+            || references::named_procedure_exists(command, procedures).is_err()
     };
     let at = start + offset_of_command(program, &names_too_much);
     Err(fault(at, "references", reason, answer::REFERENCES))
@@ -273,6 +274,20 @@ fn check_placement(program: &Program, start: usize) -> Result<(), Fault> {
         + offset_of_command(program, &|command, in_body| {
             *command == Command::Break && !in_body
         });
-    let expected = "expected a loop around the break with no guard of if or try between";
+    let placed = |body: &Command| placement::breaks_are_placed(body, false);
+    let around = match program.procedures.iter().all(placed) {
+        true => "a loop",
+        false => "a loop of the same procedure",
+    };
+    let expected = format!("expected {around} around the break with no guard of if or try between");
     Err(fault(at, "placement", expected, answer::PLACEMENT))
+}
+
+/// The call at fault is found by where it lies in memory: others may be equal to it.
+fn check_depth(program: &Program, start: usize) -> Result<(), Fault> {
+    let Err(depth::Fault { call, reason }) = depth::check(program) else {
+        return Ok(());
+    };
+    let at = start + offset_of_command(program, &|command, _| std::ptr::eq(command, call));
+    Err(fault(at, "depth", reason, answer::DEPTH))
 }

@@ -1,7 +1,9 @@
-//! From commands as written to the command of the image: procedures are written out, rule names become
-//! numbers, long sequences are grouped; depth and the places of `break` are checked on the way.
+//! From commands as written to the commands of the image: procedures that aren't kept are written out, names become
+//! numbers, long sequences are grouped; depth and the places of `break` are checked on the way. How deep calls of
+//! kept procedures lead is not looked at here.
 
 use super::complaint::{Place, Problem};
+use super::keeping::Numbers;
 use super::scopes::{Meaning, Scopes};
 use super::syntax::*;
 use crate::build::guarded;
@@ -38,42 +40,69 @@ impl Position {
     }
 }
 
-/// The main command, written out.
-pub fn main_command(main: &MainText, scopes: &Scopes) -> Result<Command, Problem> {
+/// Why commands can't be put in terms of the image.
+pub enum Obstacle {
+    Depth(Problem),
+    Length(Problem),
+    Other(Problem),
+}
+
+impl From<Problem> for Obstacle {
+    fn from(problem: Problem) -> Obstacle {
+        Obstacle::Other(problem)
+    }
+}
+
+/// The commands of an image: those of its procedures, and the main one.
+pub struct Commands {
+    pub procedures: Vec<Command>,
+    pub main: Command,
+}
+
+/// The commands of an image whose procedures have these numbers.
+pub fn commands(main: &MainText, scopes: &Scopes, numbers: &Numbers) -> Result<Commands, Obstacle> {
     let mut lowering = Lowering {
         scopes,
+        numbers,
         commands: 0,
     };
-    lowering.command(
-        &main.body,
-        Scopes::OUTERMOST,
-        Position {
-            depth: 1,
-            in_loop: false,
-        },
-    )
+    let main = lowering.outermost(&main.body, Scopes::OUTERMOST)?;
+    let kept = scopes.procedures.iter().zip(numbers);
+    let procedures = kept
+        .filter(|(_, number)| number.is_some())
+        .map(|(procedure, _)| lowering.outermost(procedure.body, procedure.scope))
+        .collect::<Result<_, Obstacle>>()?;
+    Ok(Commands { procedures, main })
 }
 
 struct Lowering<'a> {
     scopes: &'a Scopes<'a>,
+    numbers: &'a Numbers,
     commands: usize,
 }
 
 impl Lowering<'_> {
+    /// The main command, or that of a procedure.
+    fn outermost(&mut self, text: &CommandText, scope: usize) -> Result<Command, Obstacle> {
+        let position = Position {
+            depth: 1,
+            in_loop: false,
+        };
+        self.command(text, scope, position)
+    }
+
     fn command(
         &mut self,
         text: &CommandText,
         scope: usize,
         position: Position,
-    ) -> Result<Command, Problem> {
+    ) -> Result<Command, Obstacle> {
         if let CommandKind::Call(name) = &text.kind {
             if let Meaning::Procedure(number) = self.scopes.find(name, text.place, scope)? {
-                let procedure = &self.scopes.procedures[number];
-                return self.command(procedure.body, procedure.scope, position);
+                return self.call(number, text.place, position);
             }
         }
-        self.count(text.place)?;
-        check_depth(text.place, position)?;
+        self.enter(text.place, position)?;
         match &text.kind {
             CommandKind::Call(name) => {
                 let name = Name { text: name.clone(), place: text.place };
@@ -87,15 +116,29 @@ impl Lowering<'_> {
             CommandKind::Skip => Ok(Command::Skip),
             CommandKind::Fail => Ok(Command::Fail),
             CommandKind::Break if position.in_loop => Ok(Command::Break),
-            CommandKind::Break => Err(Problem::new(
+            CommandKind::Break => Err(Obstacle::Other(Problem::new(
                 text.place,
                 "`break` outside of a loop's body, expected a loop around it with no guard of `if` or `try` between",
-            )),
+            ))),
         }
     }
 
-    /// Stops before an image that is far too long is built.
-    fn count(&mut self, place: Place) -> Result<(), Problem> {
+    /// The call of a kept procedure, or what a procedure that isn't kept has in it.
+    fn call(&mut self, number: usize, at: Place, position: Position) -> Result<Command, Obstacle> {
+        match self.numbers[number] {
+            Some(kept) => {
+                self.enter(at, position)?;
+                Ok(Command::Procedure(kept))
+            }
+            None => {
+                let procedure = &self.scopes.procedures[number];
+                self.command(procedure.body, procedure.scope, position)
+            }
+        }
+    }
+
+    /// Counts a command of the image and looks at its depth. Stops before an image that is far too long is built.
+    fn enter(&mut self, place: Place, position: Position) -> Result<(), Obstacle> {
         const LEAST_COMMAND_BYTES: usize = 3;
         self.commands += 1;
         if self.commands * LEAST_COMMAND_BYTES > limit::IMAGE_BYTES {
@@ -103,9 +146,9 @@ impl Lowering<'_> {
                 "the image gets too long here, expected at most {} bytes",
                 limit::IMAGE_BYTES
             );
-            return Err(Problem::new(place, message));
+            return Err(Obstacle::Length(Problem::new(place, message)));
         }
-        Ok(())
+        check_depth(place, position)
     }
 
     fn guarded(
@@ -114,7 +157,7 @@ impl Lowering<'_> {
         [guard, then, otherwise]: [&CommandText; 3],
         scope: usize,
         position: Position,
-    ) -> Result<Command, Problem> {
+    ) -> Result<Command, Obstacle> {
         Ok(guarded(
             keep,
             self.command(guard, scope, position.in_guard())?,
@@ -124,7 +167,12 @@ impl Lowering<'_> {
     }
 
     /// The numbers of the named rules. An empty set always fails, and is written as `fail`.
-    fn rule_set(&mut self, names: &[Name], place: Place, scope: usize) -> Result<Command, Problem> {
+    fn rule_set(
+        &mut self,
+        names: &[Name],
+        place: Place,
+        scope: usize,
+    ) -> Result<Command, Obstacle> {
         let mut numbers = Vec::new();
         for name in names {
             numbers.extend(self.scopes.find_rules(name, scope)?);
@@ -135,7 +183,7 @@ impl Lowering<'_> {
                 numbers.len(),
                 limit::RULE_NUMBERS
             );
-            return Err(Problem::new(place, message));
+            return Err(Obstacle::Other(Problem::new(place, message)));
         }
         Ok(if numbers.is_empty() {
             Command::Fail
@@ -149,7 +197,7 @@ impl Lowering<'_> {
         parts: &[CommandText],
         scope: usize,
         position: Position,
-    ) -> Result<Command, Problem> {
+    ) -> Result<Command, Obstacle> {
         let mut commands = Vec::new();
         for (index, part) in parts.iter().enumerate() {
             let mut inside = position.inside();
@@ -160,14 +208,14 @@ impl Lowering<'_> {
     }
 }
 
-fn check_depth(place: Place, position: Position) -> Result<(), Problem> {
+fn check_depth(place: Place, position: Position) -> Result<(), Obstacle> {
     if position.depth > limit::DEPTH {
         let message = format!(
             "a command of depth {}, expected at most {}",
             position.depth,
             limit::DEPTH
         );
-        return Err(Problem::new(place, message));
+        return Err(Obstacle::Depth(Problem::new(place, message)));
     }
     Ok(())
 }

@@ -1,7 +1,7 @@
 //! The text tools: the notation of GP 2 programs and host graphs, read and written.
 //!
 //! A text is cut into tokens (`lexer`), read as it is written (`parse_*` into `syntax`), and put in terms of
-//! the image (`scopes`, `lower_*`, `variables`, `bidirectional`, `host_graph`). The other way, `image` reads bytes and
+//! the image (`scopes`, `keeping`, `lower_*`, `variables`, `bidirectional`, `host_graph`). The other way, `image` reads bytes and
 //! `print_*` and `dot` write text. `renew` makes bytes of bytes.
 
 mod arguments;
@@ -13,6 +13,7 @@ mod dot;
 mod files;
 mod host_graph;
 mod image;
+mod keeping;
 mod lexer;
 mod lower_commands;
 mod lower_rules;
@@ -37,11 +38,14 @@ mod variables;
 use crate::layout::Layout;
 
 pub use arguments::{task, Task};
-pub use assemble::{assemble, assemble_program, read_graph, runner_input, Assembly, HostSection};
+pub use assemble::{
+    assemble, assemble_as, assemble_program, read_graph, runner_input, Assembly, HostSection,
+};
 pub use complaint::{Complaint, Place};
 pub use dot::drawing;
 pub use host_graph::{HostEdge, HostGraph, HostNode};
 pub use image::{grouped, Fault};
+pub use keeping::Procedures;
 pub use print_host::host_graph_text;
 pub use print_program::program_text;
 pub use renew::renew;

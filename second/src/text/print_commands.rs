@@ -15,11 +15,11 @@ enum Role {
     Block,
 }
 
-/// The line or lines of `Main`.
-pub fn main_text(main: &Command) -> String {
-    let head = "Main = ";
+/// The line or lines of `Main` or of a procedure.
+pub fn declaration(name: &str, command: &Command) -> String {
+    let head = format!("{name} = ");
     let indent = head.len();
-    match main {
+    match command {
         Command::Sequence(parts) if parts.len() > 1 => {
             let line = parts
                 .iter()
@@ -31,7 +31,7 @@ pub fn main_text(main: &Command) -> String {
             }
             format!("{head}{}\n", broken_parts(parts, indent))
         }
-        _ => format!("{head}{}\n", text(main, indent, Role::Part)),
+        _ => format!("{head}{}\n", text(command, indent, Role::Part)),
     }
 }
 
@@ -99,6 +99,7 @@ fn flat(command: &Command, role: Role) -> String {
         Command::Skip => "skip".to_string(),
         Command::Fail => "fail".to_string(),
         Command::Break => "break".to_string(),
+        Command::Procedure(number) => procedure_name(usize::from(*number)),
     }
 }
 
@@ -125,6 +126,11 @@ fn in_role(branching: String, role: Role) -> String {
         Role::Part => branching,
         Role::Block => format!("({branching})"),
     }
+}
+
+/// The name of the procedure of this number.
+pub fn procedure_name(number: usize) -> String {
+    format!("P{number}")
 }
 
 fn rule_set(numbers: &[u8]) -> String {

@@ -1,11 +1,14 @@
-//! A program tree as text that assembles to the same tree: rules r0, r1, .., variables i0 or x0 by their
-//! type, nodes n0, n1, .., edges e0, e1, ..
+//! A program tree as text that assembles to the same tree: procedures P0, P1, .., rules r0, r1, .., variables i0 or x0 by
+//! their type, nodes n0, n1, .., edges e0, e1, ..
 
-use super::print_commands::main_text;
+use super::print_commands::{declaration, procedure_name};
 use crate::tree::*;
 
 pub fn program_text(program: &Program) -> String {
-    let mut text = main_text(&program.main);
+    let mut text = declaration("Main", &program.main);
+    for (number, body) in program.procedures.iter().enumerate() {
+        text.push_str(&declaration(&procedure_name(number), body));
+    }
     for (number, rule) in program.rules.iter().enumerate() {
         text.push('\n');
         text.push_str(&rule_text(number, rule));

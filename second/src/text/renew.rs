@@ -1,4 +1,5 @@
-//! Rewriting an image of the old form in today's. Form alone is asked for: references and placement are the same in both.
+//! Rewriting an image of the old form in today's. Form alone is asked for: references and placement are the same in both, and
+//! without calls the depth is a matter of form.
 
 use super::image::{grouped, is_runner_image, runner_image};
 use crate::decode::{self, Damage};
@@ -46,8 +47,13 @@ fn not_old(image: &[u8], start: usize, damage: &Damage) -> String {
         field,
         expected,
     } = damage;
+    let only_today = match image.get(*at) {
+        Some(0x17) => "procedures (0x17)",
+        Some(0x58) => "calls (0x58)",
+        _ => "guarded commands (0x59)",
+    };
     match decode::program(image) {
-        Ok(_) => "an image of today's form already, with guarded commands (0x59)".to_string(),
+        Ok(_) => format!("an image of today's form already, with {only_today}"),
         Err(_) => format!(
             "offset {}, {field}: expected {expected}; this is no image of the old form",
             start + at

@@ -14,6 +14,7 @@ const MOST_CALLS: usize = 32;
 
 pub struct Scopes<'a> {
     scopes: Vec<Scope<'a>>,
+    /// In the order in which their declarations begin.
     pub procedures: Vec<Procedure<'a>>,
     /// The rules of the image, in the order of their declarations.
     pub rules: Vec<Rule>,
@@ -35,7 +36,7 @@ pub enum Meaning {
 }
 
 pub struct Procedure<'a> {
-    name: &'a str,
+    pub name: &'a Name,
     pub body: &'a CommandText,
     /// The scope of its local declarations.
     pub scope: usize,
@@ -95,13 +96,13 @@ impl<'a> Scopes<'a> {
     }
 
     fn add_procedure(&mut self, scope: usize, text: &'a ProcedureText) -> Result<(), Problem> {
-        let inner = self.add_scope(Some(scope), &text.locals)?;
         let number = self.procedures.len();
         self.procedures.push(Procedure {
-            name: &text.name.text,
+            name: &text.name,
             body: &text.body,
-            scope: inner,
+            scope: self.scopes.len(),
         });
+        self.add_scope(Some(scope), &text.locals)?;
         self.name(scope, &text.name, Meaning::Procedure(number))
     }
 
@@ -197,7 +198,7 @@ impl CallCheck<'_> {
     fn ring(&self, start: usize) -> String {
         let names: Vec<&str> = self.row[start..]
             .iter()
-            .map(|number| self.scopes.procedures[*number].name)
+            .map(|number| self.scopes.procedures[*number].name.text.as_str())
             .collect();
         let (first, ring) = (names[0], names.join(" calls "));
         format!("a ring of calls ({ring} calls {first}), expected procedures that don't call themselves")

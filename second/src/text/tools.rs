@@ -1,7 +1,7 @@
 //! What the subcommands do.
 
 use super::arguments::{AssembleTask, Task, HELP};
-use super::assemble::{assemble, read_graph, runner_input, HostSection};
+use super::assemble::{assemble_as, read_graph, runner_input, HostSection};
 use super::dot::drawing;
 use super::files::{read_bytes, read_text, write_bytes};
 use super::image::{is_runner_image, program, runner_image, RunnerImage, IN_OLD_FORM};
@@ -50,7 +50,8 @@ fn made<T>(image: &str, tool: fn(&[u8]) -> Result<T, String>) -> Result<T, Strin
 /// The bytes of the image that a program, and a host graph if there is one, make.
 fn assembled(task: &AssembleTask) -> Result<Vec<u8>, String> {
     let source = read_text(&task.program)?;
-    let assembly = assemble(&task.program, &source).map_err(|complaint| complaint.to_string())?;
+    let assembly = assemble_as(&task.program, &source, task.procedures)
+        .map_err(|complaint| complaint.to_string())?;
     let Some((file, host)) = host_of(task, assembly.host)? else {
         return Ok(encode::program(&assembly.program));
     };

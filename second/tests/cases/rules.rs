@@ -37,7 +37,7 @@ pub fn find() -> Rule {
 
 pub fn image(rules: &[Rule], main: Command) -> Vec<u8> {
     let rules = rules.to_vec();
-    encode::program(&Program { rules, main })
+    encode::program(&Program::without_procedures(rules, main))
 }
 
 /// A run of one rule by itself.

@@ -1,4 +1,5 @@
-//! Small random runs: a host, rules sampled from it so that they tend to match, and a command tree. Beside them, runs of a corpus.
+//! Small random runs: a host, rules sampled from it so that they tend to match, procedures and a command tree. Beside them, runs of a
+//! corpus.
 
 use second::build::{guarded, looped};
 use second::calls::{Outcome, RunCall};
@@ -13,7 +14,7 @@ use second::tree::*;
 
 pub const DRAFTS: u64 = 10_000;
 const CORPUS_SEED: u64 = 20;
-const CORPUS_IMAGES: u64 = 2_000;
+const CORPUS_IMAGES: u64 = 2_300;
 
 pub fn drafts() -> impl Iterator<Item = Draft> {
     (0..DRAFTS).map(Draft::new)
@@ -83,14 +84,26 @@ impl Draft {
         let rules: Vec<Rule> = (0..random.between(1, 4))
             .map(|_| rule(random, &host))
             .collect();
-        let main = command(random, rules.len(), 4, false);
+        let count = random.pick(&[0, 0, 1, 2, 3]);
+        let names = |procedures: usize| Names {
+            rules: rules.len(),
+            procedures,
+        };
+        let procedures = (0..count)
+            .map(|number| command(random, &names(number), 4, false))
+            .collect();
+        let main = command(random, &names(count), 4, false);
         let fuel = match random.below(4) {
             0 => random.between(0, 6),
             _ => random.between(7, 80),
         };
         Draft {
             host,
-            program: Program { rules, main },
+            program: Program {
+                rules,
+                procedures,
+                main,
+            },
             fuel: fuel as u32,
             records: random.pick(&[2, 8, 20, 40, 60, 80]),
         }
@@ -168,7 +181,7 @@ fn rule(random: &mut Random, host: &Host) -> Rule {
         values: vec![],
     };
     let left = sampling.left(host, &nodes, &edges);
-    let interface = match sampling.random.chance(65) {
+    let interface = match sampling.random.chance(60) {
         true => nodes.len(),
         false => sampling.random.between(0, nodes.len()),
     };
@@ -373,12 +386,19 @@ impl Sampling<'_> {
     }
 }
 
+/// What a command may name: so many rules and so many procedures. A procedure names lower ones alone, and with four levels each main
+/// command and three procedures come to sixteen.
+struct Names {
+    rules: usize,
+    procedures: usize,
+}
+
 /// A command of at most this depth, a small one in 3 of 10 draws; `in_body` where a break may stand.
-fn command(random: &mut Random, rules: usize, depth: usize, in_body: bool) -> Command {
+fn command(random: &mut Random, names: &Names, depth: usize, in_body: bool) -> Command {
     if depth == 1 || random.chance(30) {
-        return small_command(random, rules, in_body);
+        return small_command(random, names, in_body);
     }
-    let inner = |random: &mut Random, in_body: bool| command(random, rules, depth - 1, in_body);
+    let inner = |random: &mut Random, in_body: bool| command(random, names, depth - 1, in_body);
     match random.below(10) {
         0..=4 => {
             let count = random.between(1, 4);
@@ -394,14 +414,19 @@ fn command(random: &mut Random, rules: usize, depth: usize, in_body: bool) -> Co
     }
 }
 
-fn small_command(random: &mut Random, rules: usize, in_body: bool) -> Command {
+fn small_command(random: &mut Random, names: &Names, in_body: bool) -> Command {
     match random.below(10) {
         0 => Command::Skip,
         1 => Command::Fail,
         2 if in_body => Command::Break,
+        3..=5 if names.procedures > 0 => Command::Procedure(random.below(names.procedures) as u8),
         _ => {
             let count = random.between(1, 3);
-            Command::RuleSet((0..count).map(|_| random.below(rules) as u8).collect())
+            Command::RuleSet(
+                (0..count)
+                    .map(|_| random.below(names.rules) as u8)
+                    .collect(),
+            )
         }
     }
 }

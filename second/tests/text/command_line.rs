@@ -126,6 +126,24 @@ fn asm_writes_a_program_image_without_a_host() {
 }
 
 #[test]
+fn asm_keeps_procedures_unless_it_is_told_to_write_them_out() {
+    let place = Place::new("procedures");
+    place.write("p.gp2", b"Main = P; P P = skip; fail");
+    assert_done(&place.gp2(&["asm", "p.gp2", "-o", "kept"]));
+    assert_done(&place.gp2(&["asm", "--write-out", "p.gp2", "-o", "out"]));
+    let body = [0x51, 0, 6, 0x55, 0, 0, 0x56, 0, 0];
+    let calls = [0x51, 0, 8, 0x58, 0, 1, 0, 0x58, 0, 1, 0];
+    assert_eq!(
+        place.read("kept"),
+        [&[0x17, 0, 9], &body[..], &calls].concat()
+    );
+    assert_eq!(
+        place.read("out"),
+        [&[0x51, 0, 18], &body[..], &body].concat()
+    );
+}
+
+#[test]
 fn asm_replaces_an_image_that_is_there() {
     let place = Place::new("replaces");
     place.write("p.image", b"old");
@@ -283,7 +301,7 @@ const MISUSES: &[(&[&str], &str)] = &[
     ),
     (
         &["asm", "p.gp2", "--slots", "x"],
-        "no option `--slots`, expected --host, --fuel, --records, --nodes, --edges or -o",
+        "no option `--slots`, expected --host, --fuel, --records, --nodes, --edges, --write-out or -o",
     ),
     (
         &["asm", "p.gp2", "--fuel", "1000001"],
@@ -366,6 +384,7 @@ fn help_is_printed_on_the_standard_output() {
             "gp2 dis IMAGE",
             "gp2 dot IMAGE",
             "gp2 renew OLD -o NEW",
+            "--write-out",
             "--after",
             "100000",
         ] {

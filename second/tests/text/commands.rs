@@ -1,4 +1,4 @@
-//! Each form of a command and of a procedure.
+//! Each form of a command.
 
 use super::helpers::*;
 use second::tree::{limit, Command};
@@ -159,48 +159,6 @@ fn a_break_may_stand_in_a_branch_inside_a_loop() {
 }
 
 #[test]
-fn a_procedure_is_written_out_where_it_is_called() {
-    let text = "Main = Both; One!\nBoth = a; b\nOne = c";
-    let expected = sequence(&[sequence(&[call(0), call(1)]), looped(call(2))]);
-    assert_eq!(main_command(text), expected);
-}
-
-#[test]
-fn procedures_may_call_others_and_stand_before_or_behind_them() {
-    let text =
-        "Outer = try Inner else skip\nMain = Outer\nInner = {a, b}; Innermost\nInnermost = c!";
-    let inner = sequence(&[Command::RuleSet(vec![0, 1]), looped(call(2))]);
-    assert_eq!(
-        main_command(text),
-        try_command(inner, Command::Skip, Command::Skip)
-    );
-}
-
-#[test]
-fn a_break_in_a_procedure_belongs_to_the_loop_around_the_call() {
-    let text = "Main = (a; Stop)!\nStop = if b then break";
-    let stop = if_command(call(1), Command::Break, Command::Skip);
-    assert_eq!(main_command(text), looped(sequence(&[call(0), stop])));
-}
-
-#[test]
-fn local_declarations_are_seen_inside_alone_and_hide_outer_ones() {
-    let text = "
-Main = P; a
-P = [
-  a(x: list) [ (n, x) | ] => [ | ] interface = {}
-  Q = a!
-] a; Q; b
-a() [ | ] => [ | ] interface = {}
-b() [ | ] => [ | ] interface = {}";
-    let program = program(text);
-    assert_eq!(program.rules.len(), 3);
-    assert_eq!(program.rules[0].left.nodes.len(), 1);
-    let inner = sequence(&[call(0), looped(call(0)), call(2)]);
-    assert_eq!(program.main, sequence(&[inner, call(1)]));
-}
-
-#[test]
 fn sixteen_commands_are_one_sequence_and_more_are_grouped_by_sixteen() {
     let parts = |count: usize| vec![Command::Skip; count];
     let text = |count: usize| format!("Main = {}", vec!["skip"; count].join("; "));
@@ -270,5 +228,7 @@ fn the_example_of_the_documentation_assembles() {
     assert_eq!(program.rules.len(), 5);
     let reduce = try_command(call(1), Command::Skip, Command::RuleSet(vec![2, 3]));
     let check = if_command(call(4), Command::Fail, Command::Skip);
-    assert_eq!(program.main, sequence(&[call(0), looped(reduce), check]));
+    assert_eq!(program.procedures, [reduce]);
+    let reduced = looped(Command::Procedure(0));
+    assert_eq!(program.main, sequence(&[call(0), reduced, check]));
 }

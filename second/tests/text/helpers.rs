@@ -1,7 +1,7 @@
 //! Short ways to assemble a text and to build what it should give.
 
 pub use second::build::{call, edge, if_command, looped, node, try_command};
-use second::text::assemble_program;
+use second::text::{assemble_as, assemble_program, Procedures};
 use second::tree::*;
 
 /// Declarations of rules a, b and c, which do nothing, so that commands have something to call.
@@ -24,6 +24,14 @@ interface = {n1, n2}
 
 pub fn program(source: &str) -> Program {
     assemble_program("test", source).unwrap_or_else(|complaint| panic!("{complaint}\n{source}"))
+}
+
+/// The program with its procedures written out.
+pub fn written_out(source: &str) -> Program {
+    let assembly = assemble_as("test", source, Procedures::WrittenOut);
+    assembly
+        .unwrap_or_else(|complaint| panic!("{complaint}\n{source}"))
+        .program
 }
 
 /// The one rule of a program whose text is this rule.

@@ -90,10 +90,7 @@ fn tables_are_refused_with_too_few_or_too_many_slots() {
 
 #[test]
 fn a_runner_input_takes_its_usual_numbers() {
-    let program = Program {
-        rules: vec![],
-        main: Command::Skip,
-    };
+    let program = Program::without_procedures(vec![], Command::Skip);
     let graph = graph("[ (1, 5) (2, 6) | (1, 1, 2, empty) ]");
     let input = runner_input(&program, &graph, &Sizes::default()).expect("legal");
     assert_eq!((input.fuel, input.records), (100_000, 1024));

@@ -21,7 +21,7 @@ fn delete() -> Rule {
 }
 
 fn image(rules: Vec<Rule>, main: Command) -> Vec<u8> {
-    encode::program(&Program { rules, main })
+    encode::program(&Program::without_procedures(rules, main))
 }
 
 fn runner(program: Vec<u8>) -> RunnerInput {
@@ -47,7 +47,7 @@ fn damaged_forms_say_where_reading_stopped() {
     let cases = [
         (
             Vec::new(),
-            "offset 0, program: expected a command: tag 0x50, 0x51, 0x54 to 0x57, or 0x59; a run answers 16",
+            "offset 0, program: expected a command: tag 0x50, 0x51, or 0x54 to 0x59; a run answers 16",
         ),
         (
             with_byte(&legal, 12, 5),

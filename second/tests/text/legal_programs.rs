@@ -1,6 +1,7 @@
 //! Random legal programs of every shape that an image can have.
 
 use second::build::{guarded, looped};
+use second::depth;
 use second::encode;
 use second::random::Random;
 use second::tree::*;
@@ -10,34 +11,66 @@ pub fn program(random: &mut Random) -> Program {
     loop {
         let (rules, items) = random.pick(&[(0, 0), (1, 6), (2, 6), (5, 6), (limit::RULES, 1)]);
         let rules: Vec<Rule> = (0..rules).map(|_| rule(random, items)).collect();
-        let depth = random.pick(&[1, 3, 6, limit::DEPTH]);
-        let most = random.pick(&[1, 10, 100, 1000]);
-        let mut commands = Commands {
-            random,
-            rules: rules.len(),
-            most,
+        let count = random.pick(&[0, 0, 0, 1, 3, limit::PROCEDURES]);
+        let depth = match count {
+            0 => random.pick(&[1, 3, 6, limit::DEPTH]),
+            _ => random.pick(&[1, 2, 3, 6]),
         };
-        let main = commands.command(depth, false);
-        let program = Program { rules, main };
-        if encode::program(&program).len() <= limit::IMAGE_BYTES {
+        let most = random.pick(&[1, 10, 100, 1000]) / (count + 1);
+        let (procedures, main) = commands(random, rules.len(), count, depth, most);
+        let program = Program {
+            rules,
+            procedures,
+            main,
+        };
+        if encode::program(&program).len() <= limit::IMAGE_BYTES && depth::check(&program).is_ok() {
             return program;
         }
     }
 }
 
-/// Commands over so many rules, until `most` were made; then only the smallest follow.
+/// So many procedures and a main command. Each procedure calls those alone that come later in a row of any order.
+fn commands(
+    random: &mut Random,
+    rules: usize,
+    count: usize,
+    depth: usize,
+    most: usize,
+) -> (Vec<Command>, Command) {
+    let mut row: Vec<u8> = (0..count as u8).collect();
+    random.shuffle(&mut row);
+    let mut procedures = vec![Command::Skip; count];
+    let mut command = |callable: &[u8]| {
+        let callable = callable.to_vec();
+        let mut commands = Commands {
+            random,
+            rules,
+            callable,
+            most,
+        };
+        commands.command(depth, false)
+    };
+    for (place, number) in row.iter().enumerate() {
+        procedures[usize::from(*number)] = command(&row[place + 1..]);
+    }
+    (procedures, command(&row))
+}
+
+/// Commands over so many rules and these procedures, until `most` were made; then only the smallest follow.
 struct Commands<'a> {
     random: &'a mut Random,
     rules: usize,
+    callable: Vec<u8>,
     most: usize,
 }
 
 impl Commands<'_> {
     fn command(&mut self, depth: usize, in_loop: bool) -> Command {
+        let calls = if self.callable.is_empty() { 0 } else { 2 };
         let weights = match depth {
-            _ if self.most == 0 => [4, 0, 0, 0, 0, 1, 1, 1],
-            1 => [4, 0, 0, 0, 0, 1, 1, 1],
-            _ => [2, 3, 1, 1, 3, 1, 1, 1],
+            _ if self.most == 0 => [4, 0, 0, 0, 0, 1, 1, 1, calls],
+            1 => [4, 0, 0, 0, 0, 1, 1, 1, calls],
+            _ => [2, 3, 1, 1, 3, 1, 1, 1, calls],
         };
         self.most = self.most.saturating_sub(1);
         match self.random.weighted(&weights) {
@@ -48,6 +81,7 @@ impl Commands<'_> {
             4 => looped(self.command(depth - 1, true)),
             5 => Command::Fail,
             6 if in_loop => Command::Break,
+            8 => Command::Procedure(self.random.pick(&self.callable)),
             _ => Command::Skip,
         }
     }

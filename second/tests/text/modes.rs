@@ -115,10 +115,10 @@ fn refused_clauses() {
 
 /// The empty rule with this mode, and skip.
 fn image(mode: Option<Mode>) -> Vec<u8> {
-    encode::program(&Program {
-        rules: vec![with_mode(mode, Rule::default())],
-        main: Command::Skip,
-    })
+    encode::program(&Program::without_procedures(
+        vec![with_mode(mode, Rule::default())],
+        Command::Skip,
+    ))
 }
 
 /// The bytes of the empty rule with so many more behind its five fields, and skip.

@@ -2,7 +2,7 @@
 
 use second::encode;
 use second::listing::listing;
-use second::text::{assemble, runner_input};
+use second::text::{assemble, assemble_as, runner_input, Assembly, Procedures};
 
 const PAGE: &str = include_str!("../../../docs/PASSES.md");
 
@@ -13,7 +13,10 @@ fn blocks() -> Vec<&'static str> {
 
 /// The listing of a text with a host section.
 fn listed(text: &str) -> String {
-    let assembly = assemble("page", text).unwrap_or_else(|complaint| panic!("{complaint}\n{text}"));
+    run(assemble("page", text).unwrap_or_else(|complaint| panic!("{complaint}\n{text}")))
+}
+
+fn run(assembly: Assembly) -> String {
     let host = assembly.host.expect("a host section");
     let input = runner_input(&assembly.program, &host.graph, &host.sizes).expect("legal sizes");
     listing(&encode::runner_input(&input))
@@ -36,21 +39,40 @@ fn what_the_page_shows_is_what_a_run_gives() {
         );
         shown += 1;
     }
-    assert_eq!(shown, 3, "runs on the page");
+    assert_eq!(shown, 4, "runs on the page");
+}
+
+/// The run of procedures that the page shows has two calls.
+#[test]
+fn calls_written_out_cost_no_steps() {
+    let block = blocks().into_iter().find(|block| block.contains("Step = "));
+    let (program, listing) = block
+        .and_then(|it| it.split_once("\nanswer "))
+        .expect("a run");
+    let steps = |text: &str| -> u32 {
+        let word = text.split(' ').skip_while(|word| *word != "steps").nth(1);
+        word.and_then(|word| word.parse().ok()).expect("a number")
+    };
+    let text = format!("{program}host fuel 1000 [ (1(R), 1) (2, 2) | ]");
+    let assembly = assemble_as("page", &text, Procedures::WrittenOut).expect("a legal text");
+    let written_out = run(assembly);
+    assert_eq!(steps(&written_out), steps(listing) - 2);
+    let graph = |text: &str| text.split_once('\n').expect("lines").1.to_string();
+    assert_eq!(graph(&written_out), graph(listing));
 }
 
 /// The clause is what each of them hangs on.
 #[test]
 fn the_other_mode_gives_what_the_page_says() {
     let host = "host fuel 1000 [ (1(R), 1) (2, 2) | ]";
-    let run = |main: &str, rule: &str| listed(&format!("Main = {main}\n{rule}\n{host}"));
+    let listed = |main: &str, rule: &str| listed(&format!("Main = {main}\n{rule}\n{host}"));
     let mark = "mark(x: list) [ (n1, x) | ] => [ (n1, x # red) | ] interface = {n1}";
-    let marked = run("mark!", &format!("{mark} roots = preserving"));
+    let marked = listed("mark!", &format!("{mark} roots = preserving"));
     assert!(marked.ends_with("node 0 red root 1\nnode 1 red plain 2\n"));
     let init = "init(x: list) [ (n1, x) | ] => [ (n1(R), x) | ] interface = {n1}";
-    assert!(run("init!", init).ends_with("node 0 none root 1\nnode 1 none root 2\n"));
-    let once = run("init", &format!("{init} roots = preserving"));
+    assert!(listed("init!", init).ends_with("node 0 none root 1\nnode 1 none root 2\n"));
+    let once = listed("init", &format!("{init} roots = preserving"));
     assert!(once.ends_with("node 0 none root 1\nnode 1 none plain 2\n"));
     let prune = "prune(x: list) [ (n1, x) | ] => [ | ] interface = {}";
-    assert!(run("prune!", prune).ends_with("records 1\nnode 0 none root 1\n"));
+    assert!(listed("prune!", prune).ends_with("records 1\nnode 0 none root 1\n"));
 }

@@ -1,6 +1,7 @@
 //! Each refusal of a program and its commands, with its place and the start of its message.
 
 use super::helpers::*;
+use second::text::{assemble_as, Procedures};
 use second::tree::limit;
 
 #[test]
@@ -149,7 +150,7 @@ fn rings_of_calls() {
         ),
         (
             "Main = skip\nP = [ Q = P ] Q",
-            "2:15: a ring of calls (Q calls P calls Q)",
+            "2:11: a ring of calls (P calls Q calls P)",
         ),
     ]);
     let chain: String = (0..40)
@@ -248,5 +249,8 @@ fn procedures_that_grow_without_end() {
         })
         .collect();
     let source = format!("Main = P0{wide}\nP3 = skip");
-    assert!(refusal(&source).contains("the image gets too long here, expected at most 8192 bytes"));
+    assert_eq!(program(&source).procedures.len(), 4);
+    let complaint = assemble_as("test", &source, Procedures::WrittenOut).expect_err("not refused");
+    let message = "the image gets too long here, expected at most 8192 bytes";
+    assert_eq!(complaint.message, message);
 }

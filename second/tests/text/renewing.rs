@@ -8,10 +8,10 @@ use second::calls;
 use second::corpus;
 use second::encode::{self, RunnerInput};
 use second::random::Random;
-use second::text::{assemble_program, disassemble, draw, draw_after, renew};
+use second::text::{assemble_as, disassemble, draw, draw_after, renew, Procedures};
 use second::tree::*;
 
-/// The image of a program in the old form, whose rules are those of today's.
+/// The image of a program without procedures in the old form, whose rules are those of today's.
 fn old_image(program: &Program) -> Vec<u8> {
     let mut image: Vec<u8> = program.rules.iter().flat_map(encode::rule).collect();
     write_old(&program.main, &mut image);
@@ -32,6 +32,7 @@ fn write_old(command: &Command, image: &mut Vec<u8>) {
         Command::Skip => (0x55, vec![]),
         Command::Fail => (0x56, vec![]),
         Command::Break => (0x57, vec![]),
+        Command::Procedure(_) => panic!("the old form has no calls"),
     };
     image.extend([tag, 0, 0]);
     let start = image.len();
@@ -50,10 +51,7 @@ fn guarded_commands(command: &Command) -> usize {
 }
 
 fn of_command(main: Command) -> Program {
-    Program {
-        rules: vec![],
-        main,
-    }
+    Program::without_procedures(vec![], main)
 }
 
 /// Checks that a program's old image is renewed to its image, with a byte more for each guarded command.
@@ -111,11 +109,19 @@ fn published_programs_are_renewed() {
     for name in names.filter(|name| name != "README.md") {
         let source =
             std::fs::read_to_string(format!("{folder}/{name}/{name}.gp2")).expect("a text");
-        let program = assemble_program(&name, &source).expect("a legal program");
+        let assembly = assemble_as(&name, &source, Procedures::WrittenOut);
+        let program = assembly.expect("a legal program").program;
         guarded += guarded_commands(&program.main);
         check(&program);
     }
     assert!(guarded >= 10, "{guarded}");
+}
+
+/// A random program without procedures.
+fn drawn(random: &mut Random, draw: fn(&mut Random) -> Program) -> Program {
+    let drawn = std::iter::repeat_with(|| draw(random));
+    let mut plain = drawn.filter(|program| program.procedures.is_empty());
+    plain.next().expect("some have none")
 }
 
 #[test]
@@ -124,7 +130,7 @@ fn random_programs_are_renewed() {
     for draw in [legal_programs::program, corpus::legal_program] {
         let mut guarded = 0;
         for _ in 0..2000 {
-            let program = draw(&mut random);
+            let program = drawn(&mut random, draw);
             guarded += guarded_commands(&program.main);
             check(&program);
         }
@@ -146,7 +152,7 @@ fn an_image_without_if_and_try_stays_as_it_is() {
     let mut random = Random::new(32);
     let mut plain = 0;
     for _ in 0..500 {
-        let program = legal_programs::program(&mut random);
+        let program = drawn(&mut random, legal_programs::program);
         if guarded_commands(&program.main) == 0 {
             plain += 1;
             let image = encode::program(&program);
@@ -159,9 +165,14 @@ fn an_image_without_if_and_try_stays_as_it_is() {
 #[test]
 fn a_runner_image_is_renewed_in_its_program_alone() {
     let mut random = Random::new(33);
+    let mut renewed = 0;
     for _ in 0..500 {
         let today = random_runner_input(&mut random);
         let program = second::decode::program(&today.program).expect("a legal program");
+        if !program.procedures.is_empty() {
+            continue;
+        }
+        renewed += 1;
         let old = RunnerInput {
             program: old_image(&program),
             ..today.clone()
@@ -171,6 +182,7 @@ fn a_runner_image_is_renewed_in_its_program_alone() {
             Ok(encode::runner_input(&today))
         );
     }
+    assert!(renewed >= 200, "{renewed}");
 }
 
 /// 512 guarded commands, every second of which keeps, in so many bytes of today's form, from 7,987 on.
@@ -335,7 +347,7 @@ fn a_run_refuses_each_old_image() {
     let mut random = Random::new(34);
     let mut refused = 0;
     for _ in 0..1000 {
-        let program = legal_programs::program(&mut random);
+        let program = drawn(&mut random, legal_programs::program);
         let outcome = calls::run(&[], &[], &[], &old_image(&program), 0, &[7; 8]);
         let expected = match guarded_commands(&program.main) {
             0 => 2,

@@ -6,7 +6,7 @@ use second::encode::{self, RunnerInput};
 use second::random::Random;
 use second::text::{assemble, assemble_program, disassemble, runner_input};
 use second::tree::*;
-use second::{decode, placement, references};
+use second::{decode, depth, placement, references};
 
 /// The program image that the text of an image assembles to.
 fn program_again(image: &[u8]) -> Vec<u8> {
@@ -41,6 +41,7 @@ fn random_programs_are_legal() {
         );
         assert_eq!(references::check(&program), Ok(()));
         assert!(placement::check(&program));
+        assert!(depth::check(&program).is_ok());
     }
 }
 
@@ -54,10 +55,7 @@ fn random_programs_come_back() {
 
 /// A program of commands alone.
 fn of_command(main: Command) -> Program {
-    Program {
-        rules: vec![],
-        main,
-    }
+    Program::without_procedures(vec![], main)
 }
 
 #[test]
@@ -101,10 +99,7 @@ fn long_programs_come_back_from_broken_lines() {
     let branching = if_command(inner.clone(), one.clone(), inner.clone());
     let guarded = try_command(branching.clone(), Command::Skip, branching.clone());
     let main = Command::Sequence(vec![one, branching, looped(inner), guarded]);
-    let program = Program {
-        rules: vec![Rule::default()],
-        main,
-    };
+    let program = Program::without_procedures(vec![Rule::default()], main);
     check(&program);
     let text = disassemble(&encode::program(&program)).expect("legal");
     assert!(text.lines().all(|line| line.len() <= 90), "{text}");
@@ -259,10 +254,7 @@ fn the_text_of_a_small_image_reads_so() {
         Command::Sequence(vec![Command::RuleSet(vec![0, 0])]),
         if_command(Command::Skip, Command::Fail, Command::Skip),
     ]);
-    let image = encode::program(&Program {
-        rules: vec![small_rule()],
-        main,
-    });
+    let image = encode::program(&Program::without_procedures(vec![small_rule()], main));
     let expected = "\
 Main = r0!; ({r0, r0};); if skip then fail else skip
 

@@ -25,10 +25,7 @@ fn case_p() -> Program {
         variables: vec![VariableType::Int, VariableType::Int],
         ..build::rule(left, right, 2)
     };
-    Program {
-        rules: vec![rule],
-        main: looped(call(0)),
-    }
+    Program::without_procedures(vec![rule], looped(call(0)))
 }
 
 #[test]

@@ -1,8 +1,9 @@
-//! What a command comes to without its wrapping: the acting commands in order, those inside of them unwrapped too.
+//! What a program comes to without its wrapping: the acting commands of its main command in order, those inside of them unwrapped
+//! too. A call wraps as a sequence of one command does.
 
-use second::tree::Command;
+use second::tree::{Command, Program};
 
-/// A command that is no sequence and no skip.
+/// A command that is no sequence, no skip and no call.
 #[derive(Clone, Debug, PartialEq, Eq)]
 pub enum Acting {
     RuleSet(Vec<u8>),
@@ -17,10 +18,16 @@ pub enum Acting {
     Break,
 }
 
-pub fn acting(command: &Command) -> Vec<Acting> {
+pub fn acting(program: &Program) -> Vec<Acting> {
+    acting_in(program, &program.main)
+}
+
+fn acting_in(program: &Program, command: &Command) -> Vec<Acting> {
+    let acting = |command: &Command| acting_in(program, command);
     let one = match command {
         Command::Sequence(parts) => return parts.iter().flat_map(acting).collect(),
         Command::Skip => return vec![],
+        Command::Procedure(number) => return acting(&program.procedures[usize::from(*number)]),
         Command::RuleSet(numbers) => Acting::RuleSet(numbers.clone()),
         Command::Guarded {
             keep,

@@ -1,6 +1,5 @@
 //! Random changes of a program that are more than wrapping: of the order of its commands, and of what is there at all.
 
-use crate::places::{at, size};
 use second::random::Random;
 use second::tree::{Command, Program};
 
@@ -23,22 +22,22 @@ pub fn dropped(random: &mut Random, program: &Program) -> Option<Program> {
     })
 }
 
-/// The program with one of its sequences of several commands changed, if it has any.
+/// The program with one of the sequences of several commands in its main command changed, if there are any.
 fn changed(
     random: &mut Random,
     program: &Program,
     change: impl Fn(&mut Random, &mut Vec<Command>),
 ) -> Option<Program> {
     let mut result = program.clone();
-    let mut has_several = |number: &usize| match at(&mut result.main, *number) {
+    let mut has_several = |number: &usize| match result.main.at_mut(*number) {
         Command::Sequence(parts) => parts.len() > 1,
         _ => false,
     };
-    let numbers: Vec<usize> = (0..size(&program.main)).filter(&mut has_several).collect();
+    let numbers: Vec<usize> = (0..program.main.size()).filter(&mut has_several).collect();
     if numbers.is_empty() {
         return None;
     }
-    if let Command::Sequence(parts) = at(&mut result.main, random.pick(&numbers)) {
+    if let Command::Sequence(parts) = result.main.at_mut(random.pick(&numbers)) {
         change(random, parts);
     }
     Some(result)

@@ -10,7 +10,7 @@ use std::collections::BTreeSet;
 /// Commands that a run entered, counted.
 #[derive(Default)]
 pub struct Entered {
-    /// Sequences and skips.
+    /// Sequences, skips and calls.
     pub wrapping: u32,
     pub breaks: u32,
     /// The third commands of guarded ones, which run where the guard failed.
@@ -26,7 +26,7 @@ impl Observer for Entered {
         let is_third = self.thirds.contains(&std::ptr::from_ref(command));
         self.after_failed_guards += u32::from(is_third);
         match command {
-            Command::Sequence(_) | Command::Skip => self.wrapping += 1,
+            Command::Sequence(_) | Command::Skip | Command::Procedure(_) => self.wrapping += 1,
             Command::Break => self.breaks += 1,
             Command::Guarded { other, .. } => {
                 self.thirds.insert(std::ptr::from_ref(&**other));
@@ -50,7 +50,7 @@ pub struct Common<'a> {
     edges: &'a [u8],
     journal: &'a [u8],
     records: u32,
-    /// The steps that enter no sequence and no skip.
+    /// The steps that enter no sequence, no skip and no call.
     acting_steps: u32,
 }
 

@@ -1,6 +1,6 @@
 //! Random changes of a program's wrapping, which keep it legal.
 
-use crate::places::{at, depth, size};
+use second::depth;
 use second::encode;
 use second::random::Random;
 use second::tree::{limit, Command, Program};
@@ -40,9 +40,11 @@ pub fn rewrapped(random: &mut Random, program: &Program) -> (Program, [usize; CH
     let mut made = [0; CHANGES.len()];
     for _ in 0..random.pick(&[2, 8, 20, 80]) {
         let mut next = result.clone();
-        let number = random.below(size(&next.main));
+        let outermost = random.below(next.commands().count());
+        let outermost = next.commands_mut().nth(outermost).expect("one of them");
+        let number = random.below(outermost.size());
         let change = random.below(CHANGES.len());
-        let changed = changed(random, CHANGES[change], at(&mut next.main, number));
+        let changed = changed(random, CHANGES[change], outermost.at_mut(number));
         if changed && fits(&next) {
             made[change] += 1;
             result = next;
@@ -51,9 +53,11 @@ pub fn rewrapped(random: &mut Random, program: &Program) -> (Program, [usize; CH
     (result, made)
 }
 
-/// Whether depth and image are within their limits.
+/// Whether depth, that through calls too, and image are within their limits.
 fn fits(program: &Program) -> bool {
-    depth(&program.main) <= limit::DEPTH && encode::program(program).len() <= limit::IMAGE_BYTES
+    program.commands().all(|it| it.depth() <= limit::DEPTH)
+        && depth::check(program).is_ok()
+        && encode::program(program).len() <= limit::IMAGE_BYTES
 }
 
 /// Makes the change, or says that it can't be made here.

@@ -38,6 +38,9 @@ enum-told-10 c = search needs
 enum-told-11 : tie.Need-enum-told-11
 enum-told-11 c = search needs
 
+enum-told-12 : tie.Need-enum-told-12
+enum-told-12 c = search needs
+
 returns : tie.Need-returns
 unfolding refusalNumber
 returns c = sym (ap refusalNumber (c .enum-told .given .1))
@@ -82,6 +85,10 @@ returns-11 : tie.Need-returns-11
 unfolding refusalNumber
 returns-11 c = sym (ap refusalNumber (c .enum-told11 .given .1))
 
+returns-12 : tie.Need-returns-12
+unfolding refusalNumber
+returns-12 c = sym (ap refusalNumber (c .enum-told12 .given .1))
+
 pub refusal-number-spec : {M : Type 1} → statement M
 refusal-number-spec =
     tie.close
@@ -97,6 +104,7 @@ refusal-number-spec =
     enum-told-9
     enum-told-10
     enum-told-11
+    enum-told-12
     returns
     returns-2
     returns-3
@@ -107,4 +115,5 @@ refusal-number-spec =
     returns-8
     returns-9
     returns-10
-    returns-11)
+    returns-11
+    returns-12)

@@ -1,15 +1,15 @@
--- The cycle of `run_command`, `run_guarded`, `run_loop` and `run_row` meets its contracts. The measure is twice the bytes, and one
--- more for a command. A row's invariant: the commands from the place on come to what the row comes to; its measure is what is left
--- of the bytes. A loop's invariant: from here it comes to what it comes to from its start; its measure is the fuel.
+-- The cycle of `run_command`, `run_guarded`, `run_loop` and `run_row` meets its contracts. The measure is twice the fuel, and one
+-- more for what has been entered. A row's invariant: the commands from the place on come to what the row comes to; its measure is
+-- what is left of the bytes. A loop's invariant: from here it comes to what it comes to from its start; its measure is the fuel.
 use mathlib.Core.Path.{sym, _∙_}
 use Prim.Native.Nat.{ℕ, _+_, _-_, _*_, _<_}
 use native.Mathlib.Omega.{arith}
 use borrow.Author.Needs.{needs}
 use lib.ListN.{length}
 use Rattle.parts.proofs.Loops.{a-field, nearer, no-field, part-in}
-use Rattle.ends.specs.declared.Kind.the-variants.{Sequence, Guarded, Loop, Leaf}
-use Rattle.commands.proofs.Parts.{row-of, guarded-of, no-longer, loop-of, nth-known, nth-shorter}
-use Rattle.commands.proofs.Turns.{Going, Looping, is-kind, which-less, mark-below, fuel-less, out-of-fuel, begun-spent, paid-row, paid-guarded, paid-loop, paid-leaf, row-start, row-over, row-cut, here-known, here-shorter, row-next, row-stop, guarded-stop, begun-settled, guarded-go, loop-start, loop-over, loop-next, loop-stop}
+use Rattle.ends.specs.declared.Kind.the-variants.{Sequence, Guarded, Loop, Call, Leaf}
+use Rattle.commands.proofs.Parts.{row-of, guarded-of, loop-of, call-of, nth-known}
+use Rattle.commands.proofs.Turns.{Going, Looping, is-kind, which-less, mark-below, fuel-less, out-of-fuel, begun-spent, spent-below, paid-row, paid-guarded, paid-loop, paid-call, paid-leaf, row-start, row-over, row-cut, here-known, row-next, row-stop, guarded-stop, fuel-settled, begun-settled, guarded-go, loop-start, loop-over, loop-next, loop-stop}
 use borrow.Fn.Kinds.{In}
 use borrow.Fn.PlainCycle.{Measures, is, falls, and}
 use Rattle.commands.proofs.run_command.Reads as run-command
@@ -38,18 +38,19 @@ use Rattle.tally.proofs.entered.Reads as entered-reads
 use Rattle.commands.proofs.run_nested_set.Reads as run-nested-set-reads
 use Rattle.commands.proofs.+run_command+run_guarded+run_loop+run_row.{statement}
 use Rattle.commands.proofs.+run_command+run_guarded+run_loop+run_row.Tie.{close}
+use Rattle.parts.proofs.procedure_part.Reads as procedure-part-reads
 
 abbrev μ-run-command : Measures 5 run-command-kinds.ps ℕ
-μ-run-command κs a = 2 * length (a .1 .1 .1 .0 .now) + 1
+μ-run-command κs a = 2 * a .1 .1 .1 .1 .1 .1 .1 .0 .fuel
 
 abbrev μ-run-guarded : Measures 5 run-guarded-kinds.ps ℕ
-μ-run-guarded κs a = 2 * length (a .1 .1 .1 .0 .now)
+μ-run-guarded κs a = 2 * a .1 .1 .1 .1 .1 .1 .1 .0 .fuel + 1
 
 abbrev μ-run-loop : Measures 5 run-loop-kinds.ps ℕ
-μ-run-loop κs a = 2 * length (a .1 .1 .0 .now)
+μ-run-loop κs a = 2 * a .1 .1 .1 .1 .1 .1 .0 .fuel + 1
 
 abbrev μ-run-row : Measures 5 run-row-kinds.ps ℕ
-μ-run-row κs a = 2 * length (a .1 .1 .0 .now)
+μ-run-row κs a = 2 * a .1 .1 .1 .1 .1 .1 .0 .fuel + 1
 
 abbrev run-command-at : ℕ → In 5 run-command-kinds.ps
 run-command-at t =
@@ -81,7 +82,7 @@ abbrev run-row-below : ℕ → In 5 run-row-kinds.ps
 run-row-below t = and 5 run-row-kinds.ps (falls 5 run-row-kinds.ps _<_ μ-run-row t) run-row.Pre
 
 abbrev run-command-claims : ℕ → run-command-lts.Claims
-run-command-claims t = (run-nested-set-reads.Asked, run-nested-set-reads.Learnt, entered-reads.Asked, entered-reads.Learnt, kind-of-reads.Asked, kind-of-reads.Learnt, run-row-below t, run-row.Post, behind-reads.Asked, behind-reads.Learnt, run-guarded-below t, run-guarded.Post, run-loop-below t, run-loop.Post)
+run-command-claims t = (run-nested-set-reads.Asked, run-nested-set-reads.Learnt, entered-reads.Asked, entered-reads.Learnt, kind-of-reads.Asked, kind-of-reads.Learnt, run-row-below t, run-row.Post, behind-reads.Asked, behind-reads.Learnt, run-guarded-below t, run-guarded.Post, run-loop-below t, run-loop.Post, procedure-part-reads.Asked, procedure-part-reads.Learnt, nth-tag-reads.Asked, nth-tag-reads.Learnt, nth-part-reads.Asked, nth-part-reads.Learnt, run-command-below t, run-command.Post)
 
 abbrev run-guarded-claims : ℕ → run-guarded-lts.Claims
 run-guarded-claims t = (nth-part-reads.Asked, nth-part-reads.Learnt, nth-tag-reads.Asked, nth-tag-reads.Learnt, run-command-below t, run-command.Post, part-after-reads.Asked, part-after-reads.Learnt, settle-reads.Asked, settle-reads.Learnt)
@@ -120,7 +121,7 @@ run-command-enum-told : (t : ℕ) → run-command-lts.Need-enum-told (run-comman
 run-command-enum-told t c = search needs
 
 run-command-run-row-requires : (t : ℕ) → run-command-lts.Need-run-row-requires (run-command-claims t) (run-command-at t) run-command.Post
-run-command-run-row-requires t c κs = (omega (arith, c .before .before .before .before .before .before .before .before .before .before .before .before .before .before .pre .0), (begun-spent _ (c .before .before .before .before .before .before .entered .ensures) (c .before .before .before .before .before .before .before .if2 .left) (c .before .before .before .before .before .before .before .before .before .before .before .before .before .before .pre .1 .0), row-of (c .before .before .before .before .before .before .before .before .before .before .before .before .before .before .pre .1 .1) (is-kind (c .before .before .before .before .before .before .before .before .before .before .before .before .before .before .pre .1 .1) (c .before .before .before .before .before .before .before .before .if1 .left) (c .before .before .before .before .before .kind-of .ensures) Sequence (c .before .before .before .enum-told .given .1))))
+run-command-run-row-requires t c κs = (omega (arith, c .before .before .before .before .before .before .before .before .before .before .before .before .before .before .pre .0, spent-below _ (c .before .before .before .before .before .before .entered .ensures) (c .before .before .before .before .before .before .before .if2 .left)), (begun-spent _ (c .before .before .before .before .before .before .entered .ensures) (c .before .before .before .before .before .before .before .if2 .left) (c .before .before .before .before .before .before .before .before .before .before .before .before .before .before .pre .1 .0), row-of (c .before .before .before .before .before .before .before .before .before .before .before .before .before .before .pre .1 .1) (is-kind (c .before .before .before .before .before .before .before .before .before .before .before .before .before .before .pre .1 .1) (c .before .before .before .before .before .before .before .before .if1 .left) (c .before .before .before .before .before .kind-of .ensures) Sequence (c .before .before .before .enum-told .given .1))))
 
 run-command-enum-known-kind : (t : ℕ) → run-command-lts.Need-enum-known-kind (run-command-claims t) (run-command-at t) run-command.Post
 run-command-enum-known-kind t c = search needs
@@ -131,16 +132,33 @@ run-command-behind-requires t c κs = search needs
 run-command-run-guarded-requires : (t : ℕ) → run-command-lts.Need-run-guarded-requires (run-command-claims t) (run-command-at t) run-command.Post
 run-command-run-guarded-requires t c κs =
     let k = is-kind (c .before .before .before .before .before .before .before .before .before .before .before .before .before .before .before .before .pre .1 .1) (c .before .before .before .before .before .before .before .before .before .before .if1 .left) (c .before .before .before .before .before .before .before .kind-of .ensures) (Guarded _) (c .before .before .before .before .before .kind .given .1) in
-    (omega (arith, c .before .before .before .before .before .before .before .before .before .before .before .before .before .before .before .before .pre .0, no-longer (c .before .before .before .before .before .before .before .before .before .before .before .before .before .before .before .before .args .p .now) (c .before .before .before .behind .ensures)), (begun-spent _ (c .before .before .before .before .before .before .before .before .entered .ensures) (c .before .before .before .before .before .before .before .before .before .if2 .left) (c .before .before .before .before .before .before .before .before .before .before .before .before .before .before .before .before .pre .1 .0), guarded-of (c .before .before .before .before .before .before .before .before .before .before .before .before .before .before .before .before .pre .1 .1) (k .0) (k .1) (c .before .before .before .behind .ensures)))
+    (omega (arith, c .before .before .before .before .before .before .before .before .before .before .before .before .before .before .before .before .pre .0, spent-below _ (c .before .before .before .before .before .before .before .before .entered .ensures) (c .before .before .before .before .before .before .before .before .before .if2 .left)), (begun-spent _ (c .before .before .before .before .before .before .before .before .entered .ensures) (c .before .before .before .before .before .before .before .before .before .if2 .left) (c .before .before .before .before .before .before .before .before .before .before .before .before .before .before .before .before .pre .1 .0), guarded-of (c .before .before .before .before .before .before .before .before .before .before .before .before .before .before .before .before .pre .1 .1) (k .0) (k .1) (c .before .before .before .behind .ensures)))
 
 run-command-enum-told-2 : (t : ℕ) → run-command-lts.Need-enum-told-2 (run-command-claims t) (run-command-at t) run-command.Post
 run-command-enum-told-2 t c = search needs
 
 run-command-run-loop-requires : (t : ℕ) → run-command-lts.Need-run-loop-requires (run-command-claims t) (run-command-at t) run-command.Post
-run-command-run-loop-requires t c κs = (omega (arith, c .before .before .before .before .before .before .before .before .before .before .before .before .before .before .pre .0), (begun-spent _ (c .before .before .before .before .before .before .entered .ensures) (c .before .before .before .before .before .before .before .if2 .left) (c .before .before .before .before .before .before .before .before .before .before .before .before .before .before .pre .1 .0), loop-of (c .before .before .before .before .before .before .before .before .before .before .before .before .before .before .pre .1 .1) (is-kind (c .before .before .before .before .before .before .before .before .before .before .before .before .before .before .pre .1 .1) (c .before .before .before .before .before .before .before .before .if1 .left) (c .before .before .before .before .before .kind-of .ensures) Loop (c .before .before .before .enum-told2 .given .1))))
+run-command-run-loop-requires t c κs = (omega (arith, c .before .before .before .before .before .before .before .before .before .before .before .before .before .before .pre .0, spent-below _ (c .before .before .before .before .before .before .entered .ensures) (c .before .before .before .before .before .before .before .if2 .left)), (begun-spent _ (c .before .before .before .before .before .before .entered .ensures) (c .before .before .before .before .before .before .before .if2 .left) (c .before .before .before .before .before .before .before .before .before .before .before .before .before .before .pre .1 .0), loop-of (c .before .before .before .before .before .before .before .before .before .before .before .before .before .before .pre .1 .1) (is-kind (c .before .before .before .before .before .before .before .before .before .before .before .before .before .before .pre .1 .1) (c .before .before .before .before .before .before .before .before .if1 .left) (c .before .before .before .before .before .kind-of .ensures) Loop (c .before .before .before .enum-told2 .given .1))))
 
 run-command-enum-known-kind-2 : (t : ℕ) → run-command-lts.Need-enum-known-kind-2 (run-command-claims t) (run-command-at t) run-command.Post
 run-command-enum-known-kind-2 t c = search needs
+
+run-command-procedure-part-requires : (t : ℕ) → run-command-lts.Need-procedure-part-requires (run-command-claims t) (run-command-at t) run-command.Post
+run-command-procedure-part-requires t c κs = search needs
+
+run-command-nth-tag-requires : (t : ℕ) → run-command-lts.Need-nth-tag-requires (run-command-claims t) (run-command-at t) run-command.Post
+run-command-nth-tag-requires t c κs = search needs
+
+run-command-nth-part-requires : (t : ℕ) → run-command-lts.Need-nth-part-requires (run-command-claims t) (run-command-at t) run-command.Post
+run-command-nth-part-requires t c κs = search needs
+
+run-command-run-command-requires : (t : ℕ) → run-command-lts.Need-run-command-requires (run-command-claims t) (run-command-at t) run-command.Post
+run-command-run-command-requires t c κs =
+    let k = is-kind (c .before .before .before .before .before .before .before .before .before .before .before .before .before .before .before .before .before .before .pre .1 .1) (c .before .before .before .before .before .before .before .before .before .before .before .before .if1 .left) (c .before .before .before .before .before .before .before .before .before .kind-of .ensures) (Call _) (c .before .before .before .before .before .before .before .kind2 .given .1) in
+    (omega (arith, c .before .before .before .before .before .before .before .before .before .before .before .before .before .before .before .before .before .before .pre .0, spent-below _ (c .before .before .before .before .before .before .before .before .before .before .entered .ensures) (c .before .before .before .before .before .before .before .before .before .before .before .if2 .left)), (begun-spent _ (c .before .before .before .before .before .before .before .before .before .before .entered .ensures) (c .before .before .before .before .before .before .before .before .before .before .before .if2 .left) (c .before .before .before .before .before .before .before .before .before .before .before .before .before .before .before .before .before .before .pre .1 .0), call-of (c .before .before .before .before .before .before .before .before .before .before .before .before .before .before .before .before .before .before .pre .1 .1) (k .0) (k .1) _ (c .before .before .before .before .before .procedure-part .ensures) (c .before .before .before .before .nth-tag .ensures) (c .before .before .before .nth-part .ensures)))
+
+run-command-enum-known-kind-3 : (t : ℕ) → run-command-lts.Need-enum-known-kind-3 (run-command-claims t) (run-command-at t) run-command.Post
+run-command-enum-known-kind-3 t c = search needs
 
 run-command-same-length-4 : (t : ℕ) → run-command-lts.Need-same-length-4 (run-command-claims t) (run-command-at t) run-command.Post
 run-command-same-length-4 t c = search needs
@@ -179,8 +197,22 @@ run-command-same-length-12 t c = search needs
 run-command-returns-5 : (t : ℕ) → run-command-lts.Need-returns-5 (run-command-claims t) (run-command-at t) run-command.Post
 run-command-returns-5 t c = paid-loop _ (c .before .before .before .before .before .before .before .before .before .before .before .before .before .entered .ensures) (c .before .before .before .before .before .before .before .before .before .before .before .before .before .before .if2 .left) (is-kind (c .before .before .before .before .before .before .before .before .before .before .before .before .before .before .before .before .before .before .before .before .before .pre .1 .1) (c .before .before .before .before .before .before .before .before .before .before .before .before .before .before .before .if1 .left) (c .before .before .before .before .before .before .before .before .before .before .before .before .kind-of .ensures) Loop (c .before .before .before .before .before .before .before .before .before .before .enum-told2 .given .1)) (c .before .before .before .before .before .before .run-loop .ensures)
 
+run-command-same-length-13 : (t : ℕ) → run-command-lts.Need-same-length-13 (run-command-claims t) (run-command-at t) run-command.Post
+run-command-same-length-13 t c = search needs
+
+run-command-same-length-14 : (t : ℕ) → run-command-lts.Need-same-length-14 (run-command-claims t) (run-command-at t) run-command.Post
+run-command-same-length-14 t c = search needs
+
+run-command-same-length-15 : (t : ℕ) → run-command-lts.Need-same-length-15 (run-command-claims t) (run-command-at t) run-command.Post
+run-command-same-length-15 t c = search needs
+
 run-command-returns-6 : (t : ℕ) → run-command-lts.Need-returns-6 (run-command-claims t) (run-command-at t) run-command.Post
-run-command-returns-6 t c = paid-leaf _ (c .before .before .before .before .entered .ensures) (c .before .before .before .before .before .if2 .left) _ (is-kind (c .before .before .before .before .before .before .before .before .before .before .before .before .pre .1 .1) (c .before .before .before .before .before .before .if1 .left) (c .before .before .before .kind-of .ensures) (Leaf _) (c .before .kind2 .given .1)) (c .before .before .before .before .before .before .before .before .before .before .before .before .pre .1 .0)
+run-command-returns-6 t c =
+    let k = is-kind (c .before .before .before .before .before .before .before .before .before .before .before .before .before .before .before .before .before .before .before .before .before .before .before .before .before .pre .1 .1) (c .before .before .before .before .before .before .before .before .before .before .before .before .before .before .before .before .before .before .before .if1 .left) (c .before .before .before .before .before .before .before .before .before .before .before .before .before .before .before .before .kind-of .ensures) (Call _) (c .before .before .before .before .before .before .before .before .before .before .before .before .before .before .kind2 .given .1) in
+    paid-call _ (c .before .before .before .before .before .before .before .before .before .before .before .before .before .before .before .before .before .entered .ensures) (c .before .before .before .before .before .before .before .before .before .before .before .before .before .before .before .before .before .before .if2 .left) _ k (c .before .before .before .before .before .before .before .before .before .before .before .before .procedure-part .ensures) (c .before .before .before .before .before .before .before .before .before .before .before .nth-tag .ensures) (c .before .before .before .before .before .before .before .before .before .before .nth-part .ensures) (c .before .before .before .before .before .before .run-command .ensures)
+
+run-command-returns-7 : (t : ℕ) → run-command-lts.Need-returns-7 (run-command-claims t) (run-command-at t) run-command.Post
+run-command-returns-7 t c = paid-leaf _ (c .before .before .before .before .entered .ensures) (c .before .before .before .before .before .if2 .left) _ (is-kind (c .before .before .before .before .before .before .before .before .before .before .before .before .pre .1 .1) (c .before .before .before .before .before .before .if1 .left) (c .before .before .before .kind-of .ensures) (Leaf _) (c .before .kind3 .given .1)) (c .before .before .before .before .before .before .before .before .before .before .before .before .pre .1 .0)
 
 run-guarded-nth-part-requires : (t : ℕ) → run-guarded-lts.Need-nth-part-requires (run-guarded-claims t) (run-guarded-at t) run-guarded.Post
 run-guarded-nth-part-requires t c κs = search needs
@@ -189,7 +221,7 @@ run-guarded-nth-tag-requires : (t : ℕ) → run-guarded-lts.Need-nth-tag-requir
 run-guarded-nth-tag-requires t c κs = search needs
 
 run-guarded-run-command-requires : (t : ℕ) → run-guarded-lts.Need-run-command-requires (run-guarded-claims t) (run-guarded-at t) run-guarded.Post
-run-guarded-run-command-requires t c κs = (omega (arith, c .before .before .before .before .before .before .before .before .before .before .pre .0, nth-shorter (c .before .before .before .before .before .before .before .before .before .before .pre .1 .1) 0 (omega arith) (c .before .before .before .nth-tag .ensures) (c .before .before .before .before .nth-part .ensures)), ((c .before .before .before .before .before .before .before .before .before .before .pre .1 .0), nth-known (c .before .before .before .before .before .before .before .before .before .before .pre .1 .1) 0 (omega arith) (c .before .before .before .nth-tag .ensures) (c .before .before .before .before .nth-part .ensures)))
+run-guarded-run-command-requires t c κs = (omega (arith, c .before .before .before .before .before .before .before .before .before .before .pre .0), ((c .before .before .before .before .before .before .before .before .before .before .pre .1 .0), nth-known (c .before .before .before .before .before .before .before .before .before .before .pre .1 .1) 0 (omega arith) (c .before .before .before .nth-tag .ensures) (c .before .before .before .before .nth-part .ensures)))
 
 run-guarded-part-after-requires : (t : ℕ) → run-guarded-lts.Need-part-after-requires (run-guarded-claims t) (run-guarded-at t) run-guarded.Post
 run-guarded-part-after-requires t c κs = search needs
@@ -216,7 +248,7 @@ run-guarded-settle-requires : (t : ℕ) → run-guarded-lts.Need-settle-requires
 run-guarded-settle-requires t c κs = (c .before .before .before .before .before .before .before .before .before .before .before .before .before .run-command .ensures .running, mark-below _ (nth-known (c .before .before .before .before .before .before .before .before .before .before .before .before .before .before .before .before .before .before .before .before .before .before .before .before .pre .1 .1) 0 (omega arith) (c .before .before .before .before .before .before .before .before .before .before .before .before .before .before .before .before .before .nth-tag .ensures) (c .before .before .before .before .before .before .before .before .before .before .before .before .before .before .before .before .before .before .nth-part .ensures)) (c .before .before .before .before .before .before .before .before .before .before .before .before .before .before .before .before .before .before .before .before .before .before .before .before .pre .1 .0) (c .before .before .before .before .before .before .before .before .before .before .before .before .before .run-command .ensures))
 
 run-guarded-run-command-requires-2 : (t : ℕ) → run-guarded-lts.Need-run-command-requires-2 (run-guarded-claims t) (run-guarded-at t) run-guarded.Post
-run-guarded-run-command-requires-2 t c κs = (omega (arith, c .before .before .before .before .before .before .before .before .before .before .before .before .before .before .before .before .before .before .before .before .before .before .before .before .before .before .before .before .before .before .before .before .before .before .pre .0, nth-shorter (c .before .before .before .before .before .before .before .before .before .before .before .before .before .before .before .before .before .before .before .before .before .before .before .before .before .before .before .before .before .before .before .before .before .before .pre .1 .1) _ (which-less _ (c .before .before .before .before .before .before .before .before .before .before .before .before .before .before .before .before .part-after .ensures)) (c .before .before .before .before .before .before .before .before .before .before .before .before .before .nth-tag2 .ensures) (c .before .before .before .before .before .before .before .before .before .before .before .before .before .before .nth-part2 .ensures)), (begun-settled _ (c .before .before .before .before .before .before .before .before .before .before .before .before .before .before .before .before .before .before .before .before .before .before .before .before .before .before .before .nth-tag .ensures) (c .before .before .before .before .before .before .before .before .before .before .before .before .before .before .before .before .before .before .before .before .before .before .before .before .before .before .before .before .nth-part .ensures) (c .before .before .before .before .before .before .before .before .before .before .before .before .before .before .before .before .before .before .before .before .before .before .before .run-command .ensures) _ (c .before .before .before .before .before .before .before .before .before .before .before .before .before .before .before .before .before .before .before .before .before .before .before .before .before .before .before .before .before .before .before .before .before .before .pre .1 .1) (c .before .before .before .before .before .before .before .before .before .before .before .before .before .before .before .before .before .before .before .before .before .before .before .before .before .before .before .before .before .before .before .before .before .before .pre .1 .0) (c .before .before .before .before .before .before .before .before .before .settle .ensures), nth-known (c .before .before .before .before .before .before .before .before .before .before .before .before .before .before .before .before .before .before .before .before .before .before .before .before .before .before .before .before .before .before .before .before .before .before .pre .1 .1) _ (which-less _ (c .before .before .before .before .before .before .before .before .before .before .before .before .before .before .before .before .part-after .ensures)) (c .before .before .before .before .before .before .before .before .before .before .before .before .before .nth-tag2 .ensures) (c .before .before .before .before .before .before .before .before .before .before .before .before .before .before .nth-part2 .ensures)))
+run-guarded-run-command-requires-2 t c κs = (omega (arith, c .before .before .before .before .before .before .before .before .before .before .before .before .before .before .before .before .before .before .before .before .before .before .before .before .before .before .before .before .before .before .before .before .before .before .pre .0, fuel-settled _ (c .before .before .before .before .before .before .before .before .before .before .before .before .before .before .before .before .before .before .before .before .before .before .before .before .before .before .before .nth-tag .ensures) (c .before .before .before .before .before .before .before .before .before .before .before .before .before .before .before .before .before .before .before .before .before .before .before .before .before .before .before .before .nth-part .ensures) (c .before .before .before .before .before .before .before .before .before .before .before .before .before .before .before .before .before .before .before .before .before .before .before .run-command .ensures) _ (c .before .before .before .before .before .before .before .before .before .before .before .before .before .before .before .before .before .before .before .before .before .before .before .before .before .before .before .before .before .before .before .before .before .before .pre .1 .1) (c .before .before .before .before .before .before .before .before .before .before .before .before .before .before .before .before .before .before .before .before .before .before .before .before .before .before .before .before .before .before .before .before .before .before .pre .1 .0) (c .before .before .before .before .before .before .before .before .before .settle .ensures)), (begun-settled _ (c .before .before .before .before .before .before .before .before .before .before .before .before .before .before .before .before .before .before .before .before .before .before .before .before .before .before .before .nth-tag .ensures) (c .before .before .before .before .before .before .before .before .before .before .before .before .before .before .before .before .before .before .before .before .before .before .before .before .before .before .before .before .nth-part .ensures) (c .before .before .before .before .before .before .before .before .before .before .before .before .before .before .before .before .before .before .before .before .before .before .before .run-command .ensures) _ (c .before .before .before .before .before .before .before .before .before .before .before .before .before .before .before .before .before .before .before .before .before .before .before .before .before .before .before .before .before .before .before .before .before .before .pre .1 .1) (c .before .before .before .before .before .before .before .before .before .before .before .before .before .before .before .before .before .before .before .before .before .before .before .before .before .before .before .before .before .before .before .before .before .before .pre .1 .0) (c .before .before .before .before .before .before .before .before .before .settle .ensures), nth-known (c .before .before .before .before .before .before .before .before .before .before .before .before .before .before .before .before .before .before .before .before .before .before .before .before .before .before .before .before .before .before .before .before .before .before .pre .1 .1) _ (which-less _ (c .before .before .before .before .before .before .before .before .before .before .before .before .before .before .before .before .part-after .ensures)) (c .before .before .before .before .before .before .before .before .before .before .before .before .before .nth-tag2 .ensures) (c .before .before .before .before .before .before .before .before .before .before .before .before .before .before .nth-part2 .ensures)))
 
 run-guarded-same-length-4 : (t : ℕ) → run-guarded-lts.Need-same-length-4 (run-guarded-claims t) (run-guarded-at t) run-guarded.Post
 run-guarded-same-length-4 t c = let x = c .before .before .before .before .before .before .before .before .before .before .before .before .before .before .before .before .before .before .before .before .before .before .before .before .before .before .before .before .before .before .run-command .kept in let y = c .before .before .before .before .before .before .before .before .before .before .before .before .before .before .before .before .settle .kept in search needs
@@ -246,7 +278,7 @@ run-loop-loop-holds : (t : ℕ) → run-loop-lts.Need-loop-holds (run-loop-claim
 run-loop-loop-holds t c = loop-start _ (c .before .before .before .before .before .before .before .pre .1 .0)
 
 run-loop-run-command-requires : (t : ℕ) → run-loop-lts.Need-run-command-requires (run-loop-claims t) (run-loop-at t) run-loop.Post run-loop-Inv-loop run-loop-μ-loop
-run-loop-run-command-requires t c κs = (omega (arith, c .before .before .before .before .before .before .before .before .before .before .before .before .before .pre .0, nth-shorter (c .before .before .before .before .before .before .before .before .before .before .before .before .before .pre .1 .1) 0 (omega arith) (c .before .before .before .before .before .before .before .nth-tag .ensures) (c .before .before .before .before .before .before .nth-part .ensures)), (c .before .before .before .before .before .loop .inv .begun, nth-known (c .before .before .before .before .before .before .before .before .before .before .before .before .before .pre .1 .1) 0 (omega arith) (c .before .before .before .before .before .before .before .nth-tag .ensures) (c .before .before .before .before .before .before .nth-part .ensures)))
+run-loop-run-command-requires t c κs = (omega (arith, c .before .before .before .before .before .before .before .before .before .before .before .before .before .pre .0, c .before .before .before .before .before .loop .inv .fuel), (c .before .before .before .before .before .loop .inv .begun, nth-known (c .before .before .before .before .before .before .before .before .before .before .before .before .before .pre .1 .1) 0 (omega arith) (c .before .before .before .before .before .before .before .nth-tag .ensures) (c .before .before .before .before .before .before .nth-part .ensures)))
 
 run-loop-goes-on-requires : (t : ℕ) → run-loop-lts.Need-goes-on-requires (run-loop-claims t) (run-loop-at t) run-loop.Post run-loop-Inv-loop run-loop-μ-loop
 run-loop-goes-on-requires t c κs = search needs
@@ -315,7 +347,7 @@ run-row-part-requires : (t : ℕ) → run-row-lts.Need-part-requires (run-row-cl
 run-row-part-requires t c κs = part-in (a-field _ _ (c .before .before .before .read-field .ensures) (c .before .found .given .1))
 
 run-row-run-command-requires : (t : ℕ) → run-row-lts.Need-run-command-requires (run-row-claims t) (run-row-at t) run-row.Post run-row-Inv-loop run-row-μ-loop
-run-row-run-command-requires t c κs = (omega (arith, c .before .before .before .before .before .before .before .before .before .before .before .before .before .before .before .pre .0, here-shorter _ (c .before .before .before .before .before .before .before .before .before .loop .inv) (c .before .before .before .before .before .before .before .before .loop-test .taken) (a-field _ _ (c .before .before .before .before .before .before .before .read-field .ensures) (c .before .before .before .before .before .found .given .1)) (c .before .before .before .part .ensures)), (c .before .before .before .before .before .before .before .before .before .loop .inv .begun, here-known _ (c .before .before .before .before .before .before .before .before .before .loop .inv) (c .before .before .before .before .before .before .before .before .loop-test .taken) (a-field _ _ (c .before .before .before .before .before .before .before .read-field .ensures) (c .before .before .before .before .before .found .given .1)) (c .before .before .before .part .ensures) (c .before .before .before .before .before .before .before .before .before .before .before .before .before .before .before .pre .1 .1)))
+run-row-run-command-requires t c κs = (omega (arith, c .before .before .before .before .before .before .before .before .before .before .before .before .before .before .before .pre .0, c .before .before .before .before .before .before .before .before .before .loop .inv .fuel), (c .before .before .before .before .before .before .before .before .before .loop .inv .begun, here-known _ (c .before .before .before .before .before .before .before .before .before .loop .inv) (c .before .before .before .before .before .before .before .before .loop-test .taken) (a-field _ _ (c .before .before .before .before .before .before .before .read-field .ensures) (c .before .before .before .before .before .found .given .1)) (c .before .before .before .part .ensures) (c .before .before .before .before .before .before .before .before .before .before .before .before .before .before .before .pre .1 .1)))
 
 run-row-goes-on-requires : (t : ℕ) → run-row-lts.Need-goes-on-requires (run-row-claims t) (run-row-at t) run-row.Post run-row-Inv-loop run-row-μ-loop
 run-row-goes-on-requires t c κs = search needs
@@ -371,6 +403,11 @@ pub +run-command+run-guarded+run-loop+run-row-spec : {M : Type 1} → statement 
     (run-command-enum-told-2 t)
     (run-command-run-loop-requires t)
     (run-command-enum-known-kind-2 t)
+    (run-command-procedure-part-requires t)
+    (run-command-nth-tag-requires t)
+    (run-command-nth-part-requires t)
+    (run-command-run-command-requires t)
+    (run-command-enum-known-kind-3 t)
     (run-command-same-length-4 t)
     (run-command-same-length-5 t)
     (run-command-same-length-6 t)
@@ -383,7 +420,11 @@ pub +run-command+run-guarded+run-loop+run-row-spec : {M : Type 1} → statement 
     (run-command-same-length-11 t)
     (run-command-same-length-12 t)
     (run-command-returns-5 t)
-    (run-command-returns-6 t))
+    (run-command-same-length-13 t)
+    (run-command-same-length-14 t)
+    (run-command-same-length-15 t)
+    (run-command-returns-6 t)
+    (run-command-returns-7 t))
     (λ t. run-guarded-lts.spec (run-guarded-claims t)
     (run-guarded-at t)
     run-guarded.Post

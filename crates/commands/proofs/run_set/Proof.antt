@@ -2,7 +2,7 @@
 use mathlib.Core.Path.{refl}
 use borrow.Author.Needs.{needs}
 use Rattle.commands.proofs.Parts.{listed}
-use Rattle.commands.proofs.Turns.{out-of-fuel, begun-spent, paid-call}
+use Rattle.commands.proofs.Turns.{out-of-fuel, begun-spent, paid-set}
 use Rattle.commands.proofs.run_set.Statement.{statement}
 use Rattle.commands.proofs.run_set.Tie as tie
 
@@ -25,7 +25,7 @@ same-length-3 : tie.Need-same-length-3
 same-length-3 c = search needs
 
 returns-2 : tie.Need-returns-2
-returns-2 c = paid-call _ (c .before .before .before .before .before .before .before .before .before .before .entered .ensures) (c .before .before .before .before .before .before .before .before .before .before .before .if1 .left) refl (c .before .before .before .before .before .before .call .ensures)
+returns-2 c = paid-set _ (c .before .before .before .before .before .before .before .before .before .before .entered .ensures) (c .before .before .before .before .before .before .before .before .before .before .before .if1 .left) refl (c .before .before .before .before .before .before .call .ensures)
 
 pub run-set-spec : {M : Type 1} → statement M
 run-set-spec =

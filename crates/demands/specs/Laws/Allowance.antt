@@ -7,7 +7,8 @@ use mathlib.Core.Bool.{Bool, true, false}
 use mathlib.Core.Option.{Option, some, none}
 use native.Mathlib.Nat.{suc-add}
 use Rattle.meaning.specs.Basics.{choose}
-use Rattle.meaning.specs.Image.{Rule, Command, ruleSet, sequence, guarded, loop, skip, fail, break, Commands, noMore, then}
+use Rattle.meaning.specs.Image.{Rule}
+use Rattle.meaning.specs.Procedures.{Command, ruleSet, sequence, guarded, loop, skip, fail, break, called, Commands, noMore, then}
 use Rattle.meaning.specs.Applying.{Applied, applied, hindered}
 use Rattle.meaning.specs.Commands.{State, Out, ends, back, enterAt, Chosen, afterApplying, next, decide, again, rounds, ruleCall, work, works, exec, stateAt}
 use Rattle.laws.specs.Commands.{entered}
@@ -133,6 +134,7 @@ module _ (most room : ℕ) (rules : List Rule) where
     work-more skip d s h = refl
     work-more fail d s h = refl
     work-more break d s h = refl
+    work-more (called c) d s h = enter-more (s .fuel) _ (λ d t e. work-more c d t e) d s h
 
     works-more : (cs : Commands) → More (works most room rules cs)
     works-more noMore d s h = refl

@@ -8,7 +8,8 @@ use mathlib.Core.Option.{Option, some, none}
 use lib.ListN.{getD}
 use Rattle.meaning.specs.Basics.{choose}
 use Rattle.meaning.specs.Layout.{Host}
-use Rattle.meaning.specs.Image.{Rule, Command, ruleSet, sequence, guarded, loop, skip, fail, break, Commands, noMore, then}
+use Rattle.meaning.specs.Image.{Rule}
+use Rattle.meaning.specs.Procedures.{Command, ruleSet, sequence, guarded, loop, skip, fail, break, called, Commands, noMore, then}
 use Rattle.meaning.specs.Matching.{Match}
 use Rattle.meaning.specs.Applying.{Applied, applied, hindered, apply}
 use Rattle.meaning.specs.Commands.{State, Out, ends, back, enterAt, Chosen, ruleAt, firstRule, afterApplying, next, decide, again, rounds, ruleCall, work, works, exec, stateAt}
@@ -166,6 +167,7 @@ module _ (a b : ℕ) where
         work-roomier skip s h = refl
         work-roomier fail s h = refl
         work-roomier break s h = refl
+        work-roomier (called c) s h = enter-roomier (s .fuel) _ _ (λ t i. work-roomier c t i) s h
 
         works-roomier : (cs : Commands) → Roomier (works most room rules cs) (works most room′ rules cs)
         works-roomier noMore s h = refl

@@ -1,5 +1,5 @@
 -- The rules of inference and the definitions of commands say the same: what a command is computed to do follows by the rules,
--- and nothing else does. Rests on Inference, laws' FirstMatch and laws' Fuel.
+-- and nothing else does. Rests on Inference, and on laws' FirstMatch, Fuel and Breaks.
 use Prim.Native.Nat.{ℕ, zero, suc, _-_, _<_, _≤_}
 use mathlib.Core.Path.{_≡_, refl, sym, _∙_, ap}
 use mathlib.Core.Logic.{_↔_}
@@ -11,17 +11,18 @@ use native.Mathlib.Nat.{le-refl}
 use lib.ListN.{length, getD}
 use Rattle.meaning.specs.Basics.{choose}
 use Rattle.meaning.specs.Layout.{Host}
-use Rattle.meaning.specs.Image.{Rule, Command, ruleSet, sequence, guarded, loop, skip, fail, break, Commands, noMore, then}
+use Rattle.meaning.specs.Image.{Rule}
+use Rattle.meaning.specs.Procedures.{Command, ruleSet, sequence, guarded, loop, skip, fail, break, called, Commands, noMore, then}
 use Rattle.meaning.specs.Matching.{Match}
 use Rattle.meaning.specs.FirstMatch.{firstMatch}
 use Rattle.meaning.specs.Applying.{Applied, applied, hindered, apply}
 use Rattle.meaning.specs.Commands.{State, Out, ends, back, enterAt, Chosen, orLater, ruleAt, firstRule, afterApplying, next, decide, again, rounds, ruleCall, work, works, exec}
-use Rattle.meaning.specs.Placement.{breaksLie, allBreaksLie}
 use Rattle.demands.specs.Inference
 use Rattle.demands.specs.Inference.{NoMatch, FirstCalled, stepped, Executes, Does, Follows}
 use Rattle.meaning.specs.Laws.Tests.{both-true}
 use Rattle.laws.specs.FirstMatch as Found
-use Rattle.laws.specs.Commands.{firstRule-some, firstRule-none, exec-entered, guard-unbroken}
+use Rattle.laws.specs.Commands.{firstRule-some, firstRule-none, exec-entered}
+use Rattle.laws.specs.Breaks.{breaksStay, allBreaksStay, guard-unbroken}
 use Rattle.laws.specs.Fuel.{exec-spending, again-same, rounds-bound}
 use Rattle.laws.specs.References.{Sound}
 use Rattle.meaning.specs.declared.Stop.the-variants.{OutOfFuel}
@@ -143,9 +144,9 @@ module _ (most room : ℕ) (rules : List Rule) where
 
   module _ (sound : (i : ℕ) → Sound (ruleAt rules i)) where
     mutual
-      unfolding work works breaksLie allBreaksLie
+      unfolding work works breaksStay allBreaksStay
 
-      work-does : (c : Command) (s : State) (ok : Bool) → breaksLie c ok ≡ true → DoesEnd c s (work most room rules c s)
+      work-does : (c : Command) (s : State) (ok : Bool) → breaksStay c ok ≡ true → DoesEnd c s (work most room rules c s)
       work-does (ruleSet l) s ok b = call-does l s sound _ refl
       work-does (sequence cs) s ok b = Inference.inSequence (works-follow cs s ok b)
       work-does (guarded keep g x y) s ok b =
@@ -159,15 +160,16 @@ module _ (most room : ℕ) (rules : List Rule) where
       work-does skip s ok b = Inference.skips
       work-does fail s ok b = Inference.fails
       work-does break s ok b = Inference.breaks
+      work-does (called c) s ok b = Inference.calls (enter-executes c (s .fuel) s refl (λ t. work-does c t false b))
 
-      works-follow : (cs : Commands) (s : State) (ok : Bool) → allBreaksLie cs ok ≡ true → FollowsEnd cs s (works most room rules cs s)
+      works-follow : (cs : Commands) (s : State) (ok : Bool) → allBreaksStay cs ok ≡ true → FollowsEnd cs s (works most room rules cs s)
       works-follow noMore s ok b = Inference.nothing
       works-follow (then c cs) s ok b =
           let i = both-true _ _ b in
           next-follows c cs s _ _ _ (enter-executes c (s .fuel) s refl (λ t. work-does c t ok (i .0))) (λ u. works-follow cs u ok (i .1))
 
-    -- a command whose breaks lie in loops has what it is computed to do
-    pub exec-executes : (c : Command) (s : State) → breaksLie c false ≡ true → Ended c s (exec most room rules c s)
+    -- a command out of which no break comes has what it is computed to do
+    pub exec-executes : (c : Command) (s : State) → breaksStay c false ≡ true → Ended c s (exec most room rules c s)
     exec-executes c s b = enter-executes c (s .fuel) s refl (λ t. work-does c t false b)
 
     -- Nothing else follows.
@@ -207,6 +209,7 @@ module _ (most room : ℕ) (rules : List Rule) where
       does-work (Inference.applies {l = l} {s = s} r p g f q v) = rw (called-is rules sound (s .ledger .host) l r p f, q, v)
       does-work (Inference.hinders {l = l} {s = s} r p w f q) = rw (called-is rules sound (s .ledger .host) l r p f, q)
       does-work (Inference.inSequence f) = follows-works f
+      does-work (Inference.calls r) = executes-exec r
       does-work (Inference.thenIf t g a) = rw (executes-exec g) (executes-exec a)
       does-work (Inference.thenTry t g a) = rw (executes-exec g) (executes-exec a)
       does-work (Inference.elses t g b) = rw (executes-exec g) (executes-exec b)

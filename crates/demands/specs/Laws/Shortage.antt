@@ -8,7 +8,8 @@ use native.Mathlib.Omega.{arith}
 use native.Mathlib.Nat.{suc-add, le-refl}
 use native.Mathlib.Decide.{decLe}
 use Rattle.meaning.specs.Basics.{choose}
-use Rattle.meaning.specs.Image.{Rule, Command, ruleSet, sequence, guarded, loop, skip, fail, break, Commands, noMore, then}
+use Rattle.meaning.specs.Image.{Rule}
+use Rattle.meaning.specs.Procedures.{Command, ruleSet, sequence, guarded, loop, skip, fail, break, called, Commands, noMore, then}
 use Rattle.meaning.specs.Commands.{State, Out, ends, back, enterAt, next, decide, again, rounds, work, works, exec, stateAt}
 use Rattle.laws.specs.Commands.{entered}
 use Rattle.demands.specs.Laws.Allowance.{more, moreLeft, Enough, More, exec-grows}
@@ -147,6 +148,7 @@ module _ (most room : ℕ) (rules : List Rule) where
     work-short skip d s = tt
     work-short fail d s = tt
     work-short break d s = tt
+    work-short (called c) d s = enter-short (s .fuel) _ (work-falls c) (λ d t. work-short c d t) d s refl
 
     works-short : (cs : Commands) → Short (works most room rules cs)
     works-short noMore d s = tt

@@ -1,6 +1,6 @@
 -- `parts::rule_count` meets its contract.
 use borrow.Author.Needs.{needs}
-use Rattle.parts.specs.Rows.{rule-count-is}
+use Rattle.parts.specs.Images.{rule-count-is}
 use Rattle.parts.proofs.rule_count.Statement.{statement}
 use Rattle.parts.proofs.rule_count.Tie as tie
 

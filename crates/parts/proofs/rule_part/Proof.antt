@@ -2,7 +2,7 @@
 use mathlib.Core.Path.{_∙_, ap}
 use borrow.Author.Needs.{needs}
 use Rattle.meaning.specs.Image.{rule}
-use Rattle.parts.specs.Rows.{nth-rule}
+use Rattle.parts.specs.Images.{nth-rule}
 use Rattle.parts.proofs.rule_part.Statement.{statement}
 use Rattle.parts.proofs.rule_part.Tie as tie
 

@@ -10,7 +10,8 @@ use Prim.Native.Nat.{ℕ, zero, suc, _*_, _<_}
 use native.Mathlib.Omega.{arith}
 use lib.ListN.{replicate}
 use Rattle.meaning.specs.Layout.{base, recordLength, readEdges}
-use Rattle.meaning.specs.Image.{Rule, Program, program, ruleSet, loop}
+use Rattle.meaning.specs.Image.{Rule}
+use Rattle.meaning.specs.Procedures.{Program, program, ruleSet, loop}
 use Rattle.meaning.specs.Calls.{Lent}
 use Rattle.meaning.specs.Computing.{computing}
 use Rattle.demands.specs.Ours.{ours}

@@ -9,7 +9,8 @@ use native.Mathlib.Omega.{arith}
 use lib.ListN.{replicate}
 use Rattle.meaning.specs.Tags.{loopTag, nodeTag, noneMark, redMark}
 use Rattle.meaning.specs.Layout.{base, recordLength}
-use Rattle.meaning.specs.Image.{Rule, Program, program, ruleSet, loop}
+use Rattle.meaning.specs.Image.{Rule}
+use Rattle.meaning.specs.Procedures.{Program, program, ruleSet, loop}
 use Rattle.meaning.specs.Calls.{Lent}
 use Rattle.meaning.specs.Computing.{computing}
 use Rattle.demands.specs.Ours.{ours}

@@ -10,7 +10,8 @@ use Prim.Native.Nat.{ℕ, zero, suc, _<_, _≤_}
 use native.Mathlib.Omega.{arith}
 use native.Mathlib.Decide.{ℕ-discrete}
 use Rattle.meaning.specs.Tags.{listType, noneMark}
-use Rattle.meaning.specs.Image.{RuleNode, RuleEdge, Rule, Program, program, ruleSet, loop}
+use Rattle.meaning.specs.Image.{RuleNode, RuleEdge, Rule}
+use Rattle.meaning.specs.Procedures.{Program, program, ruleSet, loop}
 use Rattle.meaning.specs.Basics.{choose}
 use Rattle.meaning.specs.Computing.{computing}
 use Rattle.laws.specs.Numbers.{bytes-by}

@@ -4,10 +4,10 @@ use Prim.Native.Nat.{_-_}
 use borrow.Author.Needs.{needs}
 use lib.ListN.{length}
 use Rattle.meaning.specs.Basics.{every}
-use Rattle.meaning.specs.Image.{program}
+use Rattle.meaning.specs.Image.{rawProgram}
 use Rattle.meaning.specs.References.{ruleHolds}
 use Rattle.references.specs.Asked.{partHolds}
-use Rattle.parts.specs.Rows.{image-series, imagePart, imageParts}
+use Rattle.parts.specs.Images.{image-series, imagePart, imageParts}
 use Rattle.parts.specs.Series.{Walk, walk-cut, walk-done, walk-next, walk-start, walk-stop}
 use Rattle.references.proofs.Ties.{parts-hold}
 use Rattle.parts.proofs.Loops.{a-field, nearer, no-field, part-in}
@@ -15,7 +15,7 @@ use Rattle.references.proofs.rules_hold.Statement.{statement}
 use Rattle.references.proofs.rules_hold.Tie as tie
 
 abbrev Inv-loop : tie.InvT-loop
-Inv-loop image at₀ at = Walk imagePart partHolds image (program image) (λ p. every ruleHolds (p .rules)) at
+Inv-loop image at₀ at = Walk imagePart partHolds image (rawProgram image) (λ p. every ruleHolds (p .rules)) at
 
 abbrev μ-loop : tie.MeasureT-loop
 μ-loop image at₀ at = length image - at

@@ -9,12 +9,12 @@ use Rattle.refusal.proofs.references_ok.Tie as tie
 rules-hold-requires : tie.Need-rules-hold-requires
 rules-hold-requires c κs = search needs
 
-rules-exist-requires : tie.Need-rules-exist-requires
-rules-exist-requires c κs = search needs
+names-exist-requires : tie.Need-names-exist-requires
+names-exist-requires c κs = search needs
 
 returns : tie.Need-returns
 unfolding references
-returns c p e = c .rules-exist .ensures p e ∙ sym (both-yes _ _ (sym (c .before .before .rules-hold .ensures p e) ∙ c .before .if1 .taken))
+returns c p e = c .names-exist .ensures p e ∙ sym (both-yes _ _ (sym (c .before .before .rules-hold .ensures p e) ∙ c .before .if1 .taken))
 
 returns-2 : tie.Need-returns-2
 unfolding references
@@ -22,4 +22,4 @@ returns-2 c p e = sym (both-no _ _ (sym (c .before .rules-hold .ensures p e) ∙
 
 pub references-ok-spec : {M : Type 1} → statement M
 references-ok-spec =
-    tie.close (tie.spec rules-hold-requires rules-exist-requires returns returns-2)
+    tie.close (tie.spec rules-hold-requires names-exist-requires returns returns-2)

@@ -2,10 +2,10 @@
 use mathlib.Core.Path.{refl}
 use Prim.Native.Nat.{_-_}
 use Rattle.meaning.specs.Image.{asSequence, asLoop}
-use Rattle.meaning.specs.Image.Command.{skip, fail, break}
+use Rattle.meaning.specs.Image.Raw.{skip, fail, break}
 use Rattle.fields.specs.Image.{command-ruleSet, command-sequence, command-loop, command-skip, command-fail, command-break, command-other}
 use Rattle.image.proofs.Rows.{sequence-fits, loop-fits}
-use Rattle.image.proofs.Insides.{failed, no-depth, as-is, a-leaf, of-parts, guarded-unflagged, guarded-row}
+use Rattle.image.proofs.Insides.{failed, no-depth, as-is, a-leaf, a-call, of-parts, guarded-unflagged, guarded-row}
 use borrow.Author.Needs.{needs}
 use Rattle.image.proofs.items.command.Statement.{statement}
 use Rattle.image.proofs.items.command.Tie as tie
@@ -47,7 +47,10 @@ returns-9 : tie.Need-returns-9
 returns-9 c = a-leaf _ _ _ (c .before .if1 .left) break (command-break (c .before .before .before .args .depth - 1) (c .before .before .before .args .tag) (c .before .before .before .args .p .now) (c .match .keys7))
 
 returns-10 : tie.Need-returns-10
-returns-10 c = as-is _ _ _ (c .before .if1 .left) _ (command-other (c .before .before .before .args .depth - 1) (c .before .before .before .args .tag) (c .before .before .before .args .p .now) (c .match .rest .0 .0 .0 .0 .0 .0 .1) (c .match .rest .0 .0 .0 .0 .0 .1) (c .match .rest .0 .0 .0 .0 .1) (c .match .rest .0 .0 .0 .1) (c .match .rest .0 .0 .1) (c .match .rest .0 .1) (c .match .rest .1)) (failed _ refl)
+returns-10 c = a-call _ _ _ (c .before .if1 .left) (c .match .keys8)
+
+returns-11 : tie.Need-returns-11
+returns-11 c = as-is _ _ _ (c .before .if1 .left) _ (command-other (c .before .before .before .args .depth - 1) (c .before .before .before .args .tag) (c .before .before .before .args .p .now) (c .match .rest .0 .0 .0 .0 .0 .0 .0 .1) (c .match .rest .0 .0 .0 .0 .0 .0 .1) (c .match .rest .0 .0 .0 .0 .0 .1) (c .match .rest .0 .0 .0 .0 .1) (c .match .rest .0 .0 .0 .1) (c .match .rest .0 .0 .1) (c .match .rest .0 .1) (c .match .rest .1)) (failed _ refl)
 
 pub command-spec : {M : Type 1} → statement M
 command-spec =
@@ -65,4 +68,5 @@ command-spec =
     returns-7
     returns-8
     returns-9
-    returns-10)
+    returns-10
+    returns-11)

@@ -6,7 +6,7 @@ use native.Mathlib.Omega.{arith}
 use lib.Dec.{lit<}
 use Rattle.fields.specs.Image.{oneByte-ok}
 use Rattle.image.proofs.Insides.{failed}
-use Rattle.image.proofs.Rows.{rule-fits, graph-fits, tests-fit}
+use Rattle.image.proofs.Rows.{rule-fits, one-fits, graph-fits, tests-fit}
 use borrow.Author.Needs.{needs}
 use Rattle.image.proofs.items.inside.Statement.{statement}
 use Rattle.image.proofs.items.inside.Tie as tie
@@ -16,9 +16,6 @@ enum-told c = search needs
 
 enum-told-2 : tie.Need-enum-told-2
 enum-told-2 c = search needs
-
-command-requires : tie.Need-command-requires
-command-requires c κs = search needs
 
 enum-told-3 : tie.Need-enum-told-3
 enum-told-3 c = search needs
@@ -77,20 +74,20 @@ operand-ok-requires c κs = search needs
 enum-known-row : tie.Need-enum-known-row
 enum-known-row c = search needs
 
-command-requires-2 : tie.Need-command-requires-2
-command-requires-2 c κs = search needs
+command-requires : tie.Need-command-requires
+command-requires c κs = search needs
 
 enum-known-row-2 : tie.Need-enum-known-row-2
 enum-known-row-2 c = search needs
 
-command-requires-3 : tie.Need-command-requires-3
-command-requires-3 c κs = search needs
+command-requires-2 : tie.Need-command-requires-2
+command-requires-2 c κs = search needs
 
 enum-known-row-3 : tie.Need-enum-known-row-3
 enum-known-row-3 c = search needs
 
-command-requires-4 : tie.Need-command-requires-4
-command-requires-4 c κs = search needs
+command-requires-3 : tie.Need-command-requires-3
+command-requires-3 c κs = search needs
 
 enum-told-14 : tie.Need-enum-told-14
 enum-told-14 c = search needs
@@ -99,7 +96,7 @@ returns : tie.Need-returns
 returns c = rw (c .enum-told .given .1) (record { lower = lit< tt; inside = omega arith; same = rule-fits _ })
 
 returns-2 : tie.Need-returns-2
-returns-2 c = rw (c .before .enum-told2 .given .1) (c .command .ensures)
+returns-2 c = rw (c .enum-told2 .given .1) (record { lower = lit< tt; inside = omega arith; same = one-fits _ _ })
 
 returns-3 : tie.Need-returns-3
 returns-3 c = rw (c .before .enum-told3 .given .1) (c .types-ok .ensures)
@@ -135,13 +132,13 @@ returns-13 : tie.Need-returns-13
 returns-13 c = rw (c .before .enum-told13 .given .1) (c .operand-ok .ensures)
 
 returns-14 : tie.Need-returns-14
-returns-14 c = rw (c .before .before .row .given .1) (c .command2 .ensures)
+returns-14 c = rw (c .before .before .row .given .1) (c .command .ensures)
 
 returns-15 : tie.Need-returns-15
-returns-15 c = rw (c .before .before .row2 .given .1) (c .command3 .ensures)
+returns-15 c = rw (c .before .before .row2 .given .1) (c .command2 .ensures)
 
 returns-16 : tie.Need-returns-16
-returns-16 c = rw (c .before .before .row3 .given .1) (c .command4 .ensures)
+returns-16 c = rw (c .before .before .row3 .given .1) (c .command3 .ensures)
 
 returns-17 : tie.Need-returns-17
 returns-17 c = rw (c .enum-told14 .given .1) (failed {A = ℕ} none refl)
@@ -152,7 +149,6 @@ inside-spec =
     (tie.spec
     enum-told
     enum-told-2
-    command-requires
     enum-told-3
     types-ok-requires
     enum-told-4
@@ -172,11 +168,11 @@ inside-spec =
     enum-told-13
     operand-ok-requires
     enum-known-row
-    command-requires-2
+    command-requires
     enum-known-row-2
-    command-requires-3
+    command-requires-2
     enum-known-row-3
-    command-requires-4
+    command-requires-3
     enum-told-14
     returns
     returns-2

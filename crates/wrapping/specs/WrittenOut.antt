@@ -1,0 +1,53 @@
+-- Calls of procedures written out: each replaced by its procedure's command, so that none is left. When a program is another with its
+-- calls written out. Rests on the meaning's Basics and Procedures.
+use mathlib.Core.Path.{_≡_}
+use mathlib.Core.Bool.{Bool, true, false}
+use Rattle.meaning.specs.Basics.{both}
+use Rattle.meaning.specs.Procedures.{Program, Command, ruleSet, sequence, guarded, loop, skip, fail, break, called, Commands, noMore, then}
+
+unfoldable pub isCall : Command → Bool
+isCall (ruleSet l) = false
+isCall (sequence cs) = false
+isCall (guarded keep g a b) = false
+isCall (loop c) = false
+isCall skip = false
+isCall fail = false
+isCall break = false
+isCall (called c) = true
+
+-- the command with its calls written out, those in the procedures that it calls too
+unfoldable mutual
+  pub written : Command → Command
+  written (ruleSet l) = ruleSet l
+  written (sequence cs) = sequence (allWritten cs)
+  written (guarded keep g a b) = guarded keep (written g) (written a) (written b)
+  written (loop c) = loop (written c)
+  written skip = skip
+  written fail = fail
+  written break = break
+  written (called c) = written c
+
+  pub allWritten : Commands → Commands
+  allWritten noMore = noMore
+  allWritten (then c cs) = then (written c) (allWritten cs)
+
+-- whether a command has no call in it
+unfoldable mutual
+  pub callFree : Command → Bool
+  callFree (ruleSet l) = true
+  callFree (sequence cs) = allCallFree cs
+  callFree (guarded keep g a b) = both (callFree g) (both (callFree a) (callFree b))
+  callFree (loop c) = callFree c
+  callFree skip = true
+  callFree fail = true
+  callFree break = true
+  callFree (called c) = false
+
+  pub allCallFree : Commands → Bool
+  allCallFree noMore = true
+  allCallFree (then c cs) = both (callFree c) (allCallFree cs)
+
+-- q is p with its calls written out
+pub record WrittenOut (p q : Program) : Type 0 where
+  pub rules : p .rules ≡ q .rules
+  pub main : q .main ≡ written (p .main)
