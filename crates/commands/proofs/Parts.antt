@@ -19,15 +19,15 @@ use Rattle.meaning.specs.Procedures.{Command, ruleSet, sequence, guarded, loop,
 use Rattle.meaning.specs.Laws.Tests.{both-true, every-true}
 use Rattle.laws.specs.Procedures.{StandsFor, putIn-some}
 use Rattle.fields.specs.Image.{bind-yes}
-use Rattle.fields.specs.Parsed.{tagOf, command-tag, rule-set-read, sequence-read, guarded-read, loop-read, skip-read, fail-read, break-read, call-read}
+use Rattle.fields.specs.Parsed.{tagOf, command-tag, rule-set-read, sequence-read, guarded-read, loop-read, skip-read, fail-read, break-read, call-read, one-is}
 use Rattle.meaning.specs.declared.End.{End}
 use Rattle.meaning.specs.declared.End.the-variants.{Done, Failed, Broke, Stopped}
 use Rattle.parts.specs.Series.{For, Series, only-series, nthPart, nthTag, nth-item}
-use Rattle.parts.specs.Images.{procedure, command-in, main-is}
+use Rattle.parts.specs.Images.{procedure, main-is}
 use Rattle.calling.specs.Called.{Listed}
 use Rattle.commands.specs.Program.{Runnable}
 use Rattle.ends.specs.Ends.{LeafTag}
-use Rattle.commands.specs.Cycle.{Known, Row, at, inOrder}
+use Rattle.commands.specs.Cycle.{standsFor, Known, Row, at, inOrder}
 use Rattle.commands.proofs.Putting.{Becomes, Exist, Stands, stands, stands-for, becomes-as, Puts, puts-length, puts-all, series-puts}
 
 row-series : (n : ℕ) (bs : List ℕ) (l : List Raw) → only passesAll (command n) (limits .commands) bs ≡ some l → Series (command n) l [] bs
@@ -148,11 +148,10 @@ module _ {image : List ℕ} {tag : ℕ} {bs : List ℕ} (w : Known image tag bs)
     unfolding loop-of
     loop-is = body .5
 
-  -- Calls: the command of the procedure is the first field of its part.
+  -- Calls: what a procedure holds is a row of one command.
 
   module _ (h : tag ≡ callTag) {i : ℕ} (q : i ≡ getD bs 0 0) (part : List ℕ)
       (there : For (rawProgram image) (λ p. i < length (p .procedures) → (d : Raw) → procedure part ≡ some (getD (p .procedures) i d)))
-      {inner : ℕ} (t : inner ≡ nthTag 0 part) {first : List ℕ} (f : first ≡ nthPart 0 part)
     where
       abbrev P : RawProgram
       P = w .runnable .programmed .tree
@@ -160,29 +159,26 @@ module _ {image : List ℕ} {tag : ℕ} {bs : List ℕ} (w : Known image tag bs)
       raw-call : was .raw ≡ Image.call i
       raw-call = rw q (call-read (w .own - 1) tag bs (was .raw) deeper h .1)
 
-      pub below : i < length (P .procedures)
+      below : i < length (P .procedures)
       unfolding namesExist
       below = ltb-true i (length (P .procedures)) (exist-as (Image.call i) raw-call)
 
-      pub reads : command (limits .depth) inner first ≡ some (getD (P .procedures) i Image.skip)
-      reads = rw (t, f) (command-in part _ (there P (w .runnable .programmed .is) below Image.skip))
-
-      pub put-in : Becomes (P .procedures) (Image.call i) (w .cmd)
+      put-in : Becomes (P .procedures) (Image.call i) (w .cmd)
       put-in = becomes-as _ (w .deep) (was .raw) (Image.call i) (w .cmd) raw-call (was .whole)
 
-      unfoldable pub call-of : Known image inner first
-      call-of =
-          record {
-            runnable = w .runnable;
-            own = limits .depth;
-            deep = put-in .0;
-            cmd = put-in .1;
-            is = stands-for P (limits .depth) (put-in .0) inner first _ _ reads (every-true _ (P .procedures) Image.skip (names (w .runnable) .0) i below) (put-in .2);
-          }
+      pub held : (n : ℕ) × (x : Command) × Series (standsFor P (limits .depth) n) (x ∷ []) [] part × (w .cmd ≡ called x)
+      unfolding Series
+      held =
+          let o = one-is (command (limits .depth)) part _ (there P (w .runnable .programmed .is) below Image.skip) in
+          let e = every-true _ (P .procedures) Image.skip (names (w .runnable) .0) i below in
+          (put-in .0, put-in .1, record { whole = o .whole; there = o .there; read = stands-for P (limits .depth) (put-in .0) (o .whole .tag) (o .whole .payload) _ _ (o .command) e (put-in .2); more = o .last }, put-in .3)
 
-      pub call-is : w .cmd ≡ called (call-of .cmd)
+      unfoldable pub call-of : Row 1 image part
+      call-of = record { runnable = w .runnable; own = limits .depth; deep = held .0; cmds = held .1 ∷ []; series = held .2; enough = omega arith }
+
+      pub call-is : w .cmd ≡ called (at call-of 0)
       unfolding call-of
-      call-is = put-in .3
+      call-is = held .3
 
   -- Skip, fail and break.
 

@@ -36,6 +36,14 @@ next-not Failed t k h = refl
 next-not Broke t k h = refl
 next-not (Stopped w) t k h = refl
 
+-- nothing is next
+next-none : (e : End) (t : State) → next e t (λ u. ends Done u) ≡ ends e t
+unfolding next
+next-none Done t = refl
+next-none Failed t = refl
+next-none Broke t = refl
+next-none (Stopped w) t = refl
+
 again-not : (e : End) (s t : State) (k : State → Out) → isDone e ≡ false → closed e s t ≡ again e s t k
 unfolding isDone again closed
 again-not Done s t k h = let z : _≡_ {A = ℕ} 0 1 = cc in absurd (omega arith)
@@ -70,9 +78,9 @@ module _ (most room : ℕ) (rules : List Rule) where
       let z : s .fuel ≡ suc (s .fuel - 1) = omega arith in
       rw (add-one (s .steps)) (sym (exec-entered most room rules c s (s .fuel - 1) z))
 
-  pub called-work : (c : Command) (s : State) → exec most room rules c s ≡ work most room rules (called c) s
-  unfolding work
-  called-work c s = refl
+  pub called-work : (c : Command) (s : State) → works most room rules (inOrder (c ∷ [])) s ≡ work most room rules (called c) s
+  unfolding work works inOrder
+  called-work c s = let o = exec most room rules c s in next-none (o .end) (o .state)
 
   pub leaf-work : (tag : ℕ) (e : End) (s : State) → LeafTag tag e → ends e s ≡ work most room rules (leafOf e) s
   unfolding work

@@ -155,15 +155,14 @@ module _ (L : Layout) where
       unfolding loop-of
       paid-loop q m = paid (λ w. loop (at (loop-of w q) 0)) (λ w. loop-is w q) (λ w. m .right (loop-of w q)) (m .running)
 
-      pub paid-call : {i : ℕ} (part : List ℕ) {inner : ℕ} {first : List ℕ} → (tag ≡ callTag) × (i ≡ getD bs 0 0)
+      pub paid-call : {i : ℕ} (part : List ℕ) → (tag ≡ callTag) × (i ≡ getD bs 0 0)
           → For (rawProgram image) (λ p. i < length (p .procedures) → (d : Raw) → procedure part ≡ some (getD (p .procedures) i d))
-          → inner ≡ nthTag 0 part → first ≡ nthPart 0 part
-          → Comes L (Known image inner first) (runsCommand L) nodes edges journal s r nodes′ edges′ journal′
+          → Comes L (Row 1 image part) (runsRow L) nodes edges journal s r nodes′ edges′ journal′
           → Comes L (Known image tag bs) (runsCommand L) nodes edges journal t r nodes′ edges′ journal′
       unfolding call-of
-      paid-call part q there n f m =
-          paid (λ w. called (call-of w (q .0) (q .1) part there n f .cmd)) (λ w. call-is w (q .0) (q .1) part there n f)
-          (λ w. m .right (call-of w (q .0) (q .1) part there n f) ∙ called-work (L .atoms) (journalRoom L journal) (w .runnable .programmed .tree .rules) _ _) (m .running)
+      paid-call part q there m =
+          paid (λ w. called (at (call-of w (q .0) (q .1) part there) 0)) (λ w. call-is w (q .0) (q .1) part there)
+          (λ w. m .right (call-of w (q .0) (q .1) part there) ∙ called-work (L .atoms) (journalRoom L journal) (w .runnable .programmed .tree .rules) _ _) (m .running)
 
     pub paid-leaf : {s : Tally} → s ≡ spent t → (t .fuel ≡ 0 → ⊥) → (e : End) → LeafTag tag e → Begun L nodes edges journal t
         → Comes L (Known image tag bs) (runsCommand L) nodes edges journal t (record { end = e; tally = s }) nodes edges journal

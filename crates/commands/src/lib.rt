@@ -58,7 +58,7 @@ fn run_nested_set(
     run_set(l, image, p, nodes, edges, journal, t)
 }
 
-// Enters and runs a command, from its tag and payload.
+// Enters and runs a command, from its tag and payload. What a procedure holds is a row of one command.
 fn run_command(
     l: Layout,
     image: &[u8],
@@ -98,19 +98,15 @@ fn run_command(
             spent,
         ),
         Kind::Loop => run_loop(l, image, p, nodes, edges, journal, spent),
-        Kind::Call(i) => {
-            let body = parts::procedure_part(image, i);
-            run_command(
-                l,
-                image,
-                parts::nth_tag(body, 0),
-                parts::nth_part(body, 0),
-                nodes,
-                edges,
-                journal,
-                spent,
-            )
-        }
+        Kind::Call(i) => run_row(
+            l,
+            image,
+            parts::procedure_part(image, i),
+            nodes,
+            edges,
+            journal,
+            spent,
+        ),
         Kind::Leaf(end) => Ran {
             end: end,
             tally: spent,

@@ -82,7 +82,7 @@ abbrev run-row-below : ℕ → In 5 run-row-kinds.ps
 run-row-below t = and 5 run-row-kinds.ps (falls 5 run-row-kinds.ps _<_ μ-run-row t) run-row.Pre
 
 abbrev run-command-claims : ℕ → run-command-lts.Claims
-run-command-claims t = (run-nested-set-reads.Asked, run-nested-set-reads.Learnt, entered-reads.Asked, entered-reads.Learnt, kind-of-reads.Asked, kind-of-reads.Learnt, run-row-below t, run-row.Post, behind-reads.Asked, behind-reads.Learnt, run-guarded-below t, run-guarded.Post, run-loop-below t, run-loop.Post, procedure-part-reads.Asked, procedure-part-reads.Learnt, nth-tag-reads.Asked, nth-tag-reads.Learnt, nth-part-reads.Asked, nth-part-reads.Learnt, run-command-below t, run-command.Post)
+run-command-claims t = (run-nested-set-reads.Asked, run-nested-set-reads.Learnt, entered-reads.Asked, entered-reads.Learnt, kind-of-reads.Asked, kind-of-reads.Learnt, run-row-below t, run-row.Post, behind-reads.Asked, behind-reads.Learnt, run-guarded-below t, run-guarded.Post, run-loop-below t, run-loop.Post, procedure-part-reads.Asked, procedure-part-reads.Learnt)
 
 abbrev run-guarded-claims : ℕ → run-guarded-lts.Claims
 run-guarded-claims t = (nth-part-reads.Asked, nth-part-reads.Learnt, nth-tag-reads.Asked, nth-tag-reads.Learnt, run-command-below t, run-command.Post, part-after-reads.Asked, part-after-reads.Learnt, settle-reads.Asked, settle-reads.Learnt)
@@ -146,16 +146,10 @@ run-command-enum-known-kind-2 t c = search needs
 run-command-procedure-part-requires : (t : ℕ) → run-command-lts.Need-procedure-part-requires (run-command-claims t) (run-command-at t) run-command.Post
 run-command-procedure-part-requires t c κs = search needs
 
-run-command-nth-tag-requires : (t : ℕ) → run-command-lts.Need-nth-tag-requires (run-command-claims t) (run-command-at t) run-command.Post
-run-command-nth-tag-requires t c κs = search needs
-
-run-command-nth-part-requires : (t : ℕ) → run-command-lts.Need-nth-part-requires (run-command-claims t) (run-command-at t) run-command.Post
-run-command-nth-part-requires t c κs = search needs
-
-run-command-run-command-requires : (t : ℕ) → run-command-lts.Need-run-command-requires (run-command-claims t) (run-command-at t) run-command.Post
-run-command-run-command-requires t c κs =
-    let k = is-kind (c .before .before .before .before .before .before .before .before .before .before .before .before .before .before .before .before .before .before .pre .1 .1) (c .before .before .before .before .before .before .before .before .before .before .before .before .if1 .left) (c .before .before .before .before .before .before .before .before .before .kind-of .ensures) (Call _) (c .before .before .before .before .before .before .before .kind2 .given .1) in
-    (omega (arith, c .before .before .before .before .before .before .before .before .before .before .before .before .before .before .before .before .before .before .pre .0, spent-below _ (c .before .before .before .before .before .before .before .before .before .before .entered .ensures) (c .before .before .before .before .before .before .before .before .before .before .before .if2 .left)), (begun-spent _ (c .before .before .before .before .before .before .before .before .before .before .entered .ensures) (c .before .before .before .before .before .before .before .before .before .before .before .if2 .left) (c .before .before .before .before .before .before .before .before .before .before .before .before .before .before .before .before .before .before .pre .1 .0), call-of (c .before .before .before .before .before .before .before .before .before .before .before .before .before .before .before .before .before .before .pre .1 .1) (k .0) (k .1) _ (c .before .before .before .before .before .procedure-part .ensures) (c .before .before .before .before .nth-tag .ensures) (c .before .before .before .nth-part .ensures)))
+run-command-run-row-requires-2 : (t : ℕ) → run-command-lts.Need-run-row-requires-2 (run-command-claims t) (run-command-at t) run-command.Post
+run-command-run-row-requires-2 t c κs =
+    let k = is-kind (c .before .before .before .before .before .before .before .before .before .before .before .before .before .before .before .before .pre .1 .1) (c .before .before .before .before .before .before .before .before .before .before .if1 .left) (c .before .before .before .before .before .before .before .kind-of .ensures) (Call _) (c .before .before .before .before .before .kind2 .given .1) in
+    (omega (arith, c .before .before .before .before .before .before .before .before .before .before .before .before .before .before .before .before .pre .0, spent-below _ (c .before .before .before .before .before .before .before .before .entered .ensures) (c .before .before .before .before .before .before .before .before .before .if2 .left)), (begun-spent _ (c .before .before .before .before .before .before .before .before .entered .ensures) (c .before .before .before .before .before .before .before .before .before .if2 .left) (c .before .before .before .before .before .before .before .before .before .before .before .before .before .before .before .before .pre .1 .0), call-of (c .before .before .before .before .before .before .before .before .before .before .before .before .before .before .before .before .pre .1 .1) (k .0) (k .1) _ (c .before .before .before .procedure-part .ensures)))
 
 run-command-enum-known-kind-3 : (t : ℕ) → run-command-lts.Need-enum-known-kind-3 (run-command-claims t) (run-command-at t) run-command.Post
 run-command-enum-known-kind-3 t c = search needs
@@ -208,8 +202,8 @@ run-command-same-length-15 t c = search needs
 
 run-command-returns-6 : (t : ℕ) → run-command-lts.Need-returns-6 (run-command-claims t) (run-command-at t) run-command.Post
 run-command-returns-6 t c =
-    let k = is-kind (c .before .before .before .before .before .before .before .before .before .before .before .before .before .before .before .before .before .before .before .before .before .before .before .before .before .pre .1 .1) (c .before .before .before .before .before .before .before .before .before .before .before .before .before .before .before .before .before .before .before .if1 .left) (c .before .before .before .before .before .before .before .before .before .before .before .before .before .before .before .before .kind-of .ensures) (Call _) (c .before .before .before .before .before .before .before .before .before .before .before .before .before .before .kind2 .given .1) in
-    paid-call _ (c .before .before .before .before .before .before .before .before .before .before .before .before .before .before .before .before .before .entered .ensures) (c .before .before .before .before .before .before .before .before .before .before .before .before .before .before .before .before .before .before .if2 .left) _ k (c .before .before .before .before .before .before .before .before .before .before .before .before .procedure-part .ensures) (c .before .before .before .before .before .before .before .before .before .before .before .nth-tag .ensures) (c .before .before .before .before .before .before .before .before .before .before .nth-part .ensures) (c .before .before .before .before .before .before .run-command .ensures)
+    let k = is-kind (c .before .before .before .before .before .before .before .before .before .before .before .before .before .before .before .before .before .before .before .before .before .before .before .pre .1 .1) (c .before .before .before .before .before .before .before .before .before .before .before .before .before .before .before .before .before .if1 .left) (c .before .before .before .before .before .before .before .before .before .before .before .before .before .before .kind-of .ensures) (Call _) (c .before .before .before .before .before .before .before .before .before .before .before .before .kind2 .given .1) in
+    paid-call _ (c .before .before .before .before .before .before .before .before .before .before .before .before .before .before .before .entered .ensures) (c .before .before .before .before .before .before .before .before .before .before .before .before .before .before .before .before .if2 .left) _ k (c .before .before .before .before .before .before .before .before .before .before .procedure-part .ensures) (c .before .before .before .before .before .before .run-row2 .ensures)
 
 run-command-returns-7 : (t : ℕ) → run-command-lts.Need-returns-7 (run-command-claims t) (run-command-at t) run-command.Post
 run-command-returns-7 t c = paid-leaf _ (c .before .before .before .before .entered .ensures) (c .before .before .before .before .before .if2 .left) _ (is-kind (c .before .before .before .before .before .before .before .before .before .before .before .before .pre .1 .1) (c .before .before .before .before .before .before .if1 .left) (c .before .before .before .kind-of .ensures) (Leaf _) (c .before .kind3 .given .1)) (c .before .before .before .before .before .before .before .before .before .before .before .before .pre .1 .0)
@@ -404,9 +398,7 @@ pub +run-command+run-guarded+run-loop+run-row-spec : {M : Type 1} → statement 
     (run-command-run-loop-requires t)
     (run-command-enum-known-kind-2 t)
     (run-command-procedure-part-requires t)
-    (run-command-nth-tag-requires t)
-    (run-command-nth-part-requires t)
-    (run-command-run-command-requires t)
+    (run-command-run-row-requires-2 t)
     (run-command-enum-known-kind-3 t)
     (run-command-same-length-4 t)
     (run-command-same-length-5 t)
