@@ -1,4 +1,5 @@
 mod Commanding
 mod Demands
+mod Parts
 mod Putting
 mod Raising

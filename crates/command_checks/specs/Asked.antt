@@ -1,5 +1,6 @@
--- What is asked of each command, for a demand. `t` are the heights of the procedures: how deep each one's command is with procedures
--- put in for calls, 0 where that is not known. Rests on the meaning's Image and Tags.
+-- What is asked of each command and of each part of an image, for a demand. `t` are the heights of the procedures: how deep each
+-- one's command is with procedures put in for calls, 0 where that is not known. Rests on the meaning's Image and Tags and on parts'
+-- Images.
 use mathlib.Core.Bool.{Bool, true, false}
 use mathlib.Core.List.{List, [], _∷_}
 use Prim.Native.Nat.{ℕ, _-_}
@@ -8,6 +9,7 @@ use lib.ListN.{getD, drop}
 use Rattle.meaning.specs.Basics.{choose, both, every}
 use Rattle.meaning.specs.Image.{Raw, ruleSet, sequence, guarded, loop, skip, fail, break, call, Raws, noMore, then}
 use Rattle.meaning.specs.Tags.{loopTag, sequenceTag, guardedTag}
+use Rattle.parts.specs.Images.{Part, ruleOf, procedureOf, mainOf}
 use Rattle.command_checks.specs.declared.Demand.{Demand}
 use Rattle.command_checks.specs.declared.Demand.the-variants.{Names, Breaks, Depth}
 
@@ -75,3 +77,9 @@ ofFirst d tag = choose (eqb tag loopTag) (breaking d true) (choose (eqb tag sequ
 -- the commands in a command of a tag: those in a guarded one are behind its flag
 unfoldable pub innerOf : ℕ → List ℕ → List ℕ
 innerOf tag bs = choose (eqb tag guardedTag) (drop 1 bs) bs
+
+-- what is asked of a part of an image: of a rule nothing
+unfoldable pub partAsked : Demand → List ℕ → Part → Bool
+partAsked d t (ruleOf x) = true
+partAsked d t (procedureOf c) = commandAsked d t c
+partAsked d t (mainOf tag c) = commandAsked d t c

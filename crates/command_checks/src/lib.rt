@@ -13,7 +13,8 @@ ghost use Rattle.meaning.specs.Procedures.{everywhere, depthHolds};
 ghost use Rattle.meaning.specs.References.{namesExist};
 ghost use Rattle.meaning.specs.Placement.{placement};
 ghost use Rattle.parts.specs.Series.{For};
-ghost use Rattle.command_checks.specs.Asked.{roomAsked, numbersAsked, breakAsked, callAsked, inside, breaking, ofFirst, innerOf, commandAsked, partsAsked};
+ghost use Rattle.parts.specs.Images.{imagePart, procedure};
+ghost use Rattle.command_checks.specs.Asked.{roomAsked, numbersAsked, breakAsked, callAsked, inside, breaking, ofFirst, innerOf, commandAsked, partsAsked, partAsked};
 use fields::Found;
 use meaning::tags::Limit;
 use meaning::tags::Tag;
@@ -199,40 +200,56 @@ fn commands_hold(first: Demand, others: Demand, heights: &[u8], p: &[u8], depth:
     true
 }
 
+// A procedure, from its payload: its command is its first field.
+fn body_holds(demand: Demand, heights: &[u8], p: &[u8]) -> bool
+    ensures { λ r. ⌜ For (procedure (now (p .entry))) (λ c. r ≡ commandAsked demand (now (heights .entry)) c) ⌝ }
+{
+    command_holds(
+        demand,
+        heights,
+        parts::nth_tag(p, 0),
+        parts::nth_part(p, 0),
+        Limit::DEPTH,
+    )
+}
+
 // The procedure of a number.
 fn procedure_holds(demand: Demand, heights: &[u8], image: &[u8], i: usize) -> bool
     ensures { λ r. ⌜ For (rawProgram (now (image .entry))) (λ p. i < length (p .procedures) → (d : Raw) → r ≡ commandAsked demand (now (heights .entry)) (getD (p .procedures) i d)) ⌝ }
 {
-    let part = parts::procedure_part(image, i);
-    command_holds(
-        demand,
-        heights,
-        parts::nth_tag(part, 0),
-        parts::nth_part(part, 0),
-        Limit::DEPTH,
-    )
+    body_holds(demand, heights, parts::procedure_part(image, i))
+}
+
+// A procedure of the image, or its main command; of a rule nothing is asked here.
+fn part_holds(demand: Demand, heights: &[u8], tag: u8, p: &[u8]) -> bool
+    ensures { λ r. ⌜ For (imagePart tag (now (p .entry))) (λ i. r ≡ partAsked demand (now (heights .entry)) i) ⌝ }
+{
+    if tag == Tag::RULE {
+        return true;
+    }
+    if tag == Tag::PROCEDURE {
+        return body_holds(demand, heights, p);
+    }
+    command_holds(demand, heights, tag, p, Limit::DEPTH)
 }
 
 // Every procedure, called or not, and the main command.
 fn all_hold(demand: Demand, heights: &[u8], image: &[u8]) -> bool
     ensures { λ r. ⌜ For (rawProgram (now (image .entry))) (λ p. r ≡ everywhere (commandAsked demand (now (heights .entry))) p) ⌝ }
 {
-    let count = parts::procedure_count(image);
-    let mut i: usize = 0;
-    while i < count {
-        if procedure_holds(demand, heights, image, i) {
-            i += 1;
+    let mut at: usize = 0;
+    while at < image.len() {
+        let found = fields::read_field(image, at);
+        let Found::Field(tag, start, end) = found else {
+            return false;
+        };
+        if part_holds(demand, heights, tag, fields::part(image, start, end)) {
+            at = end;
         } else {
             return false;
         }
     }
-    command_holds(
-        demand,
-        heights,
-        parts::main_tag(image),
-        parts::main_part(image),
-        Limit::DEPTH,
-    )
+    true
 }
 
 // The rules and the procedures that commands name exist.

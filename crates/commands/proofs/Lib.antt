@@ -1,4 +1,4 @@
 mod Putting
-mod Parts
 mod States
+mod Parts
 mod Turns

@@ -1,9 +1,9 @@
 -- What is known of the parts of a command that is known: its row of commands by its tag and payload, a command of a row by its
--- number, the command of a procedure that is called, and the main command. Rests on Cycle and Putting, on parts' Series and Images
--- and on fields' Parsed.
+-- number, and the main command. Rests on Cycle, Putting and States, on parts' Series and Images and on fields' Parsed.
 use mathlib.Core.Path.{_≡_, refl, sym, _∙_, ap}
 use mathlib.Core.Bool.{Bool, true}
-use mathlib.Core.Option.{Option, some}
+use mathlib.Core.Logic.{inl, inr}
+use mathlib.Core.Option.{some}
 use mathlib.Core.List.{List, [], _∷_}
 use Prim.Native.Nat.{ℕ, suc, _+_, _-_, _<_, _≤_}
 use native.Mathlib.Omega.{arith}
@@ -13,9 +13,10 @@ use lib.ListN.{length, getD, drop}
 use Rattle.meaning.specs.Tags.{callTag, guardedTag, loopTag, ruleSetTag, sequenceTag}
 use Rattle.meaning.specs.Basics.{both, every}
 use Rattle.meaning.specs.Image as Image
-use Rattle.meaning.specs.Image.{limits, Raw, RawProgram, only, passesAll, command, rawProgram}
+use Rattle.meaning.specs.Image.{Rule, limits, Raw, RawProgram, only, passesAll, command, rawProgram}
 use Rattle.meaning.specs.References.{namesExist, allNamesExist, references}
-use Rattle.meaning.specs.Procedures.{Command, ruleSet, sequence, guarded, loop, skip, fail, break, called, Program, program, putIn}
+use Rattle.meaning.specs.Procedures.{Command, ruleSet, sequence, guarded, loop, skip, fail, break, program}
+use Rattle.meaning.specs.Commands.{State, work, works}
 use Rattle.meaning.specs.Laws.Tests.{both-true, every-true}
 use Rattle.laws.specs.Procedures.{StandsFor, putIn-some}
 use Rattle.fields.specs.Image.{bind-yes}
@@ -26,9 +27,10 @@ use Rattle.parts.specs.Series.{For, Series, only-series, nthPart, nthTag, nth-i
 use Rattle.parts.specs.Images.{procedure, main-is}
 use Rattle.calling.specs.Called.{Listed}
 use Rattle.commands.specs.Program.{Runnable}
-use Rattle.ends.specs.Ends.{LeafTag}
-use Rattle.commands.specs.Cycle.{standsFor, Known, Row, at, inOrder}
-use Rattle.commands.proofs.Putting.{Becomes, Exist, Stands, stands, stands-for, becomes-as, Puts, puts-length, puts-all, series-puts}
+use Rattle.ends.specs.Ends.{LeafTag, RowTag}
+use Rattle.commands.specs.Cycle.{Known, Row, RowIn, at, inOrder}
+use Rattle.commands.proofs.Putting.{Exist, Stands, stands, stands-for, becomes-as, Puts, puts-length, puts-all, series-puts}
+use Rattle.commands.proofs.States.{leafOf, called-work}
 
 row-series : (n : ℕ) (bs : List ℕ) (l : List Raw) → only passesAll (command n) (limits .commands) bs ≡ some l → Series (command n) l [] bs
 row-series n bs l e = only-series passesAll (command n) (command n) (λ t b a p x. x) (limits .commands) bs l e
@@ -45,13 +47,6 @@ module _ {image : List ℕ} (w : Runnable image) where
   pub whole-is : StandsFor tree (w .whole)
   unfolding program
   whole-is = putIn-some tree (w .whole) (sym (bind-yes _ _ tree (w .programmed .is)) ∙ w .is)
-
--- the command of an end that comes at once
-abbrev pub leafOf : End → Command
-leafOf Done = skip
-leafOf Failed = fail
-leafOf Broke = break
-leafOf (Stopped w) = skip
 
 module _ {image : List ℕ} {tag : ℕ} {bs : List ℕ} (w : Known image tag bs) where
   pub was : Stands (w .runnable .programmed .tree) (w .own) (w .deep) tag bs (w .cmd)
@@ -94,23 +89,65 @@ module _ {image : List ℕ} {tag : ℕ} {bs : List ℕ} (w : Known image tag bs)
         enough = omega (arith, puts-length (w .runnable .programmed .tree) n cs ds q);
       }
 
-  -- Commands in order.
+  -- Commands in order, and calls: what a procedure holds is a row of one command.
 
-  module _ (h : tag ≡ sequenceTag) where
-    pub in-row : (cs : List Raw) × (n : ℕ) × (ds : List Command) × Series (command (w .own - 1)) cs [] bs × Puts (w .runnable .programmed .tree) n cs ds × (1 ≤ length cs) × (w .cmd ≡ sequence (inOrder ds))
-    unfolding namesExist
-    in-row =
-        let s = sequence-read (w .own - 1) tag bs (was .raw) deeper h in
-        let b = becomes-as _ (w .deep) (was .raw) _ (w .cmd) (s .4) (was .whole) in
-        let t = puts-all (w .runnable .programmed .tree) (b .0) (s .0) (b .1) (exist-as _ (s .4)) (b .2) in
-        (s .0, b .0, t .0, row-series (w .own - 1) bs (s .0) (s .1), t .1, s .2, b .3 ∙ ap sequence (t .2))
+  -- a row whose commands do what the command does
+  pub record RowOf (part : List ℕ) : Type 0 where
+    pub row : Row 1 image part
+    pub whence : row .runnable ≡ w .runnable
+    pub same : (most room : ℕ) (rules : List Rule) (s : State) → works most room rules (inOrder (row .cmds)) s ≡ work most room rules (w .cmd) s
 
-    unfoldable pub row-of : Row 1 image bs
-    row-of = let s = in-row in row 1 (s .0) (s .1) (s .2) (s .3) (s .4) (s .5)
+  in-order : tag ≡ sequenceTag → RowOf bs
+  unfolding namesExist work
+  in-order h =
+      let s = sequence-read (w .own - 1) tag bs (was .raw) deeper h in
+      let b = becomes-as _ (w .deep) (was .raw) _ (w .cmd) (s .4) (was .whole) in
+      let t = puts-all (w .runnable .programmed .tree) (b .0) (s .0) (b .1) (exist-as _ (s .4)) (b .2) in
+      record {
+        row = row 1 (s .0) (b .0) (t .0) (row-series (w .own - 1) bs (s .0) (s .1)) (t .1) (s .2);
+        whence = refl;
+        same = λ most room rules u. ap (λ (c : Command). work most room rules c u) (sym (b .3 ∙ ap sequence (t .2)));
+      }
 
-    pub row-is : w .cmd ≡ sequence (inOrder (row-of .cmds))
-    unfolding row-of
-    row-is = in-row .6
+  module _ (h : tag ≡ callTag) (part : List ℕ)
+      (there : For (rawProgram image) (λ p. getD bs 0 0 < length (p .procedures) → (d : Raw) → procedure part ≡ some (getD (p .procedures) (getD bs 0 0) d)))
+    where
+      abbrev P : RawProgram
+      P = w .runnable .programmed .tree
+
+      abbrev i : ℕ
+      i = getD bs 0 0
+
+      raw-call : was .raw ≡ Image.call i
+      raw-call = call-read (w .own - 1) tag bs (was .raw) deeper h .1
+
+      below : i < length (P .procedures)
+      unfolding namesExist
+      below = ltb-true i (length (P .procedures)) (exist-as (Image.call i) raw-call)
+
+      in-call : RowOf part
+      unfolding Series
+      in-call =
+          let b = becomes-as (P .procedures) (w .deep) (was .raw) (Image.call i) (w .cmd) raw-call (was .whole) in
+          let o = one-is (command (limits .depth)) part _ (there P (w .runnable .programmed .is) below Image.skip) in
+          let e = every-true _ (P .procedures) Image.skip (names (w .runnable) .0) i below in
+          record {
+            row =
+                record {
+                  runnable = w .runnable;
+                  own = limits .depth;
+                  deep = b .0;
+                  cmds = b .1 ∷ [];
+                  series = record { whole = o .whole; there = o .there; read = stands-for P (limits .depth) (b .0) (o .whole .tag) (o .whole .payload) _ _ (o .command) e (b .2); more = o .last };
+                  enough = omega arith;
+                };
+            whence = refl;
+            same = λ most room rules u. called-work most room rules (b .1) u ∙ ap (λ (c : Command). work most room rules c u) (sym (b .3));
+          }
+
+  pub row-in : {part : List ℕ} → RowTag tag → RowIn image tag bs part → RowOf part
+  row-in (inl h) r = rw (r .itself (λ x. omega arith)) (in-order h)
+  row-in {part} (inr h) r = in-call h part (r .called h)
 
   -- Guarded commands: their commands are behind their flag.
 
@@ -147,38 +184,6 @@ module _ {image : List ℕ} {tag : ℕ} {bs : List ℕ} (w : Known image tag bs)
     pub loop-is : w .cmd ≡ loop (at loop-of 0)
     unfolding loop-of
     loop-is = body .5
-
-  -- Calls: what a procedure holds is a row of one command.
-
-  module _ (h : tag ≡ callTag) {i : ℕ} (q : i ≡ getD bs 0 0) (part : List ℕ)
-      (there : For (rawProgram image) (λ p. i < length (p .procedures) → (d : Raw) → procedure part ≡ some (getD (p .procedures) i d)))
-    where
-      abbrev P : RawProgram
-      P = w .runnable .programmed .tree
-
-      raw-call : was .raw ≡ Image.call i
-      raw-call = rw q (call-read (w .own - 1) tag bs (was .raw) deeper h .1)
-
-      below : i < length (P .procedures)
-      unfolding namesExist
-      below = ltb-true i (length (P .procedures)) (exist-as (Image.call i) raw-call)
-
-      put-in : Becomes (P .procedures) (Image.call i) (w .cmd)
-      put-in = becomes-as _ (w .deep) (was .raw) (Image.call i) (w .cmd) raw-call (was .whole)
-
-      pub held : (n : ℕ) × (x : Command) × Series (standsFor P (limits .depth) n) (x ∷ []) [] part × (w .cmd ≡ called x)
-      unfolding Series
-      held =
-          let o = one-is (command (limits .depth)) part _ (there P (w .runnable .programmed .is) below Image.skip) in
-          let e = every-true _ (P .procedures) Image.skip (names (w .runnable) .0) i below in
-          (put-in .0, put-in .1, record { whole = o .whole; there = o .there; read = stands-for P (limits .depth) (put-in .0) (o .whole .tag) (o .whole .payload) _ _ (o .command) e (put-in .2); more = o .last }, put-in .3)
-
-      unfoldable pub call-of : Row 1 image part
-      call-of = record { runnable = w .runnable; own = limits .depth; deep = held .0; cmds = held .1 ∷ []; series = held .2; enough = omega arith }
-
-      pub call-is : w .cmd ≡ called (at call-of 0)
-      unfolding call-of
-      call-is = held .3
 
   -- Skip, fail and break.
 

@@ -9,7 +9,7 @@ use native.Mathlib.Numerals.{add-one}
 use lib.ListN.{getD}
 use Rattle.meaning.specs.Basics.{choose}
 use Rattle.meaning.specs.Image.{Rule}
-use Rattle.meaning.specs.Procedures.{Command, guarded, loop, skip, called}
+use Rattle.meaning.specs.Procedures.{Command, guarded, loop, skip, fail, break, called}
 use Rattle.meaning.specs.Commands.{State, Out, ends, next, decide, again, rounds, work, works, exec, stateAt}
 use Rattle.laws.specs.Commands.{exec-entered}
 use Rattle.laws.specs.Fuel.{exec-spending, rounds-bound}
@@ -18,7 +18,13 @@ use Rattle.meaning.specs.declared.End.{End}
 use Rattle.meaning.specs.declared.End.the-variants.{Done, Failed, Broke, Stopped}
 use Rattle.ends.specs.Ends.{LeafTag, isDone, partAfter, settled, closed}
 use Rattle.commands.specs.Cycle.{inOrder}
-use Rattle.commands.proofs.Parts.{leafOf}
+
+-- the command of an end that comes at once
+abbrev pub leafOf : End → Command
+leafOf Done = skip
+leafOf Failed = fail
+leafOf Broke = break
+leafOf (Stopped w) = skip
 
 -- Ends.
 

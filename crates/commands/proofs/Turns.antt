@@ -2,16 +2,16 @@
 -- States, on ledger's Whole and on laws' Commands and Restoring.
 use mathlib.Core.Path.{_≡_, refl, sym, _∙_, ap, subst}
 use mathlib.Core.Bool.{Bool, true, false}
-use mathlib.Core.Option.{some, none}
+use mathlib.Core.Option.{none}
 use mathlib.Core.List.{List, [], _∷_}
 use Prim.Native.Nat.{ℕ, _+_, _-_, _/_, _<_, _≤_}
 use native.Mathlib.Omega.{arith}
 use lib.Dec.{eqb}
 use lib.ListN.{length, getD, take, drop}
-use Rattle.meaning.specs.Tags.{callTag, guardedTag, loopTag, ruleSetTag, sequenceTag}
+use Rattle.meaning.specs.Tags.{guardedTag, loopTag, ruleSetTag}
 use Rattle.meaning.specs.Layout.{recordLength}
-use Rattle.meaning.specs.Image.{Rule, Raw, field, rawProgram}
-use Rattle.meaning.specs.Procedures.{Program, Command, ruleSet, sequence, guarded, loop, called}
+use Rattle.meaning.specs.Image.{Rule, field}
+use Rattle.meaning.specs.Procedures.{Program, Command, ruleSet, guarded, loop}
 use Rattle.meaning.specs.Commands.{State, Out, work, works, exec}
 use Rattle.meaning.specs.Calls.{journalRoom}
 use Rattle.meaning.specs.Laws.Tests.{some-inj}
@@ -24,18 +24,17 @@ use Rattle.meaning.specs.declared.Stop.the-variants.{OutOfFuel}
 use Rattle.meaning.specs.declared.End.{End}
 use Rattle.meaning.specs.declared.End.the-variants.{Done, Failed, Broke, Stopped}
 use Rattle.fields.specs.Laws.{Lies}
-use Rattle.parts.specs.Series.{For, Series, Taken, series-none, series-some, series-there, nthPart, nthTag}
-use Rattle.parts.specs.Images.{procedure}
+use Rattle.parts.specs.Series.{Series, Taken, series-none, series-some, series-there, nthPart, nthTag}
 use Rattle.ledger.specs.Running.{ledgerOf, stateOf, Running, outOf}
 use Rattle.ledger.specs.Whole.{records-count, running-legal}
 use Rattle.calling.specs.Called.{Called}
 use Rattle.meaning.specs.declared.Ran.{Ran}
 use Rattle.ends.specs.declared.Kind.{Kind}
 use Rattle.commands.specs.Program.{Runnable, RunsProgram}
-use Rattle.ends.specs.Ends.{LeafTag, Tagged, kindOf, kind-tagged, isDone, partAfter, settled, Earlier, Settled, Closed}
-use Rattle.commands.specs.Cycle.{standsFor, Known, Row, at, inOrder, runsCommand, runsRow, runsGuarded, runsLoop, Begun, Comes}
-use Rattle.commands.proofs.Parts.{whole-is, was, tagged, rule-set-is, row-of, row-is, guarded-of, guarded-is, loop-of, loop-is, call-of, call-is, leafOf, leaf-is, nth-known, last, main-known}
-use Rattle.commands.proofs.States.{done-is, settled-fuel, settled-steps, enter-none, enter-paid, called-work, leaf-work, row-more, row-ends, row-done, guarded-runs, guarded-stops, loop-out, loop-more, loop-closes}
+use Rattle.ends.specs.Ends.{LeafTag, RowTag, Tagged, kindOf, kind-tagged, isDone, partAfter, settled, Earlier, Settled, Closed}
+use Rattle.commands.specs.Cycle.{standsFor, Known, Row, RowIn, at, inOrder, runsCommand, runsInside, runsRow, runsGuarded, runsLoop, Begun, Comes}
+use Rattle.commands.proofs.Parts.{whole-is, was, tagged, rule-set-is, row-in, guarded-of, guarded-is, loop-of, loop-is, leaf-is, nth-known, last, main-known}
+use Rattle.commands.proofs.States.{leafOf, done-is, settled-fuel, settled-steps, enter-none, enter-paid, leaf-work, row-more, row-ends, row-done, guarded-runs, guarded-stops, loop-out, loop-more, loop-closes}
 
 -- the kind of a command that is known
 pub is-kind : {image : List ℕ} {tag : ℕ} {bs : List ℕ} {kind : Kind} → Known image tag bs → (tag ≡ ruleSetTag → ⊥) → kind ≡ kindOf tag bs → (k : Kind) → kind ≡ k → Tagged tag bs k
@@ -138,10 +137,9 @@ module _ (L : Layout) where
       unfolding work
       paid-set q m = paid (λ w. ruleSet bs) (λ w. rule-set-is w q) (λ w. m .right (w .runnable .programmed .tree) (w .runnable .programmed .is)) (m .running)
 
-      pub paid-row : tag ≡ sequenceTag → Comes L (Row 1 image bs) (runsRow L) nodes edges journal s r nodes′ edges′ journal′
+      pub paid-row : Comes L (Known image tag bs) (runsInside L) nodes edges journal s r nodes′ edges′ journal′
           → Comes L (Known image tag bs) (runsCommand L) nodes edges journal t r nodes′ edges′ journal′
-      unfolding work row-of
-      paid-row q m = paid (λ w. sequence (inOrder (row-of w q .cmds))) (λ w. row-is w q) (λ w. m .right (row-of w q)) (m .running)
+      paid-row m = paid (λ w. w .cmd) (λ w. refl) (λ w. m .right w) (m .running)
 
       pub paid-guarded : {keep : Bool} {rest : List ℕ} → (tag ≡ guardedTag) × (keep ≡ eqb (getD bs 0 0) 1) → rest ≡ drop 1 bs
           → Comes L (Row 3 image rest) (runsGuarded L keep) nodes edges journal s r nodes′ edges′ journal′
@@ -154,15 +152,6 @@ module _ (L : Layout) where
           → Comes L (Known image tag bs) (runsCommand L) nodes edges journal t r nodes′ edges′ journal′
       unfolding loop-of
       paid-loop q m = paid (λ w. loop (at (loop-of w q) 0)) (λ w. loop-is w q) (λ w. m .right (loop-of w q)) (m .running)
-
-      pub paid-call : {i : ℕ} (part : List ℕ) → (tag ≡ callTag) × (i ≡ getD bs 0 0)
-          → For (rawProgram image) (λ p. i < length (p .procedures) → (d : Raw) → procedure part ≡ some (getD (p .procedures) i d))
-          → Comes L (Row 1 image part) (runsRow L) nodes edges journal s r nodes′ edges′ journal′
-          → Comes L (Known image tag bs) (runsCommand L) nodes edges journal t r nodes′ edges′ journal′
-      unfolding call-of
-      paid-call part q there m =
-          paid (λ w. called (at (call-of w (q .0) (q .1) part there) 0)) (λ w. call-is w (q .0) (q .1) part there)
-          (λ w. m .right (call-of w (q .0) (q .1) part there) ∙ called-work (L .atoms) (journalRoom L journal) (w .runnable .programmed .tree .rules) _ _) (m .running)
 
     pub paid-leaf : {s : Tally} → s ≡ spent t → (t .fuel ≡ 0 → ⊥) → (e : End) → LeafTag tag e → Begun L nodes edges journal t
         → Comes L (Known image tag bs) (runsCommand L) nodes edges journal t (record { end = e; tally = s }) nodes edges journal
@@ -248,6 +237,20 @@ module _ (L : Layout) where
               right = λ w. row-ends (L .atoms) (journalRoom L journal₀) (w .runnable .programmed .tree .rules) (taken w .first) (taken w .others) _ _ (came w) d ∙ whole w;
               running = m .running;
             }
+
+  -- the row of a sequence or a call does what that does
+  pub row-whole : {image : List ℕ} {tag : ℕ} {bs part nodes edges journal : List ℕ} {t : Tally} {r : Ran} {nodes′ edges′ journal′ : List ℕ} → RowTag tag → RowIn image tag bs part
+      → Comes L (Row 1 image part) (runsRow L) nodes edges journal t r nodes′ edges′ journal′
+      → Comes L (Known image tag bs) (runsInside L) nodes edges journal t r nodes′ edges′ journal′
+  row-whole {image} {nodes = nodes} {edges} {journal} {t} h i m =
+      record {
+        right = λ w.
+            let k = row-in w h i in
+            m .right (k .row)
+            ∙ ap (λ (x : Runnable image). works (L .atoms) (journalRoom L journal) (x .programmed .tree .rules) (inOrder (k .row .cmds)) (stateOf L nodes edges journal t)) (k .whence)
+            ∙ k .same _ _ _ _;
+        running = m .running;
+      }
 
   -- A guarded command, after its guard.
 

@@ -1,20 +1,22 @@
 -- The command cycle over lent bytes: what is known of the parts of a program before they are run, and what is left after.
--- Rests on calling's Called, on parts' Series, on the meaning's Procedures and Commands, and on Program.
+-- Rests on parts' Series and Images, on ledger's Running, on the meaning's Procedures and Commands, and on Program.
 use mathlib.Core.Path.{_≡_}
 use mathlib.Core.Bool.{Bool}
 use mathlib.Core.Option.{Option, some}
 use mathlib.Core.List.{List, [], _∷_}
-use Prim.Native.Nat.{ℕ, _+_, _≤_}
+use Prim.Native.Nat.{ℕ, _+_, _<_, _≤_}
 use lib.ListN.{length, getD}
+use Rattle.meaning.specs.Tags.{callTag}
 use Rattle.meaning.specs.Basics.{ensure, _>>_, _>>=_}
-use Rattle.meaning.specs.Image.{RawProgram, command}
+use Rattle.meaning.specs.Image.{Raw, RawProgram, command, rawProgram}
 use Rattle.meaning.specs.References.{namesExist}
 use Rattle.meaning.specs.Procedures.{Command, guarded, loop, skip, Commands, noMore, then, put}
 use Rattle.meaning.specs.Commands.{State, Out, work, works, exec}
 use Rattle.meaning.specs.Calls.{journalRoom, mostFuel}
 use Rattle.meaning.specs.declared.Layout.{Layout}
 use Rattle.meaning.specs.declared.Tally.{Tally}
-use Rattle.parts.specs.Series.{Series}
+use Rattle.parts.specs.Series.{For, Series}
+use Rattle.parts.specs.Images.{procedure}
 use Rattle.ledger.specs.Running.{stateOf, Running, outOf}
 use Rattle.meaning.specs.declared.Ran.{Ran}
 use Rattle.commands.specs.Program.{Runnable}
@@ -46,6 +48,12 @@ pub record Row (least : ℕ) (image bs : List ℕ) : Type 0 where
   pub series : Series (standsFor (runnable .programmed .tree) own deep) cmds [] bs
   pub enough : least ≤ length cmds
 
+-- the row of the commands of a sequence or a call, from its tag and payload
+pub record RowIn (image : List ℕ) (tag : ℕ) (bs row : List ℕ) : Type 0 where
+  pub called : tag ≡ callTag
+      → For (rawProgram image) (λ p. getD bs 0 0 < length (p .procedures) → (d : Raw) → procedure row ≡ some (getD (p .procedures) (getD bs 0 0) d))
+  pub itself : (tag ≡ callTag → ⊥) → row ≡ bs
+
 -- the command of a number in a row
 abbrev pub at : {least : ℕ} {image bs : List ℕ} → Row least image bs → ℕ → Command
 at w i = getD (w .cmds) i skip
@@ -59,6 +67,9 @@ module _ (L : Layout) where
 
   abbrev pub runsCommand : {image : List ℕ} {tag : ℕ} {bs : List ℕ} → ℕ → Known image tag bs → State → Out
   runsCommand room w = exec (L .atoms) room (w .runnable .programmed .tree .rules) (w .cmd)
+
+  abbrev pub runsInside : {image : List ℕ} {tag : ℕ} {bs : List ℕ} → ℕ → Known image tag bs → State → Out
+  runsInside room w = work (L .atoms) room (w .runnable .programmed .tree .rules) (w .cmd)
 
   abbrev pub runsRow : {image bs : List ℕ} → ℕ → Row 1 image bs → State → Out
   runsRow room w = works (L .atoms) room (w .runnable .programmed .tree .rules) (inOrder (w .cmds))

@@ -5,7 +5,8 @@ ghost use Rattle.meaning.specs.Tags.{ruleSetTag};
 ghost use Rattle.meaning.specs.Calls.{mostFuel};
 ghost use Rattle.ledger.specs.Running.{Running};
 ghost use Rattle.commands.specs.Program.{Runnable, RunsProgram};
-ghost use Rattle.commands.specs.Cycle.{Begun, Known, Row, Comes, runsCommand, runsRow, runsGuarded, runsLoop};
+ghost use Rattle.ends.specs.Ends.{RowTag};
+ghost use Rattle.commands.specs.Cycle.{Begun, Known, Row, RowIn, Comes, runsCommand, runsInside, runsGuarded, runsLoop};
 use ends::Kind;
 use fields::Found;
 use meaning::End;
@@ -14,6 +15,16 @@ use meaning::Ran;
 use meaning::Stop;
 use meaning::Tally;
 use meaning::tags::Tag;
+
+// The commands of a sequence or a call, from its tag and payload: its own, or what the procedure holds, which is one command.
+fn row_in<'a>(image: &'a [u8], tag: u8, p: &'a [u8]) -> &'a [u8]
+    ensures { λ r. ⌜ RowIn (now (image .entry)) tag (now (p .entry)) (now r) ⌝ }
+{
+    if tag == Tag::CALL {
+        return parts::procedure_part(image, parts::number_at(p, 0));
+    }
+    p
+}
 
 // Enters and runs a rule set of these numbers.
 fn run_set(
@@ -58,12 +69,12 @@ fn run_nested_set(
     run_set(l, image, p, nodes, edges, journal, t)
 }
 
-// Enters and runs a command, from its tag and payload. What a procedure holds is a row of one command.
-fn run_command(
+// Enters and runs a command, from its tag and payload. Commands lie in the image, and are lent with it.
+fn run_command<'a>(
     l: Layout,
-    image: &[u8],
+    image: &'a [u8],
     tag: u8,
-    p: &[u8],
+    p: &'a [u8],
     nodes: &mut [u8],
     edges: &mut [u8],
     journal: &mut [u8],
@@ -86,7 +97,7 @@ fn run_command(
     let spent = tally::entered(t);
     let kind = ends::kind_of(tag, p);
     match kind {
-        Kind::Sequence => run_row(l, image, p, nodes, edges, journal, spent),
+        Kind::InRow => run_row(l, image, tag, p, nodes, edges, journal, spent),
         Kind::Guarded(keep) => run_guarded(
             l,
             image,
@@ -98,15 +109,6 @@ fn run_command(
             spent,
         ),
         Kind::Loop => run_loop(l, image, p, nodes, edges, journal, spent),
-        Kind::Call(i) => run_row(
-            l,
-            image,
-            parts::procedure_part(image, i),
-            nodes,
-            edges,
-            journal,
-            spent,
-        ),
         Kind::Leaf(end) => Ran {
             end: end,
             tally: spent,
@@ -114,32 +116,34 @@ fn run_command(
     }
 }
 
-// Commands one after the other, until one does not succeed.
-fn run_row(
+// What a sequence or a call does once it is entered: commands one after the other, until one does not succeed.
+fn run_row<'a>(
     l: Layout,
-    image: &[u8],
-    p: &[u8],
+    image: &'a [u8],
+    tag: u8,
+    p: &'a [u8],
     nodes: &mut [u8],
     edges: &mut [u8],
     journal: &mut [u8],
     t: Tally,
 ) -> Ran
     requires { ⌜ Begun l (now nodes) (now edges) (now journal) t ⌝ }
-    requires { ⌜ Row 1 (now image) (now p) ⌝ }
-    ensures { λ r. ⌜ Comes l (Row 1 (now (image .entry)) (now (p .entry))) (runsRow l) (now (nodes .entry)) (now (edges .entry)) (now (journal .entry)) t r (now (nodes .exit)) (now (edges .exit)) (now (journal .exit)) ⌝ }
+    requires { ⌜ Known (now image) tag (now p) × RowTag tag ⌝ }
+    ensures { λ r. ⌜ Comes l (Known (now (image .entry)) tag (now (p .entry))) (runsInside l) (now (nodes .entry)) (now (edges .entry)) (now (journal .entry)) t r (now (nodes .exit)) (now (edges .exit)) (now (journal .exit)) ⌝ }
 {
+    let row = row_in(image, tag, p);
     let mut at: usize = 0;
     let mut now_t = t;
-    while at < p.len() {
-        let found = fields::read_field(p, at);
-        let Found::Field(tag, start, end) = found else {
+    while at < row.len() {
+        let found = fields::read_field(row, at);
+        let Found::Field(inner, start, end) = found else {
             return Ran {
                 end: End::Done,
                 tally: now_t,
             };
         };
-        let part = fields::part(p, start, end);
-        let ran = run_command(l, image, tag, part, nodes, edges, journal, now_t);
+        let part = fields::part(row, start, end);
+        let ran = run_command(l, image, inner, part, nodes, edges, journal, now_t);
         let how = ran.end;
         if ends::goes_on(how) {
             at = end;
@@ -155,11 +159,11 @@ fn run_row(
 }
 
 // A guarded command, from its commands: the guard, and then the second or the third.
-fn run_guarded(
+fn run_guarded<'a>(
     l: Layout,
-    image: &[u8],
+    image: &'a [u8],
     keep: bool,
-    p: &[u8],
+    p: &'a [u8],
     nodes: &mut [u8],
     edges: &mut [u8],
     journal: &mut [u8],
@@ -193,10 +197,10 @@ fn run_guarded(
 }
 
 // A loop: its body again and again, until it does not succeed.
-fn run_loop(
+fn run_loop<'a>(
     l: Layout,
-    image: &[u8],
-    p: &[u8],
+    image: &'a [u8],
+    p: &'a [u8],
     nodes: &mut [u8],
     edges: &mut [u8],
     journal: &mut [u8],

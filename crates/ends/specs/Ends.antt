@@ -2,6 +2,7 @@
 -- a guard or after a loop's last round leaves. Rests on ledger's Running, on fields' Parsed and on the meaning's Commands.
 use mathlib.Core.Path.{_≡_, refl}
 use mathlib.Core.Bool.{Bool, true, false}
+use mathlib.Core.Logic.{_⊎_, inl, inr}
 use mathlib.Core.List.{List}
 use Prim.Native.Nat.{ℕ}
 use lib.Dec.{eqb}
@@ -20,7 +21,7 @@ use Rattle.meaning.specs.declared.End.{End}
 use Rattle.meaning.specs.declared.End.the-variants.{Done, Failed, Broke, Stopped}
 use Rattle.ledger.specs.Running.{ledgerOf, stateOf, outOf, Running}
 use Rattle.ends.specs.declared.Kind.{Kind}
-use Rattle.ends.specs.declared.Kind.the-variants.{Sequence, Guarded, Loop, Call, Leaf}
+use Rattle.ends.specs.declared.Kind.the-variants.{InRow, Guarded, Loop, Leaf}
 
 -- the tag of a command that ends at once
 abbrev pub LeafTag : ℕ → End → Type 0
@@ -29,21 +30,24 @@ LeafTag tag Failed = tag ≡ failTag
 LeafTag tag Broke = tag ≡ breakTag
 LeafTag tag (Stopped w) = ⊥
 
+-- the tag of a command that is run as a row of commands
+abbrev pub RowTag : ℕ → Type 0
+RowTag tag = (tag ≡ sequenceTag) ⊎ (tag ≡ callTag)
+
 -- the tag and the payload of each kind
 abbrev pub Tagged : ℕ → List ℕ → Kind → Type 0
-Tagged tag bs Sequence = tag ≡ sequenceTag
+Tagged tag bs InRow = RowTag tag
 Tagged tag bs (Guarded keep) = (tag ≡ guardedTag) × (keep ≡ eqb (getD bs 0 0) 1)
 Tagged tag bs Loop = tag ≡ loopTag
-Tagged tag bs (Call i) = (tag ≡ callTag) × (i ≡ getD bs 0 0)
 Tagged tag bs (Leaf e) = LeafTag tag e
 
 -- the kind that a tag and a payload say; a tag that is none of these counts as a break's
 unfoldable pub kindOf : ℕ → List ℕ → Kind
 kindOf tag bs =
-    choose (eqb tag sequenceTag) Sequence
+    choose (eqb tag sequenceTag) InRow
+    (choose (eqb tag callTag) InRow
     (choose (eqb tag guardedTag) (Guarded (eqb (getD bs 0 0) 1))
     (choose (eqb tag loopTag) Loop
-    (choose (eqb tag callTag) (Call (getD bs 0 0))
     (choose (eqb tag skipTag) (Leaf Done)
     (choose (eqb tag failTag) (Leaf Failed) (Leaf Broke))))))
 
@@ -51,13 +55,13 @@ kindOf tag bs =
 pub kind-tagged : (c : Raw) (bs : List ℕ) → (tagOf c ≡ ruleSetTag → ⊥) → Tagged (tagOf c) bs (kindOf (tagOf c) bs)
 unfolding kindOf choose
 kind-tagged (ruleSet l) bs h = absurd (h refl)
-kind-tagged (sequence cs) bs h = refl
+kind-tagged (sequence cs) bs h = inl refl
 kind-tagged (guarded keep a b c) bs h = (refl, refl)
 kind-tagged (loop c) bs h = refl
 kind-tagged skip bs h = refl
 kind-tagged fail bs h = refl
 kind-tagged break bs h = refl
-kind-tagged (call i) bs h = (refl, refl)
+kind-tagged (call i) bs h = inr refl
 
 unfoldable pub isDone : End → Bool
 isDone Done = true

@@ -12,12 +12,11 @@ use meaning::tags::Tag;
 
 // How a command other than a rule set is run.
 pub enum Kind {
-    Sequence,
+    // A sequence or a call: what a procedure holds is a row of one command.
+    InRow,
     // The flag says whether the changes of a guard that succeeds are kept.
     Guarded(bool),
     Loop,
-    // The number of the procedure that is called.
-    Call(usize),
     // Skip, fail and break: how they end.
     Leaf(End),
 }
@@ -27,10 +26,10 @@ pub fn kind_of(tag: u8, p: &[u8]) -> Kind
     ensures { λ r. ⌜ r ≡ kindOf tag (now (p .entry)) ⌝ }
 {
     match tag {
-        Tag::SEQUENCE => Kind::Sequence,
+        Tag::SEQUENCE => Kind::InRow,
+        Tag::CALL => Kind::InRow,
         Tag::GUARDED => Kind::Guarded(parts::flag(p)),
         Tag::LOOP => Kind::Loop,
-        Tag::CALL => Kind::Call(parts::number_at(p, 0)),
         Tag::SKIP => Kind::Leaf(End::Done),
         Tag::FAIL => Kind::Leaf(End::Failed),
         _ => Kind::Leaf(End::Broke),

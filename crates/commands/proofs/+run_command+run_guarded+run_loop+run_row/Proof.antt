@@ -7,9 +7,9 @@ use native.Mathlib.Omega.{arith}
 use borrow.Author.Needs.{needs}
 use lib.ListN.{length}
 use Rattle.parts.proofs.Loops.{a-field, nearer, no-field, part-in}
-use Rattle.ends.specs.declared.Kind.the-variants.{Sequence, Guarded, Loop, Call, Leaf}
-use Rattle.commands.proofs.Parts.{row-of, guarded-of, loop-of, call-of, nth-known}
-use Rattle.commands.proofs.Turns.{Going, Looping, is-kind, which-less, mark-below, fuel-less, out-of-fuel, begun-spent, spent-below, paid-row, paid-guarded, paid-loop, paid-call, paid-leaf, row-start, row-over, row-cut, here-known, row-next, row-stop, guarded-stop, fuel-settled, begun-settled, guarded-go, loop-start, loop-over, loop-next, loop-stop}
+use Rattle.ends.specs.declared.Kind.the-variants.{InRow, Guarded, Loop, Leaf}
+use Rattle.commands.proofs.Parts.{row-in, guarded-of, loop-of, nth-known}
+use Rattle.commands.proofs.Turns.{Going, Looping, is-kind, which-less, mark-below, fuel-less, out-of-fuel, begun-spent, spent-below, paid-row, paid-guarded, paid-loop, paid-leaf, row-whole, row-start, row-over, row-cut, here-known, row-next, row-stop, guarded-stop, fuel-settled, begun-settled, guarded-go, loop-start, loop-over, loop-next, loop-stop}
 use borrow.Fn.Kinds.{In}
 use borrow.Fn.PlainCycle.{Measures, is, falls, and}
 use Rattle.commands.proofs.run_command.Reads as run-command
@@ -39,50 +39,51 @@ use Rattle.commands.proofs.run_nested_set.Reads as run-nested-set-reads
 use Rattle.commands.proofs.+run_command+run_guarded+run_loop+run_row.{statement}
 use Rattle.commands.proofs.+run_command+run_guarded+run_loop+run_row.Tie.{close}
 use Rattle.parts.proofs.procedure_part.Reads as procedure-part-reads
+use Rattle.commands.proofs.row_in.Reads as row-in-reads
 
-abbrev μ-run-command : Measures 5 run-command-kinds.ps ℕ
+abbrev μ-run-command : Measures 4 run-command-kinds.ps ℕ
 μ-run-command κs a = 2 * a .1 .1 .1 .1 .1 .1 .1 .0 .fuel
 
-abbrev μ-run-guarded : Measures 5 run-guarded-kinds.ps ℕ
+abbrev μ-run-guarded : Measures 4 run-guarded-kinds.ps ℕ
 μ-run-guarded κs a = 2 * a .1 .1 .1 .1 .1 .1 .1 .0 .fuel + 1
 
-abbrev μ-run-loop : Measures 5 run-loop-kinds.ps ℕ
+abbrev μ-run-loop : Measures 4 run-loop-kinds.ps ℕ
 μ-run-loop κs a = 2 * a .1 .1 .1 .1 .1 .1 .0 .fuel + 1
 
-abbrev μ-run-row : Measures 5 run-row-kinds.ps ℕ
-μ-run-row κs a = 2 * a .1 .1 .1 .1 .1 .1 .0 .fuel + 1
+abbrev μ-run-row : Measures 4 run-row-kinds.ps ℕ
+μ-run-row κs a = 2 * a .1 .1 .1 .1 .1 .1 .1 .0 .fuel + 1
 
-abbrev run-command-at : ℕ → In 5 run-command-kinds.ps
+abbrev run-command-at : ℕ → In 4 run-command-kinds.ps
 run-command-at t =
-    and 5 run-command-kinds.ps (is 5 run-command-kinds.ps μ-run-command t) run-command.Pre
+    and 4 run-command-kinds.ps (is 4 run-command-kinds.ps μ-run-command t) run-command.Pre
 
-abbrev run-command-below : ℕ → In 5 run-command-kinds.ps
+abbrev run-command-below : ℕ → In 4 run-command-kinds.ps
 run-command-below t =
-    and 5 run-command-kinds.ps (falls 5 run-command-kinds.ps _<_ μ-run-command t) run-command.Pre
+    and 4 run-command-kinds.ps (falls 4 run-command-kinds.ps _<_ μ-run-command t) run-command.Pre
 
-abbrev run-guarded-at : ℕ → In 5 run-guarded-kinds.ps
+abbrev run-guarded-at : ℕ → In 4 run-guarded-kinds.ps
 run-guarded-at t =
-    and 5 run-guarded-kinds.ps (is 5 run-guarded-kinds.ps μ-run-guarded t) run-guarded.Pre
+    and 4 run-guarded-kinds.ps (is 4 run-guarded-kinds.ps μ-run-guarded t) run-guarded.Pre
 
-abbrev run-guarded-below : ℕ → In 5 run-guarded-kinds.ps
+abbrev run-guarded-below : ℕ → In 4 run-guarded-kinds.ps
 run-guarded-below t =
-    and 5 run-guarded-kinds.ps (falls 5 run-guarded-kinds.ps _<_ μ-run-guarded t) run-guarded.Pre
+    and 4 run-guarded-kinds.ps (falls 4 run-guarded-kinds.ps _<_ μ-run-guarded t) run-guarded.Pre
 
-abbrev run-loop-at : ℕ → In 5 run-loop-kinds.ps
-run-loop-at t = and 5 run-loop-kinds.ps (is 5 run-loop-kinds.ps μ-run-loop t) run-loop.Pre
+abbrev run-loop-at : ℕ → In 4 run-loop-kinds.ps
+run-loop-at t = and 4 run-loop-kinds.ps (is 4 run-loop-kinds.ps μ-run-loop t) run-loop.Pre
 
-abbrev run-loop-below : ℕ → In 5 run-loop-kinds.ps
+abbrev run-loop-below : ℕ → In 4 run-loop-kinds.ps
 run-loop-below t =
-    and 5 run-loop-kinds.ps (falls 5 run-loop-kinds.ps _<_ μ-run-loop t) run-loop.Pre
+    and 4 run-loop-kinds.ps (falls 4 run-loop-kinds.ps _<_ μ-run-loop t) run-loop.Pre
 
-abbrev run-row-at : ℕ → In 5 run-row-kinds.ps
-run-row-at t = and 5 run-row-kinds.ps (is 5 run-row-kinds.ps μ-run-row t) run-row.Pre
+abbrev run-row-at : ℕ → In 4 run-row-kinds.ps
+run-row-at t = and 4 run-row-kinds.ps (is 4 run-row-kinds.ps μ-run-row t) run-row.Pre
 
-abbrev run-row-below : ℕ → In 5 run-row-kinds.ps
-run-row-below t = and 5 run-row-kinds.ps (falls 5 run-row-kinds.ps _<_ μ-run-row t) run-row.Pre
+abbrev run-row-below : ℕ → In 4 run-row-kinds.ps
+run-row-below t = and 4 run-row-kinds.ps (falls 4 run-row-kinds.ps _<_ μ-run-row t) run-row.Pre
 
 abbrev run-command-claims : ℕ → run-command-lts.Claims
-run-command-claims t = (run-nested-set-reads.Asked, run-nested-set-reads.Learnt, entered-reads.Asked, entered-reads.Learnt, kind-of-reads.Asked, kind-of-reads.Learnt, run-row-below t, run-row.Post, behind-reads.Asked, behind-reads.Learnt, run-guarded-below t, run-guarded.Post, run-loop-below t, run-loop.Post, procedure-part-reads.Asked, procedure-part-reads.Learnt)
+run-command-claims t = (run-nested-set-reads.Asked, run-nested-set-reads.Learnt, entered-reads.Asked, entered-reads.Learnt, kind-of-reads.Asked, kind-of-reads.Learnt, run-row-below t, run-row.Post, behind-reads.Asked, behind-reads.Learnt, run-guarded-below t, run-guarded.Post, run-loop-below t, run-loop.Post)
 
 abbrev run-guarded-claims : ℕ → run-guarded-lts.Claims
 run-guarded-claims t = (nth-part-reads.Asked, nth-part-reads.Learnt, nth-tag-reads.Asked, nth-tag-reads.Learnt, run-command-below t, run-command.Post, part-after-reads.Asked, part-after-reads.Learnt, settle-reads.Asked, settle-reads.Learnt)
@@ -91,7 +92,7 @@ abbrev run-loop-claims : ℕ → run-loop-lts.Claims
 run-loop-claims t = (nth-tag-reads.Asked, nth-tag-reads.Learnt, nth-part-reads.Asked, nth-part-reads.Learnt, run-command-below t, run-command.Post, goes-on-reads.Asked, goes-on-reads.Learnt, close-reads.Asked, close-reads.Learnt)
 
 abbrev run-row-claims : ℕ → run-row-lts.Claims
-run-row-claims t = (read-field-reads.Asked, read-field-reads.Learnt, part-reads.Asked, part-reads.Learnt, run-command-below t, run-command.Post, goes-on-reads.Asked, goes-on-reads.Learnt)
+run-row-claims t = (row-in-reads.Asked, row-in-reads.Learnt, read-field-reads.Asked, read-field-reads.Learnt, part-reads.Asked, part-reads.Learnt, run-command-below t, run-command.Post, goes-on-reads.Asked, goes-on-reads.Learnt)
 
 run-command-run-nested-set-requires : (t : ℕ) → run-command-lts.Need-run-nested-set-requires (run-command-claims t) (run-command-at t) run-command.Post
 run-command-run-nested-set-requires t c κs = (c .before .before .before .before .before .before .before .before .before .pre .1 .0, rw (c .before .before .before .if1 .taken) at (c .before .before .before .before .before .before .before .before .before .pre .1 .1))
@@ -121,7 +122,7 @@ run-command-enum-told : (t : ℕ) → run-command-lts.Need-enum-told (run-comman
 run-command-enum-told t c = search needs
 
 run-command-run-row-requires : (t : ℕ) → run-command-lts.Need-run-row-requires (run-command-claims t) (run-command-at t) run-command.Post
-run-command-run-row-requires t c κs = (omega (arith, c .before .before .before .before .before .before .before .before .before .before .before .before .before .before .pre .0, spent-below _ (c .before .before .before .before .before .before .entered .ensures) (c .before .before .before .before .before .before .before .if2 .left)), (begun-spent _ (c .before .before .before .before .before .before .entered .ensures) (c .before .before .before .before .before .before .before .if2 .left) (c .before .before .before .before .before .before .before .before .before .before .before .before .before .before .pre .1 .0), row-of (c .before .before .before .before .before .before .before .before .before .before .before .before .before .before .pre .1 .1) (is-kind (c .before .before .before .before .before .before .before .before .before .before .before .before .before .before .pre .1 .1) (c .before .before .before .before .before .before .before .before .if1 .left) (c .before .before .before .before .before .kind-of .ensures) Sequence (c .before .before .before .enum-told .given .1))))
+run-command-run-row-requires t c κs = (omega (arith, c .before .before .before .before .before .before .before .before .before .before .before .before .before .before .pre .0, spent-below _ (c .before .before .before .before .before .before .entered .ensures) (c .before .before .before .before .before .before .before .if2 .left)), (begun-spent _ (c .before .before .before .before .before .before .entered .ensures) (c .before .before .before .before .before .before .before .if2 .left) (c .before .before .before .before .before .before .before .before .before .before .before .before .before .before .pre .1 .0), ((c .before .before .before .before .before .before .before .before .before .before .before .before .before .before .pre .1 .1), (is-kind (c .before .before .before .before .before .before .before .before .before .before .before .before .before .before .pre .1 .1) (c .before .before .before .before .before .before .before .before .if1 .left) (c .before .before .before .before .before .kind-of .ensures) InRow (c .before .before .before .enum-told .given .1)))))
 
 run-command-enum-known-kind : (t : ℕ) → run-command-lts.Need-enum-known-kind (run-command-claims t) (run-command-at t) run-command.Post
 run-command-enum-known-kind t c = search needs
@@ -143,17 +144,6 @@ run-command-run-loop-requires t c κs = (omega (arith, c .before .before .before
 run-command-enum-known-kind-2 : (t : ℕ) → run-command-lts.Need-enum-known-kind-2 (run-command-claims t) (run-command-at t) run-command.Post
 run-command-enum-known-kind-2 t c = search needs
 
-run-command-procedure-part-requires : (t : ℕ) → run-command-lts.Need-procedure-part-requires (run-command-claims t) (run-command-at t) run-command.Post
-run-command-procedure-part-requires t c κs = search needs
-
-run-command-run-row-requires-2 : (t : ℕ) → run-command-lts.Need-run-row-requires-2 (run-command-claims t) (run-command-at t) run-command.Post
-run-command-run-row-requires-2 t c κs =
-    let k = is-kind (c .before .before .before .before .before .before .before .before .before .before .before .before .before .before .before .before .pre .1 .1) (c .before .before .before .before .before .before .before .before .before .before .if1 .left) (c .before .before .before .before .before .before .before .kind-of .ensures) (Call _) (c .before .before .before .before .before .kind2 .given .1) in
-    (omega (arith, c .before .before .before .before .before .before .before .before .before .before .before .before .before .before .before .before .pre .0, spent-below _ (c .before .before .before .before .before .before .before .before .entered .ensures) (c .before .before .before .before .before .before .before .before .before .if2 .left)), (begun-spent _ (c .before .before .before .before .before .before .before .before .entered .ensures) (c .before .before .before .before .before .before .before .before .before .if2 .left) (c .before .before .before .before .before .before .before .before .before .before .before .before .before .before .before .before .pre .1 .0), call-of (c .before .before .before .before .before .before .before .before .before .before .before .before .before .before .before .before .pre .1 .1) (k .0) (k .1) _ (c .before .before .before .procedure-part .ensures)))
-
-run-command-enum-known-kind-3 : (t : ℕ) → run-command-lts.Need-enum-known-kind-3 (run-command-claims t) (run-command-at t) run-command.Post
-run-command-enum-known-kind-3 t c = search needs
-
 run-command-same-length-4 : (t : ℕ) → run-command-lts.Need-same-length-4 (run-command-claims t) (run-command-at t) run-command.Post
 run-command-same-length-4 t c = search needs
 
@@ -164,7 +154,7 @@ run-command-same-length-6 : (t : ℕ) → run-command-lts.Need-same-length-6 (ru
 run-command-same-length-6 t c = search needs
 
 run-command-returns-3 : (t : ℕ) → run-command-lts.Need-returns-3 (run-command-claims t) (run-command-at t) run-command.Post
-run-command-returns-3 t c = paid-row _ (c .before .before .before .before .before .before .before .before .before .before .before .before .before .entered .ensures) (c .before .before .before .before .before .before .before .before .before .before .before .before .before .before .if2 .left) (is-kind (c .before .before .before .before .before .before .before .before .before .before .before .before .before .before .before .before .before .before .before .before .before .pre .1 .1) (c .before .before .before .before .before .before .before .before .before .before .before .before .before .before .before .if1 .left) (c .before .before .before .before .before .before .before .before .before .before .before .before .kind-of .ensures) Sequence (c .before .before .before .before .before .before .before .before .before .before .enum-told .given .1)) (c .before .before .before .before .before .before .run-row .ensures)
+run-command-returns-3 t c = paid-row _ (c .before .before .before .before .before .before .before .before .before .before .before .before .before .entered .ensures) (c .before .before .before .before .before .before .before .before .before .before .before .before .before .before .if2 .left) (c .before .before .before .before .before .before .run-row .ensures)
 
 run-command-same-length-7 : (t : ℕ) → run-command-lts.Need-same-length-7 (run-command-claims t) (run-command-at t) run-command.Post
 run-command-same-length-7 t c = search needs
@@ -191,22 +181,8 @@ run-command-same-length-12 t c = search needs
 run-command-returns-5 : (t : ℕ) → run-command-lts.Need-returns-5 (run-command-claims t) (run-command-at t) run-command.Post
 run-command-returns-5 t c = paid-loop _ (c .before .before .before .before .before .before .before .before .before .before .before .before .before .entered .ensures) (c .before .before .before .before .before .before .before .before .before .before .before .before .before .before .if2 .left) (is-kind (c .before .before .before .before .before .before .before .before .before .before .before .before .before .before .before .before .before .before .before .before .before .pre .1 .1) (c .before .before .before .before .before .before .before .before .before .before .before .before .before .before .before .if1 .left) (c .before .before .before .before .before .before .before .before .before .before .before .before .kind-of .ensures) Loop (c .before .before .before .before .before .before .before .before .before .before .enum-told2 .given .1)) (c .before .before .before .before .before .before .run-loop .ensures)
 
-run-command-same-length-13 : (t : ℕ) → run-command-lts.Need-same-length-13 (run-command-claims t) (run-command-at t) run-command.Post
-run-command-same-length-13 t c = search needs
-
-run-command-same-length-14 : (t : ℕ) → run-command-lts.Need-same-length-14 (run-command-claims t) (run-command-at t) run-command.Post
-run-command-same-length-14 t c = search needs
-
-run-command-same-length-15 : (t : ℕ) → run-command-lts.Need-same-length-15 (run-command-claims t) (run-command-at t) run-command.Post
-run-command-same-length-15 t c = search needs
-
 run-command-returns-6 : (t : ℕ) → run-command-lts.Need-returns-6 (run-command-claims t) (run-command-at t) run-command.Post
-run-command-returns-6 t c =
-    let k = is-kind (c .before .before .before .before .before .before .before .before .before .before .before .before .before .before .before .before .before .before .before .before .before .before .before .pre .1 .1) (c .before .before .before .before .before .before .before .before .before .before .before .before .before .before .before .before .before .if1 .left) (c .before .before .before .before .before .before .before .before .before .before .before .before .before .before .kind-of .ensures) (Call _) (c .before .before .before .before .before .before .before .before .before .before .before .before .kind2 .given .1) in
-    paid-call _ (c .before .before .before .before .before .before .before .before .before .before .before .before .before .before .before .entered .ensures) (c .before .before .before .before .before .before .before .before .before .before .before .before .before .before .before .before .if2 .left) _ k (c .before .before .before .before .before .before .before .before .before .before .procedure-part .ensures) (c .before .before .before .before .before .before .run-row2 .ensures)
-
-run-command-returns-7 : (t : ℕ) → run-command-lts.Need-returns-7 (run-command-claims t) (run-command-at t) run-command.Post
-run-command-returns-7 t c = paid-leaf _ (c .before .before .before .before .entered .ensures) (c .before .before .before .before .before .if2 .left) _ (is-kind (c .before .before .before .before .before .before .before .before .before .before .before .before .pre .1 .1) (c .before .before .before .before .before .before .if1 .left) (c .before .before .before .kind-of .ensures) (Leaf _) (c .before .kind3 .given .1)) (c .before .before .before .before .before .before .before .before .before .before .before .before .pre .1 .0)
+run-command-returns-6 t c = paid-leaf _ (c .before .before .before .before .entered .ensures) (c .before .before .before .before .before .if2 .left) _ (is-kind (c .before .before .before .before .before .before .before .before .before .before .before .before .pre .1 .1) (c .before .before .before .before .before .before .if1 .left) (c .before .before .before .kind-of .ensures) (Leaf _) (c .before .kind2 .given .1)) (c .before .before .before .before .before .before .before .before .before .before .before .before .pre .1 .0)
 
 run-guarded-nth-part-requires : (t : ℕ) → run-guarded-lts.Need-nth-part-requires (run-guarded-claims t) (run-guarded-at t) run-guarded.Post
 run-guarded-nth-part-requires t c κs = search needs
@@ -311,13 +287,16 @@ run-loop-returns-2 : (t : ℕ) → run-loop-lts.Need-returns-2 (run-loop-claims 
 run-loop-returns-2 t c = loop-over _ (c .before .before .loop .inv) (c .if1 .left)
 
 abbrev run-row-Inv-loop : run-row-lts.InvT-loop
-run-row-Inv-loop l image p nodes₀ edges₀ journal₀ at₀ now-t₀ nodes edges journal at now-t = Going l image p nodes₀ edges₀ journal₀ now-t₀ at nodes edges journal now-t
+run-row-Inv-loop l image tag p nodes₀ edges₀ journal₀ row at₀ now-t₀ nodes edges journal at now-t = Going l image row nodes₀ edges₀ journal₀ now-t₀ at nodes edges journal now-t
 
 abbrev run-row-μ-loop : run-row-lts.MeasureT-loop
-run-row-μ-loop l image p nodes₀ edges₀ journal₀ at₀ now-t₀ nodes edges journal at now-t = length p - at
+run-row-μ-loop l image tag p nodes₀ edges₀ journal₀ row at₀ now-t₀ nodes edges journal at now-t = length row - at
+
+run-row-row-in-requires : (t : ℕ) → run-row-lts.Need-row-in-requires (run-row-claims t) (run-row-at t) run-row.Post run-row-Inv-loop run-row-μ-loop
+run-row-row-in-requires t c κs = search needs
 
 run-row-loop-holds : (t : ℕ) → run-row-lts.Need-loop-holds (run-row-claims t) (run-row-at t) run-row.Post run-row-Inv-loop run-row-μ-loop
-run-row-loop-holds t c = row-start _ (c .before .before .before .before .before .pre .1 .0)
+run-row-loop-holds t c = row-start _ (c .before .before .before .before .before .before .pre .1 .0)
 
 run-row-read-field-requires : (t : ℕ) → run-row-lts.Need-read-field-requires (run-row-claims t) (run-row-at t) run-row.Post run-row-Inv-loop run-row-μ-loop
 run-row-read-field-requires t c κs = search needs
@@ -335,13 +314,13 @@ run-row-same-length-3 : (t : ℕ) → run-row-lts.Need-same-length-3 (run-row-cl
 run-row-same-length-3 t c = search needs
 
 run-row-returns : (t : ℕ) → run-row-lts.Need-returns (run-row-claims t) (run-row-at t) run-row.Post run-row-Inv-loop run-row-μ-loop
-run-row-returns t c = absurd (row-cut _ (c .before .before .before .loop .inv) (c .before .before .before .before .before .before .before .before .before .pre .1 .1) (c .before .before .loop-test .taken) (no-field _ _ _ (c .before .read-field .ensures) (c .match .keys2)))
+run-row-returns t c = absurd (row-cut _ (c .before .before .before .loop .inv) (row-in (c .before .before .before .before .before .before .before .before .before .before .pre .1 .1 .0) (c .before .before .before .before .before .before .before .before .before .before .pre .1 .1 .1) (c .before .before .before .before .row-in .ensures) .row) (c .before .before .loop-test .taken) (no-field _ _ _ (c .before .read-field .ensures) (c .match .keys2)))
 
 run-row-part-requires : (t : ℕ) → run-row-lts.Need-part-requires (run-row-claims t) (run-row-at t) run-row.Post run-row-Inv-loop run-row-μ-loop
 run-row-part-requires t c κs = part-in (a-field _ _ (c .before .before .before .read-field .ensures) (c .before .found .given .1))
 
 run-row-run-command-requires : (t : ℕ) → run-row-lts.Need-run-command-requires (run-row-claims t) (run-row-at t) run-row.Post run-row-Inv-loop run-row-μ-loop
-run-row-run-command-requires t c κs = (omega (arith, c .before .before .before .before .before .before .before .before .before .before .before .before .before .before .before .pre .0, c .before .before .before .before .before .before .before .before .before .loop .inv .fuel), (c .before .before .before .before .before .before .before .before .before .loop .inv .begun, here-known _ (c .before .before .before .before .before .before .before .before .before .loop .inv) (c .before .before .before .before .before .before .before .before .loop-test .taken) (a-field _ _ (c .before .before .before .before .before .before .before .read-field .ensures) (c .before .before .before .before .before .found .given .1)) (c .before .before .before .part .ensures) (c .before .before .before .before .before .before .before .before .before .before .before .before .before .before .before .pre .1 .1)))
+run-row-run-command-requires t c κs = (omega (arith, c .before .before .before .before .before .before .before .before .before .before .before .before .before .before .before .before .pre .0, c .before .before .before .before .before .before .before .before .before .loop .inv .fuel), (c .before .before .before .before .before .before .before .before .before .loop .inv .begun, here-known _ (c .before .before .before .before .before .before .before .before .before .loop .inv) (c .before .before .before .before .before .before .before .before .loop-test .taken) (a-field _ _ (c .before .before .before .before .before .before .before .read-field .ensures) (c .before .before .before .before .before .found .given .1)) (c .before .before .before .part .ensures) (row-in (c .before .before .before .before .before .before .before .before .before .before .before .before .before .before .before .before .pre .1 .1 .0) (c .before .before .before .before .before .before .before .before .before .before .before .before .before .before .before .before .pre .1 .1 .1) (c .before .before .before .before .before .before .before .before .before .before .row-in .ensures) .row)))
 
 run-row-goes-on-requires : (t : ℕ) → run-row-lts.Need-goes-on-requires (run-row-claims t) (run-row-at t) run-row.Post run-row-Inv-loop run-row-μ-loop
 run-row-goes-on-requires t c κs = search needs
@@ -350,7 +329,7 @@ run-row-loop-less : (t : ℕ) → run-row-lts.Need-loop-less (run-row-claims t) 
 run-row-loop-less t c = nearer (a-field _ _ (c .before .before .before .before .before .before .before .before .before .before .before .before .before .before .before .before .before .read-field .ensures) (c .before .before .before .before .before .before .before .before .before .before .before .before .before .before .before .found .given .1))
 
 run-row-loop-again : (t : ℕ) → run-row-lts.Need-loop-again (run-row-claims t) (run-row-at t) run-row.Post run-row-Inv-loop run-row-μ-loop
-run-row-loop-again t c = row-next _ (c .before .before .before .before .before .before .before .before .before .before .before .before .before .before .before .before .before .before .before .loop .inv) (c .before .before .before .before .before .before .before .before .before .before .before .before .before .before .before .before .before .before .loop-test .taken) (a-field _ _ (c .before .before .before .before .before .before .before .before .before .before .before .before .before .before .before .before .before .read-field .ensures) (c .before .before .before .before .before .before .before .before .before .before .before .before .before .before .before .found .given .1)) (c .before .before .before .before .before .before .before .before .before .before .before .before .before .part .ensures) (c .before .before .before .before .before .before .before .before .before .run-command .ensures) (c .before .before .before .before .before .before .before .before .before .before .before .before .before .before .before .before .before .before .before .before .before .before .before .before .before .pre .1 .1) (sym (c .before .before .goes-on .ensures) ∙ c .before .if1 .taken) (search needs)
+run-row-loop-again t c = row-next _ (c .before .before .before .before .before .before .before .before .before .before .before .before .before .before .before .before .before .before .before .loop .inv) (c .before .before .before .before .before .before .before .before .before .before .before .before .before .before .before .before .before .before .loop-test .taken) (a-field _ _ (c .before .before .before .before .before .before .before .before .before .before .before .before .before .before .before .before .before .read-field .ensures) (c .before .before .before .before .before .before .before .before .before .before .before .before .before .before .before .found .given .1)) (c .before .before .before .before .before .before .before .before .before .before .before .before .before .part .ensures) (c .before .before .before .before .before .before .before .before .before .run-command .ensures) (row-in (c .before .before .before .before .before .before .before .before .before .before .before .before .before .before .before .before .before .before .before .before .before .before .before .before .before .before .pre .1 .1 .0) (c .before .before .before .before .before .before .before .before .before .before .before .before .before .before .before .before .before .before .before .before .before .before .before .before .before .before .pre .1 .1 .1) (c .before .before .before .before .before .before .before .before .before .before .before .before .before .before .before .before .before .before .before .before .row-in .ensures) .row) (sym (c .before .before .goes-on .ensures) ∙ c .before .if1 .taken) (search needs)
 
 run-row-same-length-4 : (t : ℕ) → run-row-lts.Need-same-length-4 (run-row-claims t) (run-row-at t) run-row.Post run-row-Inv-loop run-row-μ-loop
 run-row-same-length-4 t c = search needs
@@ -362,7 +341,7 @@ run-row-same-length-6 : (t : ℕ) → run-row-lts.Need-same-length-6 (run-row-cl
 run-row-same-length-6 t c = search needs
 
 run-row-returns-2 : (t : ℕ) → run-row-lts.Need-returns-2 (run-row-claims t) (run-row-at t) run-row.Post run-row-Inv-loop run-row-μ-loop
-run-row-returns-2 t c = row-stop _ (c .before .before .before .before .before .before .before .before .before .before .before .before .before .before .before .before .before .before .loop .inv) (c .before .before .before .before .before .before .before .before .before .before .before .before .before .before .before .before .before .loop-test .taken) (a-field _ _ (c .before .before .before .before .before .before .before .before .before .before .before .before .before .before .before .before .read-field .ensures) (c .before .before .before .before .before .before .before .before .before .before .before .before .before .before .found .given .1)) (c .before .before .before .before .before .before .before .before .before .before .before .before .part .ensures) (c .before .before .before .before .before .before .before .before .run-command .ensures) (sym (c .before .goes-on .ensures) ∙ c .if1 .left)
+run-row-returns-2 t c = row-whole _ (c .before .before .before .before .before .before .before .before .before .before .before .before .before .before .before .before .before .before .before .before .before .before .before .before .before .pre .1 .1 .1) (c .before .before .before .before .before .before .before .before .before .before .before .before .before .before .before .before .before .before .before .row-in .ensures) (row-stop _ (c .before .before .before .before .before .before .before .before .before .before .before .before .before .before .before .before .before .before .loop .inv) (c .before .before .before .before .before .before .before .before .before .before .before .before .before .before .before .before .before .loop-test .taken) (a-field _ _ (c .before .before .before .before .before .before .before .before .before .before .before .before .before .before .before .before .read-field .ensures) (c .before .before .before .before .before .before .before .before .before .before .before .before .before .before .found .given .1)) (c .before .before .before .before .before .before .before .before .before .before .before .before .part .ensures) (c .before .before .before .before .before .before .before .before .run-command .ensures) (sym (c .before .goes-on .ensures) ∙ c .if1 .left))
 
 run-row-same-length-7 : (t : ℕ) → run-row-lts.Need-same-length-7 (run-row-claims t) (run-row-at t) run-row.Post run-row-Inv-loop run-row-μ-loop
 run-row-same-length-7 t c = search needs
@@ -374,7 +353,7 @@ run-row-same-length-9 : (t : ℕ) → run-row-lts.Need-same-length-9 (run-row-cl
 run-row-same-length-9 t c = search needs
 
 run-row-returns-3 : (t : ℕ) → run-row-lts.Need-returns-3 (run-row-claims t) (run-row-at t) run-row.Post run-row-Inv-loop run-row-μ-loop
-run-row-returns-3 t c = row-over _ (c .before .loop .inv) (c .loop-test .left)
+run-row-returns-3 t c = row-whole _ (c .before .before .before .before .before .before .before .before .pre .1 .1 .1) (c .before .before .row-in .ensures) (row-over _ (c .before .loop .inv) (c .loop-test .left))
 
 pub +run-command+run-guarded+run-loop+run-row-spec : {M : Type 1} → statement M
 +run-command+run-guarded+run-loop+run-row-spec =
@@ -397,9 +376,6 @@ pub +run-command+run-guarded+run-loop+run-row-spec : {M : Type 1} → statement 
     (run-command-enum-told-2 t)
     (run-command-run-loop-requires t)
     (run-command-enum-known-kind-2 t)
-    (run-command-procedure-part-requires t)
-    (run-command-run-row-requires-2 t)
-    (run-command-enum-known-kind-3 t)
     (run-command-same-length-4 t)
     (run-command-same-length-5 t)
     (run-command-same-length-6 t)
@@ -412,11 +388,7 @@ pub +run-command+run-guarded+run-loop+run-row-spec : {M : Type 1} → statement 
     (run-command-same-length-11 t)
     (run-command-same-length-12 t)
     (run-command-returns-5 t)
-    (run-command-same-length-13 t)
-    (run-command-same-length-14 t)
-    (run-command-same-length-15 t)
-    (run-command-returns-6 t)
-    (run-command-returns-7 t))
+    (run-command-returns-6 t))
     (λ t. run-guarded-lts.spec (run-guarded-claims t)
     (run-guarded-at t)
     run-guarded.Post
@@ -462,6 +434,7 @@ pub +run-command+run-guarded+run-loop+run-row-spec : {M : Type 1} → statement 
     run-row.Post
     run-row-Inv-loop
     run-row-μ-loop
+    (run-row-row-in-requires t)
     (run-row-loop-holds t)
     (run-row-read-field-requires t)
     (run-row-enum-known-found t)

@@ -5,7 +5,7 @@ use borrow.Author.Needs.{needs}
 use borrow.Author.Tests.{ne-eqb}
 use Rattle.meaning.specs.Basics.{choose}
 use Rattle.ends.specs.Ends.{kindOf}
-use Rattle.ends.specs.declared.Kind.the-variants.{Guarded, Call}
+use Rattle.ends.specs.declared.Kind.the-variants.{Guarded}
 use Rattle.ends.proofs.kind_of.Statement.{statement}
 use Rattle.ends.proofs.kind_of.Tie as tie
 
@@ -18,18 +18,15 @@ returns c = ap (λ (t : ℕ). kindOf t (c .before .before .args .p .now)) (sym (
 
 returns-2 : tie.Need-returns-2
 unfolding kindOf choose
-returns-2 c = ap Guarded (c .flag .ensures) ∙ ap (λ (t : ℕ). kindOf t (c .before .before .before .args .p .now)) (sym (c .before .match .keys2))
+returns-2 c = ap (λ (t : ℕ). kindOf t (c .before .before .args .p .now)) (sym (c .match .keys2))
 
 returns-3 : tie.Need-returns-3
 unfolding kindOf choose
-returns-3 c = ap (λ (t : ℕ). kindOf t (c .before .before .args .p .now)) (sym (c .match .keys3))
-
-number-at-requires : tie.Need-number-at-requires
-number-at-requires c κs = search needs
+returns-3 c = ap Guarded (c .flag .ensures) ∙ ap (λ (t : ℕ). kindOf t (c .before .before .before .args .p .now)) (sym (c .before .match .keys3))
 
 returns-4 : tie.Need-returns-4
 unfolding kindOf choose
-returns-4 c = ap Call (c .number-at .ensures .0) ∙ ap (λ (t : ℕ). kindOf t (c .before .before .before .args .p .now)) (sym (c .before .match .keys4))
+returns-4 c = ap (λ (t : ℕ). kindOf t (c .before .before .args .p .now)) (sym (c .match .keys4))
 
 returns-5 : tie.Need-returns-5
 unfolding kindOf choose
@@ -45,4 +42,4 @@ returns-7 c = rw (ne-eqb _ _ (c .match .rest .0 .0 .0 .0 .0 .1), ne-eqb _ _ (c .
 
 pub kind-of-spec : {M : Type 1} → statement M
 kind-of-spec =
-    tie.close (tie.spec flag-requires number-at-requires returns returns-2 returns-3 returns-4 returns-5 returns-6 returns-7)
+    tie.close (tie.spec flag-requires returns returns-2 returns-3 returns-4 returns-5 returns-6 returns-7)
