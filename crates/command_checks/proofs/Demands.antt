@@ -16,11 +16,12 @@ use Rattle.meaning.specs.Procedures.{Command, putAll, put, everywhere, depthHol
 use Rattle.meaning.specs.References.{namesExist, allNamesExist}
 use Rattle.meaning.specs.Placement.{breaksLie, allBreaksLie, placement}
 use Rattle.meaning.specs.Laws.Tests.{both-yes, both-no}
+use Rattle.fields.specs.Image.{isSome-map}
 use Rattle.command_checks.specs.declared.Demand.{Demand}
 use Rattle.command_checks.specs.declared.Demand.the-variants.{Names, Breaks, Depth}
 use Rattle.command_checks.specs.Asked.{roomAsked, numbersAsked, callAsked, commandAsked, commandsAsked}
 use Rattle.command_checks.specs.Heights.{Height, Heights}
-use Rattle.command_checks.proofs.Putting.{bind-test, both-test, three-test, put-less}
+use Rattle.command_checks.proofs.Putting.{both-test, three-test, put-less}
 
 -- Names and breaks.
 
@@ -99,20 +100,20 @@ module _ (procedures : List Raw) where
     depth-asked (suc n) k (sequence cs) =
         some-room n _
         ∙ rw (one-less n) (all-asked (Depth n) t (put procedures n) (depth-asked n (omega arith)) cs)
-        ∙ sym (bind-test (putAll (put procedures n) cs) Procedures.sequence)
+        ∙ sym (isSome-map (putAll (put procedures n) cs) Procedures.sequence)
     depth-asked (suc n) k (guarded keep g x y) =
         let f = depth-asked n (omega arith) in
         some-room n _
         ∙ rw (one-less n) (λ i. both (f g i) (both (f x i) (f y i)))
         ∙ sym (three-test (put procedures n g) (put procedures n x) (put procedures n y) (Procedures.guarded keep))
     depth-asked (suc n) k (loop c) =
-        some-room n _ ∙ rw (one-less n) (depth-asked n (omega arith) c) ∙ sym (bind-test (put procedures n c) Procedures.loop)
+        some-room n _ ∙ rw (one-less n) (depth-asked n (omega arith) c) ∙ sym (isSome-map (put procedures n c) Procedures.loop)
     depth-asked (suc n) k skip = lt-ltb 0 (suc n) (omega arith)
     depth-asked (suc n) k fail = lt-ltb 0 (suc n) (omega arith)
     depth-asked (suc n) k break = some-room n _
     depth-asked (suc n) k (call i) =
         let c = getD procedures i skip in
-        some-room n _ ∙ call-asked b n (getD t i 1) c (omega arith) (w .height i) ∙ sym (bind-test (put procedures n c) Procedures.called)
+        some-room n _ ∙ call-asked b n (getD t i 1) c (omega arith) (w .height i) ∙ sym (isSome-map (put procedures n c) Procedures.called)
 
     pub put-asked : (m n : ℕ) → m ≡ n → n ≤ suc b → (c : Raw) (r : Bool) → r ≡ commandAsked (Depth m) t c → isSome (put procedures n c) ≡ r
     put-asked m n q k c r e = sym (e ∙ rw q (depth-asked n k c))

@@ -10,7 +10,7 @@ use Rattle.meaning.specs.Procedures.{everywhere}
 use Rattle.meaning.specs.Tags.{procedureTag, ruleTag}
 use Rattle.meaning.specs.Laws.Tests.{both-last, every-append, every-map}
 use Rattle.parts.specs.Series.{For}
-use Rattle.parts.specs.Images.{Part, ruleOf, procedureOf, mainOf, procedure, imagePart, imageParts, part-is, no-command}
+use Rattle.parts.specs.Images.{Part, ruleOf, procedureOf, mainOf, procedure, imagePart, imageParts, part-is, command-above}
 use Rattle.command_checks.specs.declared.Demand.{Demand}
 use Rattle.command_checks.specs.Asked.{commandAsked, partAsked}
 
@@ -35,14 +35,14 @@ module _ (d : Demand) (t : List ℕ) where
     unfolding partAsked
     part-rule h (ruleOf x) e = refl
     part-rule h (procedureOf c) e = absurd (omega (arith, part-is tag bs (procedureOf c) e .0))
-    part-rule h (mainOf u c) e = absurd (omega (arith, no-command tag bs c (part-is tag bs (mainOf u c) e .1)))
+    part-rule h (mainOf u c) e = absurd (omega (arith, command-above tag bs c (part-is tag bs (mainOf u c) e .1)))
 
     module _ (r : Bool) where
       pub part-procedure : tag ≡ procedureTag → For (procedure bs) (λ c. r ≡ commandAsked d t c) → For (imagePart tag bs) (λ i. r ≡ partAsked d t i)
       unfolding partAsked
       part-procedure h q (ruleOf x) e = absurd (omega (arith, part-is tag bs (ruleOf x) e .0))
       part-procedure h q (procedureOf c) e = q c (part-is tag bs (procedureOf c) e .1)
-      part-procedure h q (mainOf u c) e = absurd (omega (arith, no-command tag bs c (part-is tag bs (mainOf u c) e .1)))
+      part-procedure h q (mainOf u c) e = absurd (omega (arith, command-above tag bs c (part-is tag bs (mainOf u c) e .1)))
 
       pub part-main : (tag ≡ ruleTag → ⊥) → (tag ≡ procedureTag → ⊥) → For (command (limits .depth) tag bs) (λ c. r ≡ commandAsked d t c) → For (imagePart tag bs) (λ i. r ≡ partAsked d t i)
       unfolding partAsked

@@ -1,4 +1,5 @@
--- Where procedures can be put in: less depth may be too little, and more is never. Rests on the meaning's Procedures.
+-- Where procedures can be put in: less depth may be too little, and more is never. Rests on the meaning's Procedures and on
+-- fields' Image.
 use mathlib.Core.Path.{_≡_, refl, sym, _∙_}
 use mathlib.Core.Bool.{true, false}
 use mathlib.Core.Option.{Option, some, none}
@@ -11,18 +12,14 @@ use Rattle.meaning.specs.Image.{Raw, ruleSet, sequence, guarded, loop, skip, fa
 use Rattle.meaning.specs.Procedures as Procedures
 use Rattle.meaning.specs.Procedures.{Command, putAll, put}
 use Rattle.meaning.specs.Laws.Tests.{both-true, both-of, not-so}
+use Rattle.fields.specs.Image.{isSome-map}
 
 -- Values that rest on others are there where those are.
-
-pub bind-test : {A B : Type 0} (o : Option A) (f : A → B) → isSome (o >>= λ a. some (f a)) ≡ isSome o
-unfolding isSome _>>=_
-bind-test none f = refl
-bind-test (some a) f = refl
 
 pub both-test : {A B D : Type 0} (o : Option A) (q : Option B) (f : A → B → D) → isSome (o >>= λ a. q >>= λ b. some (f a b)) ≡ both (isSome o) (isSome q)
 unfolding isSome _>>=_ both
 both-test none q f = refl
-both-test (some a) q f = bind-test q (f a)
+both-test (some a) q f = isSome-map q (f a)
 
 pub three-test : {A B D E : Type 0} (o : Option A) (q : Option B) (r : Option D) (f : A → B → D → E)
     → isSome (o >>= λ a. q >>= λ b. r >>= λ d. some (f a b d)) ≡ both (isSome o) (both (isSome q) (isSome r))
@@ -56,8 +53,8 @@ module _ (procedures : List Raw) where
   put-more (suc m) zero h c e = absurd (omega arith)
   put-more (suc m) (suc n) h (ruleSet l) e = refl
   put-more (suc m) (suc n) h (sequence cs) e =
-      bind-test (putAll (put procedures n) cs) Procedures.sequence
-      ∙ all-follow (put procedures m) (put procedures n) (put-more m n (omega arith)) cs (sym (bind-test (putAll (put procedures m) cs) Procedures.sequence) ∙ e)
+      isSome-map (putAll (put procedures n) cs) Procedures.sequence
+      ∙ all-follow (put procedures m) (put procedures n) (put-more m n (omega arith)) cs (sym (isSome-map (putAll (put procedures m) cs) Procedures.sequence) ∙ e)
   put-more (suc m) (suc n) h (guarded keep g a b) e =
       let f = put-more m n (omega arith) in
       let t = both-true _ _ (sym (three-test (put procedures m g) (put procedures m a) (put procedures m b) (Procedures.guarded keep)) ∙ e) in
@@ -65,14 +62,14 @@ module _ (procedures : List Raw) where
       three-test (put procedures n g) (put procedures n a) (put procedures n b) (Procedures.guarded keep)
       ∙ both-of _ _ (f g (t .0)) (both-of _ _ (f a (u .0)) (f b (u .1)))
   put-more (suc m) (suc n) h (loop c) e =
-      bind-test (put procedures n c) Procedures.loop ∙ put-more m n (omega arith) c (sym (bind-test (put procedures m c) Procedures.loop) ∙ e)
+      isSome-map (put procedures n c) Procedures.loop ∙ put-more m n (omega arith) c (sym (isSome-map (put procedures m c) Procedures.loop) ∙ e)
   put-more (suc m) (suc n) h skip e = refl
   put-more (suc m) (suc n) h fail e = refl
   put-more (suc m) (suc n) h break e = refl
   put-more (suc m) (suc n) h (call i) e =
       let c = getD procedures i skip in
-      bind-test (put procedures n c) Procedures.called
-      ∙ put-more m n (omega arith) c (sym (bind-test (put procedures m c) Procedures.called) ∙ e)
+      isSome-map (put procedures n c) Procedures.called
+      ∙ put-more m n (omega arith) c (sym (isSome-map (put procedures m c) Procedures.called) ∙ e)
 
   pub put-less : (m n : ℕ) → m ≤ n → (c : Raw) → isSome (put procedures n c) ≡ false → isSome (put procedures m c) ≡ false
   put-less m n h c e = not-so _ (λ k. let q = put-more m n h c k in let z : _≡_ {A = ℕ} 0 1 = cc in omega arith)

@@ -11,10 +11,10 @@ use borrow.Author.Tests.{ltb-true}
 use lib.Dec.{eqb}
 use lib.ListN.{length, getD, drop}
 use Rattle.meaning.specs.Tags.{callTag, guardedTag, loopTag, ruleSetTag, sequenceTag}
-use Rattle.meaning.specs.Basics.{both, every}
+use Rattle.meaning.specs.Basics.{every}
 use Rattle.meaning.specs.Image as Image
 use Rattle.meaning.specs.Image.{Rule, limits, Raw, RawProgram, only, passesAll, command, rawProgram}
-use Rattle.meaning.specs.References.{namesExist, allNamesExist, references}
+use Rattle.meaning.specs.References.{namesExist, references}
 use Rattle.meaning.specs.Procedures.{Command, ruleSet, sequence, guarded, loop, skip, fail, break, program}
 use Rattle.meaning.specs.Commands.{State, work, works}
 use Rattle.meaning.specs.Laws.Tests.{both-true, every-true}

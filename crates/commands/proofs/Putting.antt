@@ -1,17 +1,16 @@
 -- Putting procedures in, undone: what a command was before, by what it is then, and rows of commands before and after.
 -- Rests on the meaning's Procedures and on parts' Series.
 use mathlib.Core.Path.{_≡_, refl, sym, _∙_, ap}
-use mathlib.Core.Bool.{Bool, true}
-use mathlib.Core.Option.{Option, some, none}
+use mathlib.Core.Bool.{true}
+use mathlib.Core.Option.{some}
 use mathlib.Core.List.{List, [], _∷_}
 use Prim.Native.Nat.{ℕ, zero, suc}
 use native.Mathlib.Omega.{arith}
 use lib.ListN.{length, getD}
-use Rattle.meaning.specs.Basics.{ensure, _>>_, _>>=_}
 use Rattle.meaning.specs.Image as Image
-use Rattle.meaning.specs.Image.{Raw, Raws, RawProgram, command}
+use Rattle.meaning.specs.Image.{Raw, RawProgram, command}
 use Rattle.meaning.specs.References.{namesExist, allNamesExist}
-use Rattle.meaning.specs.Procedures.{Command, ruleSet, sequence, guarded, loop, skip, fail, break, called, Commands, noMore, then, putAll, put}
+use Rattle.meaning.specs.Procedures.{Command, ruleSet, sequence, guarded, loop, skip, fail, break, called, Commands, then, putAll, put}
 use Rattle.meaning.specs.Laws.Tests.{both-true, bind-some, some-inj, ensure-some, ensure-yes}
 use Rattle.fields.specs.Image.{bind-yes}
 use Rattle.parts.specs.Series.{Series}

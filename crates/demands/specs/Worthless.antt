@@ -21,6 +21,7 @@ use Rattle.demands.specs.First.{run-settled}
 use Rattle.demands.specs.Cases.{lent, caseAt, lendable, running, runsOn, by, breaks2, atCase, breaks3}
 use Rattle.laws.specs.Undoing.{base-numbered}
 use Rattle.demands.specs.Third.{entered-is}
+use Rattle.laws.specs.Procedures.{written, allWritten}
 use Rattle.meaning.specs.declared.Stop.the-variants.{OutOfFuel, NoNodeRoom, NoEdgeRoom, NoRecordRoom, LabelTooLarge}
 use Rattle.meaning.specs.declared.End.{End}
 use Rattle.meaning.specs.declared.End.the-variants.{Done, Failed, Broke, Stopped}
@@ -87,30 +88,15 @@ running-first = atCase 10 refl (omega arith) runsFirst (λ e. let z = ap (λ (o 
 
 -- One that enters calls for free breaks demand 2 at a call of a procedure of skip.
 
-unfoldable mutual
-  pub uncalled : Command → Command
-  uncalled (ruleSet l) = ruleSet l
-  uncalled (sequence cs) = sequence (allUncalled cs)
-  uncalled (guarded keep g a b) = guarded keep (uncalled g) (uncalled a) (uncalled b)
-  uncalled (loop c) = loop (uncalled c)
-  uncalled skip = skip
-  uncalled fail = fail
-  uncalled break = break
-  uncalled (called c) = uncalled c
-
-  pub allUncalled : Commands → Commands
-  allUncalled noMore = noMore
-  allUncalled (then c cs) = then (uncalled c) (allUncalled cs)
-
 abbrev pub callsFreely : Interpreter
-callsFreely = by (λ most room rules c s. exec most room rules (uncalled c) s)
+callsFreely = by (λ most room rules c s. exec most room rules (written c) s)
 
 -- ours enters two commands
 abbrev callOfSkip : Case
 callOfSkip = onPlainNode 100 (fieldBytes procedureTag skipField ++ fieldBytes callTag (0 ∷ [])) (results 2 0 plainNode [] [])
 
 pub calling-freely : Demand2 base callsFreely → ⊥
-unfolding computing runsOn uncalled allUncalled
+unfolding computing runsOn written allWritten
 calling-freely =
     breaks2 callsFreely (lent callOfSkip) refl (omega arith)
     (λ e. let z = ap (λ (o : Outcome). getD (o .report) 3 0) e in omega arith)

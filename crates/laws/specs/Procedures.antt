@@ -1,4 +1,5 @@
--- Laws of Procedures: what an image that has the form stands for, with its procedures put in. Rests on the meaning's Procedures.
+-- Laws of Procedures: what an image that has the form stands for, with its procedures put in; and calls written out.
+-- Rests on the meaning's Procedures.
 use Prim.Native.Nat.{ℕ}
 use mathlib.Core.Path.{_≡_, refl, ap}
 use mathlib.Core.Bool.{true}
@@ -6,7 +7,7 @@ use mathlib.Core.Option.{Option, some}
 use mathlib.Core.List.{List}
 use Rattle.meaning.specs.Basics.{_>>=_}
 use Rattle.meaning.specs.Image.{RawProgram, limits, rawProgram}
-use Rattle.meaning.specs.Procedures.{Command, Program, put, depthHolds, putIn, program}
+use Rattle.meaning.specs.Procedures.{Program, Command, ruleSet, sequence, guarded, loop, skip, fail, break, called, Commands, noMore, then, put, depthHolds, putIn, program}
 use Rattle.meaning.specs.Laws.Tests.{both-true, some-inj, isSome-true, bind-some}
 
 -- its rules, and its main command with procedures put in
@@ -31,3 +32,19 @@ depth-putIn r h =
 pub program-some : (bs : List ℕ) (r : RawProgram) (p : Program) → rawProgram bs ≡ some r → putIn r ≡ some p → program bs ≡ some p
 unfolding program _>>=_
 program-some bs r p e q = rw (e, q)
+
+-- the command with its calls written out, those in the procedures that it calls too
+unfoldable mutual
+  pub written : Command → Command
+  written (ruleSet l) = ruleSet l
+  written (sequence cs) = sequence (allWritten cs)
+  written (guarded keep g a b) = guarded keep (written g) (written a) (written b)
+  written (loop c) = loop (written c)
+  written skip = skip
+  written fail = fail
+  written break = break
+  written (called c) = written c
+
+  pub allWritten : Commands → Commands
+  allWritten noMore = noMore
+  allWritten (then c cs) = then (written c) (allWritten cs)

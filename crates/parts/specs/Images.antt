@@ -72,13 +72,13 @@ procedure-item tag bs c e =
     let t = tagged-some procedureTag procedure tag bs c e in
     rw (← (t .0)) (bind-yes _ _ c (t .1))
 
-pub no-command : (tag : ℕ) (bs : List ℕ) (c : Raw) → command (limits .depth) tag bs ≡ some c → procedureTag < tag
-no-command tag bs c e = omega (arith, command-tag (limits .depth) tag bs c e .1, command-tagged c)
+pub command-above : (tag : ℕ) (bs : List ℕ) (c : Raw) → command (limits .depth) tag bs ≡ some c → procedureTag < tag
+command-above tag bs c e = omega (arith, command-tag (limits .depth) tag bs c e .1, command-tagged c)
 
 main-item : (tag : ℕ) (bs : List ℕ) (c : Raw) → command (limits .depth) tag bs ≡ some c → imagePart tag bs ≡ some (mainOf tag c)
 unfolding imagePart
 main-item tag bs c e =
-    let h = no-command tag bs c e in
+    let h = command-above tag bs c e in
     choose-ne tag ruleTag _ _ (λ q. omega arith) ∙ choose-ne tag procedureTag _ _ (λ q. omega arith) ∙ bind-yes _ _ c e
 
 pub image-series : (bs : List ℕ) (p : RawProgram) → rawProgram bs ≡ some p → (t : ℕ) × (procedureTag < t) × (Series imagePart (imageParts t p) [] bs)
@@ -90,7 +90,7 @@ image-series bs p e =
     let ks = leading-series (eqb procedureTag) (λ tag. procedure) (tagged procedureTag procedure) (tagged-yes procedureTag procedure) (limits .procedures) (i .behind) _ (i .procedures) in
     let last : Series imagePart (mainOf (m .whole .tag) (p .main) ∷ []) [] (i .last) = record { whole = m .whole; there = m .there; read = main-item _ _ (p .main) (m .command); more = m .last } in (
       m .whole .tag,
-      no-command _ _ (p .main) (m .command),
+      command-above _ _ (p .main) (m .command),
       series-append imagePart (map ruleOf (p .rules)) (commandParts (m .whole .tag) p) (i .behind) bs []
           (series-map (tagged ruleTag rule) imagePart ruleOf rule-item (p .rules) (i .behind) bs rs)
           (series-append imagePart (map procedureOf (p .procedures)) (mainOf (m .whole .tag) (p .main) ∷ []) (i .last) (i .behind) []

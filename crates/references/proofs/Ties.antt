@@ -21,7 +21,7 @@ use Rattle.references.specs.declared.Ask.{Ask}
 use Rattle.references.specs.declared.Ask.the-variants.{Left, Right, Lacks}
 use Rattle.parts.specs.Series.{For}
 use Rattle.parts.specs.Rows.{Item, node, edge, items, markAt, itemLabel}
-use Rattle.parts.specs.Images.{ruleOf, procedureOf, mainOf, commandParts, imagePart, imageParts, part-is, no-command}
+use Rattle.parts.specs.Images.{ruleOf, procedureOf, mainOf, commandParts, imagePart, imageParts, part-is, command-above}
 use Rattle.references.specs.Asked.{intOperand, exist, operandAsked, elementAsked, listsIn, endsBelow, edgeMarked, itemFits, itemAsked, graphAsked, conditionFits, conditionAsked, testAsked, rightAsked, sidesAsked, keptOnLeft, partHolds}
 use Rattle.references.proofs.Asks.{absent-append, both-swap}
 
@@ -452,7 +452,7 @@ pub part-rule : (tag : ℕ) (bs : List ℕ) (r : Bool) → tag ≡ ruleTag → F
 unfolding partHolds
 part-rule tag bs r h q (ruleOf x) e = q x (part-is tag bs (ruleOf x) e .1)
 part-rule tag bs r h q (procedureOf c) e = absurd (omega (arith, part-is tag bs (procedureOf c) e .0))
-part-rule tag bs r h q (mainOf t c) e = absurd (omega (arith, no-command tag bs c (part-is tag bs (mainOf t c) e .1)))
+part-rule tag bs r h q (mainOf t c) e = absurd (omega (arith, command-above tag bs c (part-is tag bs (mainOf t c) e .1)))
 
 pub part-main : (tag : ℕ) (bs : List ℕ) → (tag ≡ ruleTag → ⊥) → For (imagePart tag bs) (λ i. true ≡ partHolds i)
 unfolding partHolds

@@ -27,7 +27,7 @@ use Rattle.fields.specs.Image.{bind-yes, field-is, leading-led, leading-other}
 use Rattle.fields.specs.Parsed.{IsOne, IsProgram, program-is, is-program}
 use Rattle.parts.specs.Series.{Series, leading-series}
 use Rattle.parts.specs.Rows.{tagged, tagged-yes, tagged-some}
-use Rattle.parts.specs.Images.{no-command}
+use Rattle.parts.specs.Images.{command-above}
 use Rattle.renewing.specs.OldForm.{oldCommand, oldProgram, oldRun, renewed}
 use Rattle.renewing.specs.Written.{field-written, length-field, series-front, series-leading}
 use Rattle.renewing.specs.Commands.{guards, New, renews}
@@ -102,7 +102,7 @@ module _ (bs : List ℕ) (p : RawProgram) (old : oldProgram bs ≡ some p) where
       let l = length-append front newField in
       let k = length-field (new .newTag) (new .payload) in
       let c : command (limits .depth) (new .newTag) (new .payload) ≡ some (p .main) = new .reads (omega arith) in
-      let t : procedureTag < new .newTag = no-command (new .newTag) (new .payload) (p .main) c in
+      let t : procedureTag < new .newTag = command-above (new .newTag) (new .payload) (p .main) c in
       is-program (limits .procedures) (command (limits .depth)) (front ++ newField) p
       (record {
         behind = newField;

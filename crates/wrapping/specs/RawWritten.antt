@@ -13,8 +13,8 @@ use Rattle.meaning.specs.Image as Image
 use Rattle.meaning.specs.Image.{Raw, Raws, RawProgram, limits, rawProgram}
 use Rattle.meaning.specs.Procedures.{Program, Command, guarded, Commands, putAll, put, putIn, program}
 use Rattle.meaning.specs.Laws.Tests.{some-inj, bind-some}
-use Rattle.laws.specs.Procedures.{putIn-some}
-use Rattle.wrapping.specs.WrittenOut.{written, allWritten, WrittenOut}
+use Rattle.laws.specs.Procedures.{putIn-some, written, allWritten}
+use Rattle.wrapping.specs.WrittenOut.{WrittenOut}
 
 unfoldable pub eachRaw : (Raw → Raw) → Raws → Raws
 eachRaw f Image.noMore = Image.noMore

@@ -10,7 +10,8 @@ use Rattle.meaning.specs.Image.{Rule}
 use Rattle.meaning.specs.Procedures.{Program, Command, ruleSet, sequence, guarded, loop, skip, fail, break, called, Commands, noMore, then}
 use Rattle.meaning.specs.Applying.{Ledger}
 use Rattle.wrapping.specs.Wrapping.{one, joined, bare, allBare, Alike, AlikePrograms}
-use Rattle.wrapping.specs.WrittenOut.{isCall, written, allWritten, callFree, allCallFree, WrittenOut}
+use Rattle.laws.specs.Procedures.{written, allWritten}
+use Rattle.wrapping.specs.WrittenOut.{isCall, callFree, allCallFree, WrittenOut}
 use Rattle.wrapping.specs.Coming.{counted, nothing, Use, whole, sequel, branches, further, Task, halts, enters, follows, resume, does, Comes, halted, goes, idle-whole, idle-comes}
 use Rattle.meaning.specs.declared.End.{End}
 use Rattle.meaning.specs.declared.End.the-variants.{Done, Failed, Broke, Stopped}

@@ -1,9 +1,10 @@
--- Calls of procedures written out: each replaced by its procedure's command, so that none is left. When a program is another with its
--- calls written out. Rests on the meaning's Basics and Procedures.
+-- Which commands are calls, which have none in them, and when a program is another with its calls written out, each replaced by its
+-- procedure's command (`written`). Rests on the meaning's Basics and Procedures and on laws' Procedures.
 use mathlib.Core.Path.{_≡_}
 use mathlib.Core.Bool.{Bool, true, false}
 use Rattle.meaning.specs.Basics.{both}
 use Rattle.meaning.specs.Procedures.{Program, Command, ruleSet, sequence, guarded, loop, skip, fail, break, called, Commands, noMore, then}
+use Rattle.laws.specs.Procedures.{written}
 
 unfoldable pub isCall : Command → Bool
 isCall (ruleSet l) = false
@@ -14,22 +15,6 @@ isCall skip = false
 isCall fail = false
 isCall break = false
 isCall (called c) = true
-
--- the command with its calls written out, those in the procedures that it calls too
-unfoldable mutual
-  pub written : Command → Command
-  written (ruleSet l) = ruleSet l
-  written (sequence cs) = sequence (allWritten cs)
-  written (guarded keep g a b) = guarded keep (written g) (written a) (written b)
-  written (loop c) = loop (written c)
-  written skip = skip
-  written fail = fail
-  written break = break
-  written (called c) = written c
-
-  pub allWritten : Commands → Commands
-  allWritten noMore = noMore
-  allWritten (then c cs) = then (written c) (allWritten cs)
 
 -- whether a command has no call in it
 unfoldable mutual
