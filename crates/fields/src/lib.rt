@@ -93,12 +93,12 @@ pub fn part(bytes: &[u8], start: usize, end: usize) -> &[u8]
     &bytes[start..end]
 }
 
-// The field of number n, counted from 0, of fields one after the other, from a place on.
-pub fn nth_field(bytes: &[u8], at: usize, n: usize) -> Found
-    ensures { λ r. ⌜ r ≡ nthField n (now (bytes .entry)) at ⌝ }
+// The field of number n, counted from 0, of fields one after the other.
+pub fn nth_field(bytes: &[u8], n: usize) -> Found
+    ensures { λ r. ⌜ r ≡ nthField n (now (bytes .entry)) 0 ⌝ }
 {
     let mut left = n;
-    let mut found = read_field(bytes, at);
+    let mut found = read_field(bytes, 0);
     while left > 0 {
         match found {
             Found::Field(tag, start, end) => {

@@ -37,7 +37,8 @@ putAll put (Image.then c cs) = do
   ds ← putAll put cs
   some (then d ds)
 
--- the command with procedures put in, where it is then at most n deep, a call counting one
+-- the command with procedures put in, where it is then at most n deep, a call counting one; a procedure that there is not, which 17
+-- refuses, counts as skip
 unfoldable pub put : List Raw → ℕ → Raw → Option Command
 put procedures zero c = none
 put procedures (suc n) (Image.ruleSet l) = some (ruleSet l)

@@ -23,8 +23,8 @@ no-tag (Field tag start end) g e (inr k) = let z : _≡_ {A = ℕ} 0 2 = k in ab
 no-tag Short g e k = sym (tag-short g (sym e))
 no-tag End g e k = sym (tag-end g (sym e))
 
-pub nth-in : (bs : List ℕ) (n at : ℕ) {tag start end : ℕ} {f : Found} → f ≡ nthField n bs at → f ≡ Field tag start end → (start ≤ end) × (end ≤ length bs)
-nth-in bs n at {tag} {start} {end} e g = nth-inside bs n at tag start end (sym g ∙ e)
+pub nth-in : (bs : List ℕ) (n : ℕ) {tag start end : ℕ} {f : Found} → f ≡ nthField n bs 0 → f ≡ Field tag start end → (start ≤ end) × (end ≤ length bs)
+nth-in bs n {tag} {start} {end} e g = nth-inside bs n 0 tag start end (sym g ∙ e)
 
 pub no-tail : (n : ℕ) (bs : List ℕ) → length bs < n → [] ≡ drop n bs
 no-tail n bs h = sym (drop-of-length-le bs {i = n} (omega arith))

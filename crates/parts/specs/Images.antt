@@ -1,21 +1,22 @@
 -- What stands in an image as a row of fields: its rules, its procedures and its main command; and the command that a procedure is.
 -- Rests on the meaning's Image, on Series and on Rows.
 use mathlib.Core.Path.{_≡_, refl, sym, _∙_, ap}
-use mathlib.Core.Option.{Option, some}
+use mathlib.Core.Option.{Option, some, none}
 use mathlib.Core.List.{List, [], _∷_, _++_, map}
-use Prim.Native.Nat.{ℕ, suc, _+_, _<_}
+use Prim.Native.Nat.{ℕ, suc, _+_, _-_, _<_, _≤_}
 use native.Mathlib.Omega.{arith}
 use native.Mathlib.Decide.{ℕ-discrete}
 use lib.Dec.{eqb}
-use lib.ListN.{length, getD, length-append, length-map}
+use lib.ListN.{length, getD, take, drop, length-append, length-map}
 use lib.Seq.{getD-append-add, getD-at}
 use Rattle.meaning.specs.Tags.{procedureTag, ruleTag}
 use Rattle.meaning.specs.Basics.{choose, _>>=_}
-use Rattle.meaning.specs.Image.{Rule, Raw, RawProgram, limits, rule, command, oneCommand, rawProgram}
+use Rattle.meaning.specs.Image.{Rule, Raw, RawProgram, limits, field, rule, command, oneCommand, rawProgram}
 use Rattle.meaning.specs.Laws.Tests.{choose-eq, choose-ne, some-inj, bind-some}
 use Rattle.fields.specs.Image.{bind-yes}
+use Rattle.fields.specs.Laws.{Lies}
 use Rattle.fields.specs.Parsed.{command-tag, command-tagged, one-is, program-is}
-use Rattle.parts.specs.Series.{Series, For, leading-series, series-append, series-map, nthPart, nthTag, nth-item}
+use Rattle.parts.specs.Series.{Series, For, Taken, leading-series, series-append, series-map, series-none, series-some, series-there, nthPart, nthTag, nth-item}
 use Rattle.parts.specs.Rows.{tagItem, front, tagged, tagged-yes, tagged-some, nth-of, count-is}
 
 -- a rule, a procedure, or the main command with its tag
@@ -122,11 +123,6 @@ front-parts [] ks t c h = front-behind ks t c h
 front-parts (x ∷ xs) ks t c h = ap suc (front-parts xs ks t c h)
 
 module _ (bs : List ℕ) (p : RawProgram) (e : rawProgram bs ≡ some p) where
-  tags : (l : List ℕ) × Series tagItem l [] bs × (front ruleTag l ≡ length (p .rules))
-  tags =
-      let t = image-series bs p e in
-      (map partTag (imageParts (t .0) p), series-map imagePart tagItem partTag part-tag (imageParts (t .0) p) [] bs (t .2), front-parts (p .rules) (p .procedures) (t .0) (p .main) (t .1))
-
   count-parts : (t : ℕ) → length (imageParts t p) ≡ length (p .rules) + (length (p .procedures) + 1)
   count-parts t =
       length-append (map ruleOf (p .rules)) (commandParts t p)
@@ -134,7 +130,10 @@ module _ (bs : List ℕ) (p : RawProgram) (e : rawProgram bs ≡ some p) where
 
 -- the tags at the front are as many as there are rules
 pub rule-count-is : (bs : List ℕ) (r : ℕ) → ((l : List ℕ) → Series tagItem l [] bs → r ≡ front ruleTag l) → For (rawProgram bs) (λ p. r ≡ length (p .rules))
-rule-count-is bs r h p e = let t = tags bs p e in h (t .0) (t .1) ∙ t .2
+rule-count-is bs r h p e =
+    let t = image-series bs p e in
+    h (map partTag (imageParts (t .0) p)) (series-map imagePart tagItem partTag part-tag (imageParts (t .0) p) [] bs (t .2))
+    ∙ front-parts (p .rules) (p .procedures) (t .0) (p .main) (t .1)
 
 -- the last of all fields is the main command, and the others are rules and procedures
 pub parts-counted : (bs : List ℕ) (all : ℕ) → ((l : List ℕ) → Series tagItem l [] bs → all ≡ length l) → For (rawProgram bs) (λ p. all ≡ length (p .rules) + (length (p .procedures) + 1))
@@ -142,7 +141,7 @@ parts-counted bs all h p e =
     let t = image-series bs p e in
     count-is imagePart bs all h (imageParts (t .0) p) (t .2) ∙ count-parts bs p e (t .0)
 
--- The rule of a number, the procedure of a number, and the main command behind them.
+-- The rule of a number, and the main command.
 
 module _ (bs : List ℕ) (p : RawProgram) (e : rawProgram bs ≡ some p) where
   nth : (i : ℕ) (d : Part) → i < length (p .rules) + (length (p .procedures) + 1) → imagePart (nthTag i bs) (nthPart i bs) ≡ some (getD (imageParts (image-series bs p e .0) p) i d)
@@ -164,12 +163,6 @@ module _ (bs : List ℕ) (p : RawProgram) (e : rawProgram bs ≡ some p) where
       let t = nth i (ruleOf d) (omega arith) in
       part-is (nthTag i bs) (nthPart i bs) (ruleOf (getD (p .rules) i d)) (t ∙ ap some (nth-of ruleOf (p .rules) _ i d h)) .1
 
-  pub nth-procedure : (i : ℕ) → i < length (p .procedures) → (d : Raw) → procedure (nthPart (length (p .rules) + i) bs) ≡ some (getD (p .procedures) i d)
-  nth-procedure i h d =
-      let n = length (p .rules) + i in
-      let t = nth-command i (procedureOf d) (omega arith) in
-      part-is (nthTag n bs) (nthPart n bs) (procedureOf (getD (p .procedures) i d)) (t ∙ ap some (nth-of procedureOf (p .procedures) _ i d h)) .1
-
   pub main-command : let n = length (p .rules) + length (p .procedures) in command (limits .depth) (nthTag n bs) (nthPart n bs) ≡ some (p .main)
   main-command =
       let r = image-series bs p e in
@@ -178,18 +171,124 @@ module _ (bs : List ℕ) (p : RawProgram) (e : rawProgram bs ≡ some p) where
       let t = nth-command (length (p .procedures)) m (omega arith) in
       part-is (nthTag n bs) (nthPart n bs) m (t ∙ ap some (getD-at (map procedureOf (p .procedures)) m [] m _ (length-map (p .procedures) procedureOf))) .1
 
--- the same of parts that are known to be these
-
+-- the main command from a tag and a part that are known to be its
 pub main-is : (bs part : List ℕ) (tag : ℕ) (p : RawProgram) → rawProgram bs ≡ some p → tag ≡ nthTag (length (p .rules) + length (p .procedures)) bs
     → part ≡ nthPart (length (p .rules) + length (p .procedures)) bs → command (limits .depth) tag part ≡ some (p .main)
 main-is bs part tag p e h k = rw (h, k) (main-command bs p e)
 
--- the part of a number behind the rules
-pub procedure-is : (bs part : List ℕ) (i : ℕ) → ((l : List ℕ) → Series tagItem l [] bs → part ≡ nthPart (front ruleTag l + i) bs)
-    → For (rawProgram bs) (λ p. i < length (p .procedures) → (d : Raw) → procedure part ≡ some (getD (p .procedures) i d))
-procedure-is bs part i h p e k d =
-    let t = tags bs p e in
-    ap procedure (h (t .0) (t .1) ∙ ap (λ (n : ℕ). nthPart (n + i) bs) (t .2)) ∙ nth-procedure bs p e i k d
+-- A loop that looks for a procedure: what is left to count is left from the place on.
+
+-- the parts that are no rules
+unfoldable commandsIn : List Part → List Part
+commandsIn [] = []
+commandsIn (ruleOf x ∷ l) = commandsIn l
+commandsIn (procedureOf c ∷ l) = procedureOf c ∷ commandsIn l
+commandsIn (mainOf t c ∷ l) = mainOf t c ∷ commandsIn l
+
+commands-behind : (ks : List Raw) (t : ℕ) (c : Raw) → commandsIn (map procedureOf ks ++ mainOf t c ∷ []) ≡ map procedureOf ks ++ mainOf t c ∷ []
+unfolding commandsIn
+commands-behind [] t c = refl
+commands-behind (k ∷ ks) t c = ap (λ (l : List Part). procedureOf k ∷ l) (commands-behind ks t c)
+
+commands-in : (xs : List Rule) (ks : List Raw) (t : ℕ) (c : Raw) → commandsIn (map ruleOf xs ++ (map procedureOf ks ++ mainOf t c ∷ [])) ≡ map procedureOf ks ++ mainOf t c ∷ []
+unfolding commandsIn
+commands-in [] ks t c = commands-behind ks t c
+commands-in (x ∷ xs) ks t c = commands-in xs ks t c
+
+-- a part that is no rule is counted, and one that is one is not
+not-counted : (tag : ℕ) (bs : List ℕ) (a : Part) (l : List Part) → imagePart tag bs ≡ some a → tag ≡ ruleTag → commandsIn (a ∷ l) ≡ commandsIn l
+unfolding commandsIn
+not-counted tag bs (ruleOf x) l e h = refl
+not-counted tag bs (procedureOf c) l e h = absurd (omega (arith, part-is tag bs (procedureOf c) e .0))
+not-counted tag bs (mainOf t c) l e h = absurd (omega (arith, command-above tag bs c (part-is tag bs (mainOf t c) e .1)))
+
+counted : (tag : ℕ) (bs : List ℕ) (a : Part) (l : List Part) → imagePart tag bs ≡ some a → (tag ≡ ruleTag → ⊥) → commandsIn (a ∷ l) ≡ a ∷ commandsIn l
+unfolding commandsIn
+counted tag bs (ruleOf x) l e h = absurd (h (part-is tag bs (ruleOf x) e .0))
+counted tag bs (procedureOf c) l e h = refl
+counted tag bs (mainOf t c) l e h = refl
+
+same-procedure : (tag : ℕ) (bs : List ℕ) (a : Part) (c : Raw) → imagePart tag bs ≡ some a → a ≡ procedureOf c → procedure bs ≡ some c
+same-procedure tag bs a c e h = part-is tag bs (procedureOf c) (e ∙ ap some h) .1
+
+record Ahead (bs : List ℕ) (i at left : ℕ) (p : RawProgram) : Type 0 where
+  parts : List Part
+  series : Series imagePart parts [] (drop at bs)
+  there : left < length (commandsIn parts)
+  same : (d : Raw) → getD (commandsIn parts) left (procedureOf d) ≡ procedureOf (getD (p .procedures) i d)
+
+pub record Seeking (bs : List ℕ) (i at left : ℕ) : Type 0 where
+  ahead : For (rawProgram bs) (λ p. i < length (p .procedures) → Ahead bs i at left p)
+
+pub seeking-start : (bs : List ℕ) (i : ℕ) → Seeking bs i 0 i
+seeking-start bs i =
+    record {
+      ahead = λ p e h.
+          let t = image-series bs p e in
+          let q = commands-in (p .rules) (p .procedures) (t .0) (p .main) in
+          let n = length-append (map procedureOf (p .procedures)) (mainOf (t .0) (p .main) ∷ []) in
+          let m = length-map (p .procedures) procedureOf in
+          record {
+            parts = imageParts (t .0) p;
+            series = t .2;
+            there = omega (arith, ap length q);
+            same = λ d. ap (λ (l : List Part). getD l i (procedureOf d)) q ∙ nth-of procedureOf (p .procedures) _ i d h;
+          };
+    }
+
+module _ {bs : List ℕ} {i at left : ℕ} (w : Seeking bs i at left) where
+  abbrev Found : List ℕ → Type 0
+  Found part = For (rawProgram bs) (λ p. i < length (p .procedures) → (d : Raw) → procedure part ≡ some (getD (p .procedures) i d))
+
+  pub seeking-done : (part : List ℕ) → length bs ≤ at → Found part
+  unfolding commandsIn
+  seeking-done part h p e k d =
+      let a = w .ahead p e k in
+      let z : length (commandsIn (a .parts)) ≡ 0 = ap (λ (l : List Part). length (commandsIn l)) (series-none imagePart bs at (a .parts) (a .series) h) in
+      absurd (omega (arith, a .there))
+
+  pub seeking-cut : (part : List ℕ) → at < length bs → field (drop at bs) ≡ none → Found part
+  seeking-cut part h q p e k d = let a = w .ahead p e k in absurd (series-there imagePart bs at (a .parts) (a .series) h q)
+
+  module _ {tag start end : ℕ} (h : at < length bs) (f : Lies bs at tag start end) where
+    taken : {p : RawProgram} (a : Ahead bs i at left p) → Taken imagePart (a .parts) bs tag start end
+    taken a = series-some imagePart bs at (a .parts) (a .series) h tag start end f
+
+    pub seeking-rule : tag ≡ ruleTag → Seeking bs i end left
+    seeking-rule r =
+        record {
+          ahead = λ p e k.
+              let a = w .ahead p e k in
+              let u = taken a in
+              let z : commandsIn (a .parts) ≡ commandsIn (u .others) = ap commandsIn (u .parts) ∙ not-counted tag _ (u .first) (u .others) (u .read) r in
+              record { parts = u .others; series = u .series; there = rw z at (a .there); same = λ d. rw z at (a .same d) };
+        }
+
+    module _ (r : tag ≡ ruleTag → ⊥) where
+      one-more : {p : RawProgram} (a : Ahead bs i at left p) → commandsIn (a .parts) ≡ taken a .first ∷ commandsIn (taken a .others)
+      one-more a = let u = taken a in ap commandsIn (u .parts) ∙ counted tag _ (u .first) (u .others) (u .read) r
+
+      pub seeking-other : (left ≡ 0 → ⊥) → Seeking bs i end (left - 1)
+      seeking-other g =
+          record {
+            ahead = λ p e k.
+                let a = w .ahead p e k in
+                let u = taken a in
+                let z : left ≡ suc (left - 1) = omega arith in
+                record {
+                  parts = u .others;
+                  series = u .series;
+                  there = omega (arith, a .there, ap length (one-more a));
+                  same = λ d. ap (λ (n : ℕ). getD (u .first ∷ commandsIn (u .others)) n (procedureOf d)) (sym z) ∙ ap (λ (l : List Part). getD l left (procedureOf d)) (sym (one-more a)) ∙ a .same d;
+                };
+          }
+
+      pub seeking-found : {part : List ℕ} → part ≡ take (end - start) (drop start bs) → left ≡ 0 → Found part
+      seeking-found {part} q g p e k d =
+          let a = w .ahead p e k in
+          let u = taken a in
+          let y : u .first ≡ procedureOf (getD (p .procedures) i d) = ap (λ (n : ℕ). getD (u .first ∷ commandsIn (u .others)) n (procedureOf d)) (sym g) ∙ ap (λ (l : List Part). getD l left (procedureOf d)) (sym (one-more a)) ∙ a .same d in
+          ap procedure q ∙ same-procedure tag _ (u .first) _ (u .read) y
 
 -- A procedure's command is its first field.
 

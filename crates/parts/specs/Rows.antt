@@ -18,8 +18,8 @@ use Rattle.meaning.specs.Laws.Tests.{choose-true, choose-eq, choose-ne, some-in
 use Rattle.fields.specs.Image.{field-is, bind-yes}
 use Rattle.fields.specs.Parsed.{oneByte-is, ruleNode-is, ruleEdge-is, ruleGraph-is, types-is, mode-is, rule-is}
 use Rattle.meaning.specs.declared.Element.{Element}
-use Rattle.fields.specs.Laws.{Lies, at-field}
-use Rattle.fields.specs.Fields.{fieldAt, onward, nthField}
+use Rattle.fields.specs.Laws.{Lies}
+use Rattle.fields.specs.Fields.{nthField}
 use Rattle.fields.specs.declared.Found.the-variants.{Field as Lying}
 use Rattle.parts.specs.Series.{Series, For, series-none, series-some, series-there, leading-series, only-series, series-append, series-map, nthPart, nthTag, nth-item, nth-there, nth-beyond}
 
@@ -54,11 +54,9 @@ pub record Counting (tag : ℕ) (bs : List ℕ) (at n : ℕ) : Type 0 where
   pub left : (l : List ℕ) → Series tagItem l [] bs → (m : List ℕ) × (Series tagItem m [] (drop at bs)) × (front tag l ≡ n + front tag m)
   pub few : n ≤ at
   pub inside : at ≤ length bs
-  pub beyond : (m : ℕ) → nthField m bs at ≡ nthField (n + m) bs 0
 
 pub counting-start : (tag : ℕ) (bs : List ℕ) → Counting tag bs 0 0
-counting-start tag bs =
-    record { left = λ l r. (l, r, omega arith); few = omega arith; inside = omega arith; beyond = λ m. ap (λ (k : ℕ). nthField k bs 0) (omega arith) }
+counting-start tag bs = record { left = λ l r. (l, r, omega arith); few = omega arith; inside = omega arith }
 
 module _ {tag : ℕ} {bs : List ℕ} {at n : ℕ} (w : Counting tag bs at n) where
   pub counting-done : length bs ≤ at → (l : List ℕ) → Series tagItem l [] bs → n ≡ front tag l
@@ -80,12 +78,6 @@ module _ {tag : ℕ} {bs : List ℕ} {at n : ℕ} (w : Counting tag bs at n) whe
         let z : found ≡ u .first = some-inj _ _ (u .read) in
         (u .others, u .series, ap (front tag) (u .parts) ∙ ap (λ (x : ℕ). choose (eqb x tag) (suc (front tag (u .others))) 0) (sym z))
 
-    passed : (m : ℕ) → nthField m bs end ≡ nthField (suc m) bs at
-    unfolding nthField onward
-    passed m =
-        let e : fieldAt bs at ≡ Lying found start end = sym (at-field bs at h (k .whole) (k .is)) ∙ rw (k .tagged, k .starts, k .ends) in
-        rw e
-
     pub counting-next : found ≡ tag → Counting tag bs end (n + 1)
     counting-next g = record {
       left = λ l r.
@@ -95,7 +87,6 @@ module _ {tag : ℕ} {bs : List ℕ} {at n : ℕ} (w : Counting tag bs at n) whe
           (u .0, u .1, omega (arith, t .2, u .2, c));
       few = omega (arith, w .few, k .starts, k .ends);
       inside = k .inside;
-      beyond = λ m. passed m ∙ w .beyond (suc m) ∙ ap (λ (j : ℕ). nthField j bs 0) (omega arith);
     }
 
     pub counting-stop : (found ≡ tag → ⊥) → (l : List ℕ) → Series tagItem l [] bs → n ≡ front tag l

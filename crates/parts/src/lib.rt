@@ -8,7 +8,6 @@ ghost use lib.Dec.{eqb};
 ghost use lib.ListN.{length, getD, drop};
 ghost use Rattle.meaning.specs.Numbers.{number};
 ghost use Rattle.meaning.specs.Image.{Rule, only, passesAll, constant, label, ruleNode, ruleEdge, RuleNode, RuleEdge, ruleGraph, test, Raw, rule, rawProgram};
-ghost use Rattle.fields.specs.Fields.{nthField};
 ghost use Rattle.parts.specs.Series.{For, Series, nthPart, nthTag};
 ghost use Rattle.parts.specs.Rows.{tagItem, front, markAt, graphItem, itemLabel};
 ghost use Rattle.parts.specs.Images.{procedure};
@@ -24,12 +23,6 @@ pub enum Front {
     // An element, and the place behind it.
     First(Element, usize),
     Nothing,
-}
-
-// Fields of one tag at the front: how many they are, and the place behind them.
-pub struct Run {
-    pub count: usize,
-    pub place: usize,
 }
 
 // How many elements a label has, and how many of them are list variables.
@@ -96,7 +89,7 @@ pub fn degree_of(p: &[u8]) -> usize
 pub fn nth_part(p: &[u8], n: usize) -> &[u8]
     ensures { λ r. ⌜ now r ≡ nthPart n (now (p .entry)) ⌝ }
 {
-    let found = fields::nth_field(p, 0, n);
+    let found = fields::nth_field(p, n);
     let Found::Field(_, start, end) = found else {
         return &p[..0];
     };
@@ -107,42 +100,11 @@ pub fn nth_part(p: &[u8], n: usize) -> &[u8]
 pub fn nth_tag(p: &[u8], n: usize) -> u8
     ensures { λ r. ⌜ r ≡ nthTag n (now (p .entry)) ⌝ }
 {
-    let found = fields::nth_field(p, 0, n);
+    let found = fields::nth_field(p, n);
     let Found::Field(tag, _, _) = found else {
         return 0;
     };
     tag
-}
-
-// The fields at the front that have a tag.
-fn front_run(p: &[u8], tag: u8) -> Run
-    ensures { λ r. ⌜ ((l : List ℕ) → Series tagItem l [] (now (p .entry)) → r .count ≡ front tag l) ⌝ }
-    ensures { λ r. ⌜ (r .count ≤ length (now (p .entry))) × ((n : ℕ) → nthField n (now (p .entry)) (r .place) ≡ nthField (r .count + n) (now (p .entry)) 0) ⌝ }
-{
-    let mut at: usize = 0;
-    let mut n: usize = 0;
-    while at < p.len() {
-        let found = fields::read_field(p, at);
-        let Found::Field(t, _, end) = found else {
-            return Run {
-                count: n,
-                place: at,
-            };
-        };
-        if t == tag {
-            at = end;
-            n += 1;
-        } else {
-            return Run {
-                count: n,
-                place: at,
-            };
-        }
-    }
-    Run {
-        count: n,
-        place: at,
-    }
 }
 
 // How many fields at the front have a tag.
@@ -150,20 +112,21 @@ pub fn count_front(p: &[u8], tag: u8) -> usize
     ensures { λ r. ⌜ ((l : List ℕ) → Series tagItem l [] (now (p .entry)) → r ≡ front tag l) ⌝ }
     ensures { λ r. ⌜ r ≤ length (now (p .entry)) ⌝ }
 {
-    let run = front_run(p, tag);
-    run.count
-}
-
-// The payload of the field of number n behind those at the front that have a tag.
-fn nth_behind(p: &[u8], tag: u8, n: usize) -> &[u8]
-    ensures { λ r. ⌜ ((l : List ℕ) → Series tagItem l [] (now (p .entry)) → now r ≡ nthPart (front tag l + n) (now (p .entry))) ⌝ }
-{
-    let run = front_run(p, tag);
-    let found = fields::nth_field(p, run.place, n);
-    let Found::Field(_, start, end) = found else {
-        return &p[..0];
-    };
-    &p[start..end]
+    let mut at: usize = 0;
+    let mut n: usize = 0;
+    while at < p.len() {
+        let found = fields::read_field(p, at);
+        let Found::Field(t, _, end) = found else {
+            return n;
+        };
+        if t == tag {
+            at = end;
+            n += 1;
+        } else {
+            return n;
+        }
+    }
+    n
 }
 
 // How many fields there are.
@@ -307,11 +270,28 @@ pub fn procedure_count(image: &[u8]) -> usize
     0
 }
 
-// The command that a procedure is, as a field.
+// The command that a procedure is, as a field. Fields are counted from the first that is no rule.
 pub fn procedure_part(image: &[u8], i: usize) -> &[u8]
     ensures { λ r. ⌜ For (rawProgram (now (image .entry))) (λ p. i < length (p .procedures) → (d : Raw) → procedure (now r) ≡ some (getD (p .procedures) i d)) ⌝ }
 {
-    nth_behind(image, Tag::RULE, i)
+    let mut at: usize = 0;
+    let mut left = i;
+    while at < image.len() {
+        let found = fields::read_field(image, at);
+        let Found::Field(tag, start, end) = found else {
+            return &image[..0];
+        };
+        if tag == Tag::RULE {
+            at = end;
+        } else {
+            if left == 0 {
+                return &image[start..end];
+            }
+            left -= 1;
+            at = end;
+        }
+    }
+    &image[..0]
 }
 
 // The number of the main command among the fields of the image: it is the last.

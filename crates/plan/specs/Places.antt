@@ -208,5 +208,5 @@ place-none bs n f e k = record { ordered = omega arith; inside = omega arith; is
 
 pub place-there : (bs : List ℕ) (n : ℕ) {f : Found} {tag start end : ℕ} → f ≡ nthField n bs 0 → f ≡ Field tag start end → Part bs n start end
 place-there bs n {f} {tag} {start} {end} e g =
-    let i = nth-in bs n 0 e g in
+    let i = nth-in bs n e g in
     record { ordered = i .0; inside = i .1; is = sym (part-field bs (nthField n bs 0) tag start end (sym e ∙ g)) }

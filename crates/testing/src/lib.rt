@@ -134,7 +134,7 @@ fn test_holds<'a>(
     ensures { λ r. ⌜ ((w : HasTest (hostOf l (now (nodes .entry)) (now (edges .entry))) (now (rule .entry)) (now (plan .entry)) (now (at .entry)) i c t) → r ≡ testHolds (hostOf l (now (nodes .entry)) (now (edges .entry))) (w .trial .placed) (assigned (hostOf l (now (nodes .entry)) (now (edges .entry))) (w .trial .rule) (w .trial .placed)) (testOf (w .trial .rule) t)) ⌝ }
 {
     let tests = plan::tests(rule, plan);
-    let found = fields::nth_field(tests, 0, t);
+    let found = fields::nth_field(tests, t);
     let Found::Field(tag, start, end) = found else {
         return false;
     };

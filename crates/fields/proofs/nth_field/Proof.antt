@@ -8,16 +8,16 @@ use Rattle.fields.proofs.nth_field.Statement.{statement}
 use Rattle.fields.proofs.nth_field.Tie as tie
 
 abbrev Inv-loop : tie.InvT-loop
-Inv-loop bytes at n left₀ found₀ left found = later left bytes found ≡ nthField n bytes at
+Inv-loop bytes n left₀ found₀ left found = later left bytes found ≡ nthField n bytes 0
 
 abbrev μ-loop : tie.MeasureT-loop
-μ-loop bytes at n left₀ found₀ left found = left
+μ-loop bytes n left₀ found₀ left found = left
 
 read-field-requires : tie.Need-read-field-requires Inv-loop μ-loop
 read-field-requires c κs = search needs
 
 loop-holds : tie.Need-loop-holds Inv-loop μ-loop
-loop-holds c = later-start _ _ _ _ (c .read-field .ensures)
+loop-holds c = later-start _ _ 0 _ (c .read-field .ensures)
 
 enum-known-found : tie.Need-enum-known-found Inv-loop μ-loop
 enum-known-found c = search needs

@@ -19,13 +19,13 @@ returns : tie.Need-returns
 returns c = no-part _ _ _ (c .before .before .nth-field .ensures) (c .before .match .keys2)
 
 sub-result : tie.Need-sub-result
-sub-result c = nth-in _ _ _ (c .before .before .before .nth-field .ensures) (c .before .found .given .1) .0
+sub-result c = nth-in _ _ (c .before .before .before .nth-field .ensures) (c .before .found .given .1) .0
 
 part-result-start : tie.Need-part-result-start
-part-result-start c = nth-in _ _ _ (c .before .before .before .nth-field .ensures) (c .before .found .given .1) .0
+part-result-start c = nth-in _ _ (c .before .before .before .nth-field .ensures) (c .before .found .given .1) .0
 
 part-result-end : tie.Need-part-result-end
-part-result-end c = nth-in _ _ _ (c .before .before .before .nth-field .ensures) (c .before .found .given .1) .1
+part-result-end c = nth-in _ _ (c .before .before .before .nth-field .ensures) (c .before .found .given .1) .1
 
 returns-2 : tie.Need-returns-2
 returns-2 c = sym (part-field _ _ _ _ _ (sym (c .before .before .before .before .nth-field .ensures) ∙ c .before .before .found .given .1))

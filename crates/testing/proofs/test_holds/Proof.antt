@@ -36,7 +36,7 @@ returns : tie.Need-returns
 returns c = λ w. absurd (test-none w _ (c .before .before .tests .ensures (w .trial .rule) (w .trial .planned .laid)) (c .before .nth-field .ensures) (c .match .keys2))
 
 part-requires : tie.Need-part-requires
-part-requires c κs = nth-in _ _ _ (c .before .before .before .nth-field .ensures) (c .before .found .given .1)
+part-requires c κs = nth-in _ _ (c .before .before .before .nth-field .ensures) (c .before .found .given .1)
 
 behind-requires : tie.Need-behind-requires
 behind-requires c κs = search needs
