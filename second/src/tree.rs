@@ -223,17 +223,25 @@ impl Command {
 
     /// The command of a number below the size, to be changed in place: each comes before those inside of it.
     pub fn at_mut(&mut self, number: usize) -> &mut Command {
-        if number == 0 {
-            return self;
+        match number {
+            0 => self,
+            _ => command_at_mut(self.parts_mut(), number - 1),
         }
-        let mut behind = number - 1;
-        for part in self.parts_mut() {
-            let inside = part.size();
-            if behind < inside {
-                return part.at_mut(behind);
-            }
-            behind -= inside;
-        }
-        panic!("no command has the number {number}")
     }
+}
+
+/// The same in a row of commands.
+pub fn command_at_mut<'a>(
+    commands: impl IntoIterator<Item = &'a mut Command>,
+    number: usize,
+) -> &'a mut Command {
+    let mut behind = number;
+    for command in commands {
+        let inside = command.size();
+        if behind < inside {
+            return command.at_mut(behind);
+        }
+        behind -= inside;
+    }
+    panic!("no command has the number {number}")
 }

@@ -122,11 +122,10 @@ unfolding front partTag choose
 front-parts [] ks t c h = front-behind ks t c h
 front-parts (x ∷ xs) ks t c h = ap suc (front-parts xs ks t c h)
 
-module _ (bs : List ℕ) (p : RawProgram) (e : rawProgram bs ≡ some p) where
-  count-parts : (t : ℕ) → length (imageParts t p) ≡ length (p .rules) + (length (p .procedures) + 1)
-  count-parts t =
-      length-append (map ruleOf (p .rules)) (commandParts t p)
-      ∙ rw (length-map (p .rules) ruleOf, length-append (map procedureOf (p .procedures)) (mainOf t (p .main) ∷ []), length-map (p .procedures) procedureOf)
+count-parts : (t : ℕ) (p : RawProgram) → length (imageParts t p) ≡ length (p .rules) + (length (p .procedures) + 1)
+count-parts t p =
+    length-append (map ruleOf (p .rules)) (commandParts t p)
+    ∙ rw (length-map (p .rules) ruleOf, length-append (map procedureOf (p .procedures)) (mainOf t (p .main) ∷ []), length-map (p .procedures) procedureOf)
 
 -- the tags at the front are as many as there are rules
 pub rule-count-is : (bs : List ℕ) (r : ℕ) → ((l : List ℕ) → Series tagItem l [] bs → r ≡ front ruleTag l) → For (rawProgram bs) (λ p. r ≡ length (p .rules))
@@ -139,7 +138,7 @@ rule-count-is bs r h p e =
 pub parts-counted : (bs : List ℕ) (all : ℕ) → ((l : List ℕ) → Series tagItem l [] bs → all ≡ length l) → For (rawProgram bs) (λ p. all ≡ length (p .rules) + (length (p .procedures) + 1))
 parts-counted bs all h p e =
     let t = image-series bs p e in
-    count-is imagePart bs all h (imageParts (t .0) p) (t .2) ∙ count-parts bs p e (t .0)
+    count-is imagePart bs all h (imageParts (t .0) p) (t .2) ∙ count-parts (t .0) p
 
 -- The rule of a number, and the main command.
 
@@ -147,7 +146,7 @@ module _ (bs : List ℕ) (p : RawProgram) (e : rawProgram bs ≡ some p) where
   nth : (i : ℕ) (d : Part) → i < length (p .rules) + (length (p .procedures) + 1) → imagePart (nthTag i bs) (nthPart i bs) ≡ some (getD (imageParts (image-series bs p e .0) p) i d)
   nth i d h =
       let r = image-series bs p e in
-      nth-item bs imagePart (imageParts (r .0) p) i d (r .2) (omega (arith, count-parts bs p e (r .0)))
+      nth-item bs imagePart (imageParts (r .0) p) i d (r .2) (omega (arith, count-parts (r .0) p))
 
   -- what stands behind the rules
   nth-command : (i : ℕ) (d : Part) → i < length (p .procedures) + 1 → imagePart (nthTag (length (p .rules) + i) bs) (nthPart (length (p .rules) + i) bs) ≡ some (getD (commandParts (image-series bs p e .0) p) i d)

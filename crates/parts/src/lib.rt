@@ -259,13 +259,24 @@ pub fn rule_part(image: &[u8], i: usize) -> &[u8]
     nth_part(image, i)
 }
 
+// The number of the main command among the fields of the image: it is the last.
+fn main_number(image: &[u8]) -> usize
+    ensures { λ r. ⌜ For (rawProgram (now (image .entry))) (λ p. r ≡ length (p .rules) + length (p .procedures)) ⌝ }
+{
+    let all = count_fields(image);
+    if all > 0 {
+        return all - 1;
+    }
+    0
+}
+
 pub fn procedure_count(image: &[u8]) -> usize
     ensures { λ r. ⌜ For (rawProgram (now (image .entry))) (λ p. r ≡ length (p .procedures)) ⌝ }
 {
     let rules = rule_count(image);
-    let all = count_fields(image);
-    if rules < all {
-        return all - rules - 1;
+    let main = main_number(image);
+    if rules < main {
+        return main - rules;
     }
     0
 }
@@ -292,17 +303,6 @@ pub fn procedure_part(image: &[u8], i: usize) -> &[u8]
         }
     }
     &image[..0]
-}
-
-// The number of the main command among the fields of the image: it is the last.
-fn main_number(image: &[u8]) -> usize
-    ensures { λ r. ⌜ For (rawProgram (now (image .entry))) (λ p. r ≡ length (p .rules) + length (p .procedures)) ⌝ }
-{
-    let all = count_fields(image);
-    if all > 0 {
-        return all - 1;
-    }
-    0
 }
 
 pub fn main_tag(image: &[u8]) -> u8

@@ -40,7 +40,7 @@ impl Row {
 }
 
 /// Puts a command at some place of a program.
-type Around = fn(Command) -> Command;
+pub(super) type Around = fn(Command) -> Command;
 
 /// The places, each with the rows that stand there.
 const PLACES: [(Around, &[Row]); 8] = [

@@ -5,7 +5,7 @@ use crate::depth;
 use crate::encode;
 use crate::placement::breaks_are_placed;
 use crate::random::Random;
-use crate::tree::{limit, Command, Program};
+use crate::tree::{command_at_mut, limit, Command, Program};
 
 /// Gives a program without procedures some, so that its main command comes to at most so many levels. Where there is no room for
 /// them it stays as it is.
@@ -39,15 +39,8 @@ fn fits(program: &Program, levels: usize) -> bool {
 /// Any command of the program.
 fn any_command<'a>(random: &mut Random, program: &'a mut Program) -> &'a mut Command {
     let size: usize = program.commands().map(Command::size).sum();
-    let mut number = random.below(size);
-    for command in program.commands_mut() {
-        let inside = command.size();
-        if number < inside {
-            return command.at_mut(number);
-        }
-        number -= inside;
-    }
-    unreachable!("the number drawn is below the size")
+    let number = random.below(size);
+    command_at_mut(program.commands_mut(), number)
 }
 
 /// A command becomes a procedure and a call of it, and so do some others that are equal to it.

@@ -2,7 +2,7 @@
 //! ends before, at and behind a call; and as many procedures, calls and levels as there may be.
 
 use super::cases::{adding_one, marking};
-use super::groupings::red_to_blue;
+use super::groupings::{red_to_blue, Around};
 use super::modes::unmarked;
 use crate::build::*;
 use crate::encode::{self, node_slot, RunnerInput};
@@ -41,10 +41,7 @@ impl Body {
     }
 }
 
-/// Puts a call at some place of the main command.
-type Around = fn(Command) -> Command;
-
-/// The places. The last calls a procedure in which the call is.
+/// The places of a call. The last calls a procedure in which the call is.
 const PLACES: [Around; 8] = [
     |it| it,
     |it| Sequence(vec![Skip, it, call(0)]),
