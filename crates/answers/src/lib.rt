@@ -83,6 +83,7 @@ fn refusal_number(why: Refusal) -> u32
         Refusal::BadPlacement => 18,
         Refusal::BadDepth => 19,
         Refusal::BadRecords => 20,
+        Refusal::LabelDoesNotFit => 26,
     }
 }
 

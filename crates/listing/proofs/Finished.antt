@@ -15,7 +15,7 @@ use Rattle.laws.specs.Pieces.{fits-length, fits-same, length-read}
 use Rattle.laws.specs.Calls.{Accepted, accepted}
 use Rattle.laws.specs.Undoing.{base-numbered, run-keeps}
 use Rattle.meaning.specs.declared.Refusal.{Refusal}
-use Rattle.meaning.specs.declared.Refusal.the-variants.{ReportLength, NodeTableLength, EdgeTableLength, JournalLength, TooMuchFuel, ImageTooLong, BadHost, BadForm, BadReferences, BadPlacement, BadDepth, BadRecords}
+use Rattle.meaning.specs.declared.Refusal.the-variants.{ReportLength, NodeTableLength, EdgeTableLength, JournalLength, TooMuchFuel, ImageTooLong, BadHost, BadForm, BadReferences, BadPlacement, BadDepth, BadRecords, LabelDoesNotFit}
 use Rattle.laws.specs.Layout.{base-sized}
 use Rattle.writing.specs.Words.{letters}
 use Rattle.writing.specs.Text.{Adds, Lists}
@@ -44,6 +44,7 @@ refusal-answers BadReferences e = omega arith
 refusal-answers BadPlacement e = omega arith
 refusal-answers BadDepth e = omega arith
 refusal-answers BadRecords e = omega arith
+refusal-answers LabelDoesNotFit e = omega arith
 
 module _ (nodes edges journal image : List ℕ) (fuel : ℕ) (report : List ℕ) (hn : Bytes nodes) (he : Bytes edges) (hi : Bytes image) where
   abbrev left : Returned

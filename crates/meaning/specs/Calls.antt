@@ -1,6 +1,6 @@
 -- The two calls, each a function from all its inputs to all its outputs, refusals in their order included.
 -- Rests on Basics, Numbers, Layout, Image, References, Placement, Procedures and Commands, and on the code's Layout, Stop, Refusal, Answer and
--- End. At document 01's layout (`base`) a node has 20 bytes, an edge 24, a record 28; tables have at most 512, 1,024 and 1,024.
+-- End. At document 01's layout (`base`) a node has 36 bytes, an edge 40, a record 44; tables have at most 512, 1,024 and 1,024.
 use mathlib.Core.Path.{_≡_}
 use mathlib.Core.Bool.{Bool, false}
 use mathlib.Core.Option.{Option, some, none}
@@ -20,7 +20,7 @@ use Rattle.meaning.specs.declared.Layout.{Layout}
 use Rattle.meaning.specs.declared.Stop.{Stop}
 use Rattle.meaning.specs.declared.Stop.the-variants.{OutOfFuel, NoNodeRoom, NoEdgeRoom, NoRecordRoom, LabelTooLarge}
 use Rattle.meaning.specs.declared.Refusal.{Refusal}
-use Rattle.meaning.specs.declared.Refusal.the-variants.{ReportLength, NodeTableLength, EdgeTableLength, JournalLength, TooMuchFuel, ImageTooLong, BadHost, BadForm, BadReferences, BadPlacement, BadDepth, BadRecords}
+use Rattle.meaning.specs.declared.Refusal.the-variants.{ReportLength, NodeTableLength, EdgeTableLength, JournalLength, TooMuchFuel, ImageTooLong, BadHost, BadForm, BadReferences, BadPlacement, BadDepth, BadRecords, LabelDoesNotFit}
 use Rattle.meaning.specs.declared.Answer.{Answer}
 use Rattle.meaning.specs.declared.Answer.the-variants.{Result, Fail, Stopped as stoppedBy, Refused}
 use Rattle.meaning.specs.declared.End.{End}
@@ -48,6 +48,7 @@ refusalNumber BadReferences = 17
 refusalNumber BadPlacement = 18
 refusalNumber BadDepth = 19
 refusalNumber BadRecords = 20
+refusalNumber LabelDoesNotFit = 26
 
 unfoldable pub answerNumber : Answer → ℕ
 answerNumber Result = 0

@@ -101,9 +101,13 @@ atomLength = 4
 abbrev pub mostAtoms : ℕ
 mostAtoms = 8
 
--- document 01's layout: four atoms, two bytes to a slot number
+-- document 01's layout: eight atoms, two bytes to a slot number
 abbrev pub base : Layout
-base = record { atoms = 4; width = 2; node = 20; edge = 24; change = 28; nodes = 512; edges = 1024; records = 1024 }
+base = record { atoms = 8; width = 2; node = 36; edge = 40; change = 44; nodes = 512; edges = 1024; records = 1024 }
+
+-- the layout of old tables, which are carried to base and back: four atoms
+abbrev pub four : Layout
+four = record { atoms = 4; width = 2; node = 20; edge = 24; change = 28; nodes = 512; edges = 1024; records = 1024 }
 
 module _ (L : Layout) where
   -- where an edge's source, its target and its atoms begin; base: 4, 6, 8
@@ -116,15 +120,15 @@ module _ (L : Layout) where
   abbrev pub edgeAtoms : ℕ
   edgeAtoms = headLength + 2 * L .width
 
-  -- state, mark, root, label length, the atoms; base: 20
+  -- state, mark, root, label length, the atoms; base: 36
   abbrev pub nodeLength : ℕ
   nodeLength = headLength + atomLength * L .atoms
 
-  -- state, mark, zero, label length, source, target, the atoms; base: 24
+  -- state, mark, zero, label length, source, target, the atoms; base: 40
   abbrev pub edgeLength : ℕ
   edgeLength = edgeAtoms + atomLength * L .atoms
 
-  -- kind (filled with zeros to the width), slot number, the bytes before; base: 28
+  -- kind (filled with zeros to the width), slot number, the bytes before; base: 44
   abbrev pub recordLength : ℕ
   recordLength = 2 * L .width + edgeLength
 
@@ -156,14 +160,14 @@ cut w bs = pieces w (length bs / w) bs
 abbrev pub readAtoms : ℕ → List ℕ → List ℕ
 readAtoms n bs = map number (pieces atomLength n bs)
 
--- base: byte 0 state, 1 mark, 2 root, 3 label length, 4 to 19 four atoms of four bytes
+-- base: byte 0 state, 1 mark, 2 root, 3 label length, 4 to 35 eight atoms of four bytes
 unfoldable pub readNode : List ℕ → Slot Node
 readNode b =
     choose (eqb (getD b statePlace 0) 0) free
     (live (record { mark = getD b markPlace 0; root = getD b rootPlace 0; label = readAtoms (getD b lengthPlace 0) (drop headLength b) }))
 
 module _ (L : Layout) where
-  -- base: byte 0 state, 1 mark, 2 zero, 3 label length, 4 and 5 source, 6 and 7 target, 8 to 23 four atoms of four bytes
+  -- base: byte 0 state, 1 mark, 2 zero, 3 label length, 4 and 5 source, 6 and 7 target, 8 to 39 eight atoms of four bytes
   unfoldable pub readEdge : List ℕ → Slot Edge
   readEdge b =
       choose (eqb (getD b statePlace 0) 0) free
@@ -174,7 +178,7 @@ module _ (L : Layout) where
         label = readAtoms (getD b lengthPlace 0) (drop (edgeAtoms L) b);
       }))
 
-  -- base: slots of 20 bytes; of 24
+  -- base: slots of 36 bytes; of 40
   abbrev pub readNodes : List ℕ → List (Slot Node)
   readNodes bs = map readNode (cut (nodeLength L) bs)
 
@@ -202,7 +206,7 @@ module _ (L : Layout) where
   edgeBytes (live e) =
       1 ∷ e .mark ∷ 0 ∷ length (e .label) ∷ bytes (L .width) (e .source) ++ bytes (L .width) (e .target) ++ atomBytes (e .label)
 
-  -- base: filled with zeros to 20 bytes; to 24
+  -- base: filled with zeros to 36 bytes; to 40
   abbrev pub writeNode : Slot Node → List ℕ
   writeNode s = padded (nodeLength L) (nodeBytes s)
 
@@ -216,7 +220,7 @@ module _ (L : Layout) where
   writeEdges l = concat (map writeEdge l)
 
   -- kind 1 is a node, 2 an edge; a node's bytes are followed by zeros
-  -- base: byte 0 kind, 1 zero, 2 and 3 slot number, 4 to 27 the bytes before; of a node 4 to 23, with zeros in 24 to 27
+  -- base: byte 0 kind, 1 zero, 2 and 3 slot number, 4 to 43 the bytes before; of a node 4 to 39, with zeros in 40 to 43
   abbrev pub recordBytes : ℕ → ℕ → List ℕ → List ℕ
   recordBytes kind i before = padded (L .width) (kind ∷ []) ++ bytes (L .width) i ++ padded (edgeLength L) before
 
@@ -231,7 +235,7 @@ module _ (L : Layout) where
   abbrev pub slotOf : List ℕ → ℕ
   slotOf b = number (take (L .width) (drop (L .width) b))
 
-  -- base: byte 0 kind; the bytes before from byte 4 on, 20 of a node, 24 of an edge
+  -- base: byte 0 kind; the bytes before from byte 4 on, 36 of a node, 40 of an edge
   unfoldable pub readRecord : List ℕ → Change (List ℕ) (List ℕ)
   readRecord b =
       choose (eqb (getD b kindPlace 0) 1) (ofNode (slotOf b) (take (nodeLength L) (drop (2 * L .width) b)))
@@ -249,7 +253,7 @@ module _ (L : Layout) where
 -- The test that a host keeps the layout (answer 15), clause by clause.
 
 module _ (L : Layout) where
-  -- base: byte 0 is 0 and all are, or it is 1; byte 1 is 0 to 4, 2 is 0 or 1, 3 is 0 to 4; zeros from byte 4 + 4 * label length
+  -- base: byte 0 is 0 and all are, or it is 1; byte 1 is 0 to 4, 2 is 0 or 1, 3 is 0 to 8; zeros from byte 4 + 4 * label length
   unfoldable pub keepsNode : List ℕ → Bool
   keepsNode b =
       choose (eqb (getD b statePlace 0) 0) (zeros b)
@@ -261,7 +265,7 @@ module _ (L : Layout) where
       ∷ zeros (drop (headLength + atomLength * getD b lengthPlace 0) b)
       ∷ []))
 
-  -- base: byte 0 is 0 and all are, or it is 1; byte 1 is 0 to 3 or 5, 2 is 0, 3 is 0 to 4; 4 and 5, and 6 and 7, are live node
+  -- base: byte 0 is 0 and all are, or it is 1; byte 1 is 0 to 3 or 5, 2 is 0, 3 is 0 to 8; 4 and 5, and 6 and 7, are live node
   -- slots; zeros from byte 8 + 4 * label length
   unfoldable pub keepsEdge : List (Slot Node) → List ℕ → Bool
   keepsEdge nodes b =
@@ -276,7 +280,7 @@ module _ (L : Layout) where
       ∷ zeros (drop (edgeAtoms L + atomLength * getD b lengthPlace 0) b)
       ∷ []))
 
-  -- base: each 20 bytes of the node table, each 24 of the edge table
+  -- base: each 36 bytes of the node table, each 40 of the edge table
   unfoldable pub keepsLayout : List ℕ → List ℕ → Bool
   keepsLayout nodes edges =
       both (every keepsNode (cut (nodeLength L) nodes)) (every (keepsEdge (readNodes L nodes)) (cut (edgeLength L) edges))

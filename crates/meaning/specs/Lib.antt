@@ -13,6 +13,7 @@ pub mod FirstMatch
 pub mod Applying
 pub mod Commands
 pub mod Calls
+pub mod Carrying
 pub mod Computing
 pub mod ProvedSet
 pub mod Examples

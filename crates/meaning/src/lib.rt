@@ -1,6 +1,6 @@
 // The types that code and definitions share, and the numbers that belong to a kind of table. What they mean is in specs/.
 ghost use mathlib.Core.Path.{_≡_};
-ghost use Rattle.meaning.specs.Layout.{base};
+ghost use Rattle.meaning.specs.Layout.{base, four};
 
 pub mod tags;
 
@@ -55,6 +55,7 @@ pub enum Refusal {
     BadPlacement,
     BadDepth,
     BadRecords,
+    LabelDoesNotFit,
 }
 
 // The answer of a call.
@@ -119,7 +120,7 @@ pub enum Table {
 pub struct NodeTable {}
 
 impl NodeTable {
-    pub const SLOT: usize = 20;
+    pub const SLOT: usize = 36;
 
     pub const MOST: usize = 512;
 }
@@ -127,7 +128,7 @@ impl NodeTable {
 pub struct EdgeTable {}
 
 impl EdgeTable {
-    pub const SLOT: usize = 24;
+    pub const SLOT: usize = 40;
 
     pub const MOST: usize = 1024;
 }
@@ -135,7 +136,7 @@ impl EdgeTable {
 pub struct JournalTable {}
 
 impl JournalTable {
-    pub const SLOT: usize = 28;
+    pub const SLOT: usize = 44;
 
     pub const MOST: usize = 1024;
 }
@@ -154,16 +155,32 @@ pub struct Layout {
 }
 
 impl Layout {
-    // Four atoms, two bytes to a slot number.
+    // Eight atoms, two bytes to a slot number.
     pub fn base() -> Self
         ensures { λ r. ⌜ r ≡ base ⌝ }
     {
         Layout {
-            atoms: 4,
+            atoms: 8,
             width: 2,
             node: NodeTable::SLOT,
             edge: EdgeTable::SLOT,
             change: JournalTable::SLOT,
+            nodes: NodeTable::MOST,
+            edges: EdgeTable::MOST,
+            records: JournalTable::MOST,
+        }
+    }
+
+    // The layout of old tables: four atoms, two bytes to a slot number.
+    pub fn four() -> Self
+        ensures { λ r. ⌜ r ≡ four ⌝ }
+    {
+        Layout {
+            atoms: 4,
+            width: 2,
+            node: 20,
+            edge: 24,
+            change: 28,
             nodes: NodeTable::MOST,
             edges: EdgeTable::MOST,
             records: JournalTable::MOST,

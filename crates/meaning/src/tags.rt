@@ -123,7 +123,7 @@ impl Limit {
 
     pub const EDGES: usize = 6;
 
-    pub const ELEMENTS: usize = 4;
+    pub const ELEMENTS: usize = 8;
 
     pub const TESTS: usize = 4;
 
