@@ -6,8 +6,9 @@ ghost use Rattle.meaning.specs.Basics.{exists, count};
 ghost use Rattle.meaning.specs.Layout.{Sized, mostAtoms, liveAt, readNodes, readEdges, hostOf};
 ghost use Rattle.meaning.specs.Matching.{nodeAt, edgeAt, edgeRuns, edgeLeaves, edgeArrives, inDegree, outDegree, edgeTouches};
 ghost use Rattle.slots.specs.Laid.{laid};
-ghost use Rattle.graph.specs.Graph.{Legal, counts};
+ghost use Rattle.graph.specs.Graph.{Legal, slotsIn, counts};
 use meaning::Layout;
+use meaning::Table;
 use slots::held;
 use slots::held::Place;
 
@@ -110,6 +111,19 @@ pub fn edge_label<'a>(l: Layout, nodes: &[u8], edges: &'a [u8], x: usize) -> &'a
     ensures { λ r. ⌜ (laid (now r) ≡ edgeAt (hostOf l (now (nodes .entry)) (now (edges .entry))) x .label) × (length (laid (now r)) ≤ mostAtoms) ⌝ }
 {
     held::label(slots::slot(edges, l.edge, x), held::edge_atoms(l))
+}
+
+// Of either table.
+
+// How many slots a table has.
+pub fn slots_in(l: Layout, nodes: &[u8], edges: &[u8], table: Table) -> usize
+    requires { ⌜ Legal l (now nodes) (now edges) ⌝ }
+    ensures { λ r. ⌜ r ≡ slotsIn l (now (nodes .entry)) (now (edges .entry)) table ⌝ }
+{
+    match table {
+        Table::Nodes => node_slots(l, nodes),
+        Table::Edges => edge_slots(l, edges),
+    }
 }
 
 // What an edge does.

@@ -14,7 +14,8 @@ use Rattle.meaning.specs.declared.Layout.{Layout}
 use Rattle.meaning.specs.declared.Table.{Table}
 use Rattle.meaning.specs.declared.Table.the-variants.{Nodes, Edges}
 use Rattle.lines.specs.Lines.{nodeLine, edgeLine, slotLine, liveLines}
-use Rattle.lines.specs.Tables.{lineSize, slotsIn, slotText, linesFrom}
+use Rattle.lines.specs.Tables.{lineSize, slotText, linesFrom}
+use Rattle.graph.specs.Graph.{slotsIn}
 
 -- The line of a slot.
 

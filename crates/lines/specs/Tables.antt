@@ -1,7 +1,7 @@
--- The two tables of a host, by name: how many slots one has, and the lines of its live slots. Rests on Lines and Rooms.
+-- The two tables of a host, by name: the lines of their live slots. Rests on Lines and Rooms.
 use mathlib.Core.List.{List}
 use Prim.Native.Nat.{ℕ}
-use lib.ListN.{length, getD, drop}
+use lib.ListN.{getD, drop}
 use Rattle.meaning.specs.Layout.{free, readNodes, readEdges}
 use Rattle.meaning.specs.declared.Layout.{Layout}
 use Rattle.meaning.specs.declared.Table.{Table}
@@ -15,10 +15,6 @@ lineSize Nodes = nodeSize
 lineSize Edges = edgeSize
 
 module _ (L : Layout) (nodes edges : List ℕ) where
-  abbrev pub slotsIn : Table → ℕ
-  slotsIn Nodes = length (readNodes L nodes)
-  slotsIn Edges = length (readEdges L edges)
-
   -- the line of slot x, where it is live
   abbrev pub slotText : Table → ℕ → List ℕ
   slotText Nodes x = slotLine nodeLine x (getD (readNodes L nodes) x free)

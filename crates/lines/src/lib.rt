@@ -4,10 +4,10 @@ ghost use Prim.Native.Nat.{_+_, _*_, _<_, _≤_};
 ghost use lib.ListN.{length, getD, take, drop};
 ghost use Rattle.meaning.specs.Numbers.{number};
 ghost use Rattle.meaning.specs.Layout.{free, readNodes, readEdges};
-ghost use Rattle.graph.specs.Graph.{Legal};
+ghost use Rattle.graph.specs.Graph.{Legal, slotsIn};
 ghost use Rattle.writing.specs.Text.{Adds};
 ghost use Rattle.lines.specs.Lines.{reportSize, answerLine, nodeLine, edgeLine, slotLine, outcome};
-ghost use Rattle.lines.specs.Tables.{lineSize, slotsIn, slotText, linesFrom};
+ghost use Rattle.lines.specs.Tables.{lineSize, slotText, linesFrom};
 ghost use Rattle.lines.specs.Rooms.{answerSize, nodeSize, edgeSize, listingRoom, Ready};
 use meaning::Layout;
 use meaning::Table;
@@ -76,17 +76,6 @@ fn put_edge(l: Layout, nodes: &[u8], edges: &[u8], x: usize, out: &mut [u8], at:
     at
 }
 
-// How many slots a table has.
-fn slots_in(l: Layout, nodes: &[u8], edges: &[u8], table: Table) -> usize
-    requires { ⌜ Legal l (now nodes) (now edges) ⌝ }
-    ensures { λ r. ⌜ r ≡ slotsIn l (now (nodes .entry)) (now (edges .entry)) table ⌝ }
-{
-    match table {
-        Table::Nodes => graph::node_slots(l, nodes),
-        Table::Edges => graph::edge_slots(l, edges),
-    }
-}
-
 // The line of a slot of a table, where it is live.
 fn put_slot(
     l: Layout,
@@ -121,7 +110,7 @@ fn put_table(
     requires { ⌜ start + lineSize table * slotsIn l (now nodes) (now edges) table ≤ length (now out) ⌝ }
     ensures { λ r. ⌜ Adds (lineSize table * slotsIn l (now (nodes .entry)) (now (edges .entry)) table) (linesFrom l (now (nodes .entry)) (now (edges .entry)) table 0) (now (out .entry)) start (now (out .exit)) r ⌝ }
 {
-    let n = slots_in(l, nodes, edges, table);
+    let n = graph::slots_in(l, nodes, edges, table);
     let mut at = start;
     let mut x: usize = 0;
     while x < n {

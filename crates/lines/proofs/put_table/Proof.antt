@@ -4,7 +4,8 @@ use Prim.Native.Nat.{ℕ, _+_, _-_, _*_, _≤_}
 use native.Mathlib.Omega.{arith}
 use borrow.Author.Needs.{needs}
 use Rattle.writing.specs.Laws.Walks.{Coming, coming-start, coming-more, coming-end}
-use Rattle.lines.specs.Tables.{lineSize, slotsIn, linesFrom}
+use Rattle.lines.specs.Tables.{lineSize, linesFrom}
+use Rattle.graph.specs.Graph.{slotsIn}
 use Rattle.lines.proofs.Walks.{table-next, table-end, line-room}
 use Rattle.lines.proofs.put_table.Statement.{statement}
 use Rattle.lines.proofs.put_table.Tie as tie

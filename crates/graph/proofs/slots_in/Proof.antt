@@ -1,7 +1,7 @@
 -- `slots_in` meets its contract, table by table.
 use borrow.Author.Needs.{needs}
-use Rattle.lines.proofs.slots_in.Statement.{statement}
-use Rattle.lines.proofs.slots_in.Tie as tie
+use Rattle.graph.proofs.slots_in.Statement.{statement}
+use Rattle.graph.proofs.slots_in.Tie as tie
 
 enum-told : tie.Need-enum-told
 enum-told c = search needs
