@@ -13,7 +13,7 @@ use lib.ListN.{length, getD, take, drop, length-drop, drop-of-length-le}
 use lib.Seq.{take-all, take-nil, drop-drop}
 use Rattle.meaning.specs.Layout.{mostAtoms}
 use Rattle.meaning.specs.Basics.{choose, either}
-use Rattle.meaning.specs.Image.{Rule, mostItems}
+use Rattle.meaning.specs.Image.{limits, Rule, mostItems}
 use Rattle.meaning.specs.References.{labels, takesList, lists, ruleHolds}
 use Rattle.meaning.specs.Matching.{leftNodes, leftEdges, total}
 use Rattle.meaning.specs.Assigned.{isVariable, share, spare, taken, orElse}
@@ -43,10 +43,10 @@ has-first v (l ∷ ls) h = go (has v l) refl h (has-first v ls)
     go false q h ih = ih (omega arith)
 
 -- a left label is short
-label-short : {bs plan : List ℕ} {r : Rule} → Laid bs r plan → (j : ℕ) → j < total r → length (labelOf r j) ≤ 4
+label-short : {bs plan : List ℕ} {r : Rule} → Laid bs r plan → (j : ℕ) → j < total r → length (labelOf r j) ≤ limits .elements
 label-short {bs} {plan} {r} l j h = go (decLt j (leftNodes r))
   where
-    go : Dec (j < leftNodes r) → length (labelOf r j) ≤ 4
+    go : Dec (j < leftNodes r) → length (labelOf r j) ≤ limits .elements
     go (yes k) = rw (label-node r j k) (label-few _ _ (ruleNode-is _ _ (l .items .node j k .is) .label))
     go (no k) =
         let e : j ≡ leftNodes r + (j - leftNodes r) = omega arith in
@@ -138,14 +138,14 @@ module _ {bs plan : List ℕ} {v : ℕ} (w : OnLeft bs plan v) where
   lists-is = let f = w .planned .first v (w .there) in rw item-is at (f .lists (rw item-is (w .placed)))
 
   -- few elements are before it, so that the place can be counted
-  before-few : getD plan (singlesAt + v) 0 + getD plan (beforeAt + v) 0 ≤ 4
+  before-few : getD plan (singlesAt + v) 0 + getD plan (beforeAt + v) 0 ≤ limits .elements
   before-few =
       let s = singles-is in
       let q = lists-is in
       omega (arith, before-within (w .rule) v pattern, label-short (w .planned .laid) item (w .placed))
 
-  pub place-low : (n : ℕ) → n ≤ mostAtoms → getD plan (singlesAt + v) 0 + getD plan (beforeAt + v) 0 * n ≤ 36
-  place-low n h = let k : getD plan (beforeAt + v) 0 ≤ 4 = omega (arith, before-few) in omega (arith, before-few, mul-le-mul k h)
+  pub place-low : (n : ℕ) → n ≤ mostAtoms → getD plan (singlesAt + v) 0 + getD plan (beforeAt + v) 0 * n ≤ limits .elements + limits .elements * mostAtoms
+  place-low n h = let k : getD plan (beforeAt + v) 0 ≤ limits .elements = omega (arith, before-few) in omega (arith, before-few, mul-le-mul k h)
 
   -- where a list takes n atoms of a label of so many, it takes k of them from a place on
   module _ (len n k from : ℕ) (n-is : n ≡ spare (w .rule) pattern len) (k-is : k ≡ share (w .rule) n (Variable v))

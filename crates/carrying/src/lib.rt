@@ -7,6 +7,7 @@ ghost use Prim.Native.Nat.{_*_, _/_, _<_, _≤_};
 ghost use lib.ListN.{length};
 ghost use Rattle.meaning.specs.Layout.{Sized, mostAtoms};
 ghost use Rattle.meaning.specs.Calls.{answerNumber};
+ghost use Rattle.meaning.specs.declared.Table.{Table};
 ghost use Rattle.meaning.specs.Carrying.{Carries, lendingTables, asManySlots, carryRefusal, carry};
 ghost use Rattle.laws.specs.Pieces.{stored};
 ghost use Rattle.labels.specs.Labels.{Holds};
@@ -25,14 +26,7 @@ use meaning::Table;
 // What is refused.
 
 // Whether a table and the one that it is carried to have lengths of their layouts, and as many slots.
-fn as_many_slots(
-    table: &[u8],
-    w: usize,
-    most: usize,
-    to: &[u8],
-    v: usize,
-    to_most: usize,
-) -> bool
+fn as_many_slots(table: &[u8], w: usize, most: usize, to: &[u8], v: usize, to_most: usize) -> bool
     requires { ⌜ (0 < w) × (0 < v) ⌝ }
     ensures { λ r. ⌜ r ≡ asManySlots w most (now (table .entry)) v «to_most» (now (to .entry)) ⌝ }
 {
@@ -44,15 +38,15 @@ fn as_many_slots(
     false
 }
 
-// The label of a slot, where it lies.
-fn label_in<'a>(l: Layout, nodes: &'a [u8], edges: &'a [u8], which: Table, x: usize) -> &'a [u8]
+// How many atoms the label of a slot has.
+fn atoms_in(l: Layout, nodes: &[u8], edges: &[u8], which: Table, x: usize) -> usize
     requires { ⌜ Legal l (now nodes) (now edges) ⌝ }
     requires { ⌜ x < slotsIn l (now nodes) (now edges) which ⌝ }
-    ensures { λ r. ⌜ laid (now r) ≡ labelIn l (now (nodes .entry)) (now (edges .entry)) which x ⌝ }
+    ensures { λ r. ⌜ r ≡ length (labelIn l (now (nodes .entry)) (now (edges .entry)) which x) ⌝ }
 {
     match which {
-        Table::Nodes => graph::node_label(l, nodes, edges, x),
-        Table::Edges => graph::edge_label(l, nodes, edges, x),
+        Table::Nodes => slots::laid::count(graph::node_label(l, nodes, edges, x)),
+        Table::Edges => slots::laid::count(graph::edge_label(l, nodes, edges, x)),
     }
 }
 
@@ -64,7 +58,7 @@ fn labels_fit(l: Layout, nodes: &[u8], edges: &[u8], which: Table, most: usize) 
     let n = graph::slots_in(l, nodes, edges, which);
     let mut x: usize = 0;
     while x < n {
-        if slots::laid::count(label_in(l, nodes, edges, which, x)) > most {
+        if atoms_in(l, nodes, edges, which, x) > most {
             return false;
         }
         x += 1;
@@ -81,7 +75,9 @@ fn check(
     to_nodes: &[u8],
     to_edges: &[u8],
 ) -> Checked
-    requires { ⌜ Sized from × Sized to × (from .atoms ≤ mostAtoms) ⌝ }
+    requires { ⌜ Sized from ⌝ }
+    requires { ⌜ Sized to ⌝ }
+    requires { ⌜ from .atoms ≤ mostAtoms ⌝ }
     ensures { λ r. ⌜ refusalOf r ≡ carryRefusal from to (lendingTables (now (nodes .entry)) (now (edges .entry)) (now («to_nodes» .entry)) (now («to_edges» .entry))) ⌝ }
 {
     if !as_many_slots(nodes, from.node, from.nodes, to_nodes, to.node, to.nodes) {
@@ -116,47 +112,39 @@ fn in_hand(a: &[u8]) -> Label
         atoms[j] = slots::laid::atom(a, j);
         j += 1;
     }
-    Label { len: n, atoms: atoms }
+    Label {
+        len: n,
+        atoms: atoms,
+    }
 }
 
 // Carries a node's slot.
-fn carry_node(
-    from: Layout,
-    to: Layout,
-    nodes: &[u8],
-    edges: &[u8],
-    x: usize,
-    out: &mut [u8],
-)
-    requires { ⌜ Legal from (now nodes) (now edges) × Sized to ⌝ }
-    requires { ⌜ (x < slotsIn from (now nodes) (now edges) Nodes) × (x < length (now out) / slotLength to Nodes) ⌝ }
-    requires { ⌜ length (labelIn from (now nodes) (now edges) Nodes x) ≤ to .atoms ⌝ }
-    ensures { λ _. ⌜ now (out .exit) ≡ stored (slotLength to Nodes) x (slotCarried from to (now (nodes .entry)) (now (edges .entry)) Nodes x) (now (out .entry)) ⌝ }
+fn carry_node(from: Layout, to: Layout, nodes: &[u8], edges: &[u8], x: usize, out: &mut [u8])
+    requires { ⌜ Legal from (now nodes) (now edges) ⌝ }
+    requires { ⌜ Sized to ⌝ }
+    requires { ⌜ (x < slotsIn from (now nodes) (now edges) Table.Nodes) × (x < length (now out) / slotLength to Table.Nodes) ⌝ }
+    requires { ⌜ length (labelIn from (now nodes) (now edges) Table.Nodes x) ≤ to .atoms ⌝ }
+    ensures { λ _. ⌜ now (out .exit) ≡ stored (slotLength to Table.Nodes) x (slotCarried from to (now (nodes .entry)) (now (edges .entry)) Table.Nodes x) (now (out .entry)) ⌝ }
 {
     if graph::node_live(from, nodes, edges, x) {
         let mark = graph::node_mark(from, nodes, edges, x);
         let root = graph::node_root(from, nodes, edges, x);
         let label = in_hand(graph::node_label(from, nodes, edges, x));
         let n = label.len;
-        slots::store_node(to, out, x, mark, root, &label.atoms[..n]);
+        let atoms = label.atoms;
+        slots::store_node(to, out, x, mark, root, &atoms[..n]);
     } else {
         slots::free_slot(out, to.node, x);
     }
 }
 
 // Carries an edge's slot.
-fn carry_edge(
-    from: Layout,
-    to: Layout,
-    nodes: &[u8],
-    edges: &[u8],
-    x: usize,
-    out: &mut [u8],
-)
-    requires { ⌜ Legal from (now nodes) (now edges) × Sized to ⌝ }
-    requires { ⌜ (x < slotsIn from (now nodes) (now edges) Edges) × (x < length (now out) / slotLength to Edges) ⌝ }
-    requires { ⌜ length (labelIn from (now nodes) (now edges) Edges x) ≤ to .atoms ⌝ }
-    ensures { λ _. ⌜ now (out .exit) ≡ stored (slotLength to Edges) x (slotCarried from to (now (nodes .entry)) (now (edges .entry)) Edges x) (now (out .entry)) ⌝ }
+fn carry_edge(from: Layout, to: Layout, nodes: &[u8], edges: &[u8], x: usize, out: &mut [u8])
+    requires { ⌜ Legal from (now nodes) (now edges) ⌝ }
+    requires { ⌜ Sized to ⌝ }
+    requires { ⌜ (x < slotsIn from (now nodes) (now edges) Table.Edges) × (x < length (now out) / slotLength to Table.Edges) ⌝ }
+    requires { ⌜ length (labelIn from (now nodes) (now edges) Table.Edges x) ≤ to .atoms ⌝ }
+    ensures { λ _. ⌜ now (out .exit) ≡ stored (slotLength to Table.Edges) x (slotCarried from to (now (nodes .entry)) (now (edges .entry)) Table.Edges x) (now (out .entry)) ⌝ }
 {
     if graph::edge_live(from, nodes, edges, x) {
         let mark = graph::edge_mark(from, nodes, edges, x);
@@ -164,7 +152,8 @@ fn carry_edge(
         let target = graph::edge_target(from, nodes, edges, x);
         let label = in_hand(graph::edge_label(from, nodes, edges, x));
         let n = label.len;
-        slots::store_edge(to, out, x, mark, source, target, &label.atoms[..n]);
+        let atoms = label.atoms;
+        slots::store_edge(to, out, x, mark, source, target, &atoms[..n]);
     } else {
         slots::free_slot(out, to.edge, x);
     }
@@ -180,7 +169,8 @@ fn carry_slot(
     x: usize,
     out: &mut [u8],
 )
-    requires { ⌜ Legal from (now nodes) (now edges) × Sized to ⌝ }
+    requires { ⌜ Legal from (now nodes) (now edges) ⌝ }
+    requires { ⌜ Sized to ⌝ }
     requires { ⌜ (x < slotsIn from (now nodes) (now edges) which) × (x < length (now out) / slotLength to which) ⌝ }
     requires { ⌜ length (labelIn from (now nodes) (now edges) which x) ≤ to .atoms ⌝ }
     ensures { λ _. ⌜ now (out .exit) ≡ stored (slotLength to which) x (slotCarried from to (now (nodes .entry)) (now (edges .entry)) which x) (now (out .entry)) ⌝ }
@@ -192,15 +182,9 @@ fn carry_slot(
 }
 
 // Carries the slots of a table, one by one.
-fn carry_slots(
-    from: Layout,
-    to: Layout,
-    nodes: &[u8],
-    edges: &[u8],
-    which: Table,
-    out: &mut [u8],
-)
-    requires { ⌜ Legal from (now nodes) (now edges) × Sized to ⌝ }
+fn carry_slots(from: Layout, to: Layout, nodes: &[u8], edges: &[u8], which: Table, out: &mut [u8])
+    requires { ⌜ Legal from (now nodes) (now edges) ⌝ }
+    requires { ⌜ Sized to ⌝ }
     requires { ⌜ length (now out) ≡ slotsIn from (now nodes) (now edges) which * slotLength to which ⌝ }
     requires { ⌜ labelsFitIn from (now nodes) (now edges) which (to .atoms) ≡ true ⌝ }
     ensures { λ _. ⌜ now (out .exit) ≡ tableCarried from to (now (nodes .entry)) (now (edges .entry)) which ⌝ }
@@ -222,7 +206,9 @@ pub fn carry_tables(
     to_nodes: &mut [u8],
     to_edges: &mut [u8],
 ) -> Answer
-    requires { ⌜ Sized from × Sized to × (from .atoms ≤ mostAtoms) ⌝ }
+    requires { ⌜ Sized from ⌝ }
+    requires { ⌜ Sized to ⌝ }
+    requires { ⌜ from .atoms ≤ mostAtoms ⌝ }
     ensures { λ r. ⌜ Carries (carry from to (lendingTables (now (nodes .entry)) (now (edges .entry)) (now («to_nodes» .entry)) (now («to_edges» .entry)))) (answerNumber r) (now («to_nodes» .exit)) (now («to_edges» .exit)) ⌝ }
 {
     let checked = check(from, to, nodes, edges, &to_nodes[..], &to_edges[..]);

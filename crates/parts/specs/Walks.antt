@@ -11,7 +11,7 @@ use borrow.Author.Tests.{eq-eqb, ne-eqb}
 use lib.Dec.{eqb, leb}
 use lib.ListN.{length, take, drop, length-drop}
 use lib.Seq.{length-take-le, take-all}
-use Rattle.meaning.specs.Image.{Rule, field, passesAll, element, label}
+use Rattle.meaning.specs.Image.{limits, Rule, field, passesAll, element, label}
 use Rattle.meaning.specs.References.{takesList, lists}
 use Rattle.meaning.specs.FirstMatch.{lengthFits}
 use Rattle.meaning.specs.Laws.Tests.{choose-true, choose-false}
@@ -30,7 +30,7 @@ use Rattle.parts.specs.declared.Counts.{Counts}
 
 pub spells-label : (bs : List ℕ) (l : List Element) → label bs ≡ some l → Spells bs l
 unfolding label
-spells-label bs l e = only-series passesAll element element (λ tag q a p r. r) 4 bs l e
+spells-label bs l e = only-series passesAll element element (λ tag q a p r. r) (limits .elements) bs l e
 
 -- How they begin, from the field that is found.
 

@@ -11,7 +11,7 @@ use lib.Dec.{eqb}
 use lib.ListN.{length, getD, take, drop}
 use Rattle.meaning.specs.Tags.{constantTag, differenceTag, sumTag, variableTag}
 use Rattle.meaning.specs.Basics.{choose, either}
-use Rattle.meaning.specs.Image.{Rule, field, element, passesAll, label}
+use Rattle.meaning.specs.Image.{limits, Rule, field, element, passesAll, label}
 use Rattle.meaning.specs.References.{isList, takesList}
 use Rattle.meaning.specs.Assigned.{isVariable}
 use Rattle.meaning.specs.FirstMatch.{has, firstWith}
@@ -81,7 +81,7 @@ unfolding label
 seeking-start types v p =
     record {
       few = omega arith;
-      left = λ r k l e. record { elements = l; series = only-series passesAll element element (λ tag bs a h q. q) 4 p l e; same = refl; singles = omega arith; lists = omega arith };
+      left = λ r k l e. record { elements = l; series = only-series passesAll element element (λ tag bs a h q. q) (limits .elements) p l e; same = refl; singles = omega arith; lists = omega arith };
     }
 
 module _ {types : List ℕ} {v : ℕ} {p : List ℕ} {at s q : ℕ} (w : Seeking types v p at s q) where

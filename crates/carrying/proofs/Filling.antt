@@ -1,0 +1,113 @@
+-- A table that is filled slot by slot from the front. Rests on specs/Tables, Labels and Slots.
+use mathlib.Core.Path.{_≡_, refl, sym, _∙_, ap}
+use mathlib.Core.Bool.{true}
+use mathlib.Core.List.{List, [], _∷_, _++_, map, append-nil, map-append}
+use Prim.Native.Nat.{ℕ, zero, suc, _+_, _-_, _*_, _/_, _<_, _≤_}
+use native.Mathlib.Nat.{suc-mul, zero-mul, mul-div-cancel, mul-le-mul-right}
+use native.Mathlib.Numerals.{add-one}
+use native.Mathlib.Omega.{arith}
+use lib.ListN.{length, getD, take, drop, length-take, length-append, length-drop, drop-of-length-le}
+use lib.Seq.{take-suc, take-at, drop-at, drop-drop, take-length, getD-take}
+use Rattle.meaning.specs.Basics.{concat}
+use Rattle.meaning.specs.Layout.{Slot, free, writeNode, writeEdge, readNodes, readEdges, nodeLength, edgeLength}
+use Rattle.laws.specs.Pieces.{concat-append, stored, length-write}
+use Rattle.meaning.specs.declared.Layout.{Layout}
+use Rattle.meaning.specs.declared.Table.{Table}
+use Rattle.meaning.specs.declared.Table.the-variants.{Nodes, Edges}
+use Rattle.host.specs.Tables.{slotLength}
+use Rattle.graph.specs.Graph.{slotsIn}
+use Rattle.carrying.specs.Tables.{labelIn, labelsFitIn, slotCarried, tableCarried}
+use Rattle.carrying.proofs.Labels.{fit-at}
+use Rattle.carrying.proofs.Slots.{node-length, edge-length}
+
+module _ {A : Type 0} (w : ℕ) (write : Slot A → List ℕ) (l : List (Slot A)) (to : List ℕ) where
+  -- the first i slots are written, the others are as they were lent
+  abbrev filled : ℕ → List ℕ
+  filled i = concat (map write (take i l)) ++ drop (i * w) to
+
+  filled-none : filled 0 ≡ to
+  unfolding concat
+  filled-none = rw zero-mul
+
+  filled-all : length to ≡ length l * w → filled (length l) ≡ concat (map write l)
+  filled-all size =
+      let e : drop (length l * w) to ≡ [] = drop-of-length-le to {i = length l * w} (omega arith) in
+      rw (e, take-length l) (append-nil (concat (map write l)))
+
+  module _ (wide : (i : ℕ) → i < length l → length (write (getD l i free)) ≡ w) where
+    front-length : (i : ℕ) → i ≤ length l → length (concat (map write (take i l))) ≡ i * w
+    front-length i h =
+        let n : length (take i l) ≡ i = length-take i l ∙ omega arith in
+        length-write w write (take i l) free (λ j k. rw (getD-take i l j free (omega arith)) (wide j (omega arith)))
+        ∙ ap (λ (m : ℕ). m * w) n
+
+    one-more : (i : ℕ) → i < length l → concat (map write (take (suc i) l)) ≡ concat (map write (take i l)) ++ write (getD l i free)
+    unfolding concat
+    one-more i h =
+        ap (λ (m : List (Slot A)). concat (map write m)) (take-suc l i free h)
+        ∙ ap concat (map-append write (take i l) (getD l i free ∷ []))
+        ∙ concat-append (map write (take i l)) (write (getD l i free) ∷ [])
+        ∙ ap (λ (m : List ℕ). concat (map write (take i l)) ++ m) (append-nil (write (getD l i free)))
+
+    filled-next : (i : ℕ) → i < length l → stored w i (write (getD l i free)) (filled i) ≡ filled (suc i)
+    filled-next i h =
+        let front : List ℕ = concat (map write (take i l)) in
+        let n = front-length i (omega arith) in
+        let e : i * w + w ≡ suc i * w = omega (arith, suc-mul i w) in
+        let rest : drop (i * w + w) (filled i) ≡ drop (suc i * w) to =
+        sym (drop-drop w (i * w) (filled i)) ∙ ap (drop w) (drop-at front (drop (i * w) to) (i * w) n) ∙ drop-drop w (i * w) to
+        ∙ ap (λ (m : ℕ). drop m to) e in
+        rw (take-at front (drop (i * w) to) (i * w) n, rest, one-more i h)
+
+    filled-length : (i : ℕ) → i ≤ length l → length to ≡ length l * w → length (filled i) ≡ length l * w
+    filled-length i h size =
+        let n = front-length i h in
+        let m : i * w ≤ length l * w = mul-le-mul-right w h in
+        simp (length-append, length-drop) (omega (arith, n, m, size))
+
+module _ (L M : Layout) (nodes edges to : List ℕ) where
+  -- so many slots of a table are carried
+  abbrev pub soFar : Table → ℕ → List ℕ
+  soFar Nodes = filled (nodeLength M) (writeNode M) (readNodes L nodes) to
+  soFar Edges = filled (edgeLength M) (writeEdge M) (readEdges L edges) to
+
+  pub so-far-none : (t : Table) → soFar t 0 ≡ to
+  so-far-none Nodes = filled-none (nodeLength M) (writeNode M) (readNodes L nodes) to
+  so-far-none Edges = filled-none (edgeLength M) (writeEdge M) (readEdges L edges) to
+
+  module _ (t : Table) (size : length to ≡ slotsIn L nodes edges t * slotLength M t) where
+    pub so-far-all : soFar t (slotsIn L nodes edges t) ≡ tableCarried L M nodes edges t
+    so-far-all = at t size
+      where
+        at : (t : Table) → length to ≡ slotsIn L nodes edges t * slotLength M t → soFar t (slotsIn L nodes edges t) ≡ tableCarried L M nodes edges t
+        at Nodes s = filled-all (nodeLength M) (writeNode M) (readNodes L nodes) to s
+        at Edges s = filled-all (edgeLength M) (writeEdge M) (readEdges L edges) to s
+
+    module _ (fit : labelsFitIn L nodes edges t (M .atoms) ≡ true) where
+      pub so-far-length : (x : ℕ) → x ≤ slotsIn L nodes edges t → length (soFar t x) ≡ length to
+      so-far-length x h = at t size fit h ∙ sym size
+        where
+          at : (t : Table) → length to ≡ slotsIn L nodes edges t * slotLength M t → labelsFitIn L nodes edges t (M .atoms) ≡ true
+              → x ≤ slotsIn L nodes edges t → length (soFar t x) ≡ slotsIn L nodes edges t * slotLength M t
+          at Nodes s f k = filled-length _ _ _ to (λ i j. node-length M _ (fit-at L nodes edges (M .atoms) Nodes f i j)) x k s
+          at Edges s f k = filled-length _ _ _ to (λ i j. edge-length M _ (fit-at L nodes edges (M .atoms) Edges f i j)) x k s
+
+      module _ (x : ℕ) (h : x < slotsIn L nodes edges t) where
+        pub so-far-next : stored (slotLength M t) x (slotCarried L M nodes edges t x) (soFar t x) ≡ soFar t (x + 1)
+        so-far-next = rw (add-one x) (at t fit h)
+          where
+            at : (t : Table) → labelsFitIn L nodes edges t (M .atoms) ≡ true → x < slotsIn L nodes edges t
+                → stored (slotLength M t) x (slotCarried L M nodes edges t x) (soFar t x) ≡ soFar t (suc x)
+            at Nodes f k = filled-next _ _ _ to (λ i j. node-length M _ (fit-at L nodes edges (M .atoms) Nodes f i j)) x k
+            at Edges f k = filled-next _ _ _ to (λ i j. edge-length M _ (fit-at L nodes edges (M .atoms) Edges f i j)) x k
+
+        -- the table has the slot
+        pub so-far-room : x < length to / slotLength M t
+        so-far-room = at t size h
+          where
+            room : (n w : ℕ) → 0 < w → x < n → length to ≡ n * w → x < length to / w
+            room n w p k e = rw (e, mul-div-cancel n p) k
+
+            at : (t : Table) → length to ≡ slotsIn L nodes edges t * slotLength M t → x < slotsIn L nodes edges t → x < length to / slotLength M t
+            at Nodes s k = room _ (nodeLength M) (omega arith) k s
+            at Edges s k = room _ (edgeLength M) (omega arith) k s

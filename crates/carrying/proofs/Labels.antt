@@ -1,0 +1,58 @@
+-- The labels of a table: they all fit where each does, by slot number. Rests on specs/Tables.
+use mathlib.Core.Path.{_≡_, refl, sym, _∙_}
+use mathlib.Core.Bool.{Bool, true, false}
+use mathlib.Core.List.{List}
+use Prim.Native.Nat.{ℕ, _+_, _<_, _≤_}
+use native.Mathlib.Omega.{arith}
+use native.Mathlib.Decide.{ℕ-discrete}
+use borrow.Author.Tests.{leb-true, le-leb}
+use lib.Dec.{leb}
+use lib.ListN.{length}
+use Rattle.meaning.specs.Layout.{Slot, free, live, Node, Edge, readNodes, readEdges}
+use Rattle.meaning.specs.Matching.{nodeIn, edgeIn}
+use Rattle.meaning.specs.Carrying.{labelFits}
+use Rattle.meaning.specs.Laws.Tests.{every-true, every-of}
+use Rattle.meaning.specs.declared.Layout.{Layout}
+use Rattle.meaning.specs.declared.Table.{Table}
+use Rattle.meaning.specs.declared.Table.the-variants.{Nodes, Edges}
+use Rattle.graph.specs.Graph.{slotsIn}
+use Rattle.carrying.specs.Tables.{labelIn, labelsFitIn}
+
+-- what holds of those below a number, and of it, holds of those below the next
+pub one-more : (P : ℕ → Type 0) (x : ℕ) → ((i : ℕ) → i < x → P i) → P x → (i : ℕ) → i < x + 1 → P i
+one-more P x f p i h = at (ℕ-discrete i x)
+  where
+    at : Dec (i ≡ x) → P i
+    at (yes e) = rw e p
+    at (no e) = f i (omega arith)
+
+-- A free slot has an empty label.
+
+node-fits : (most : ℕ) (s : Slot Node) → labelFits most (λ (n : Node). n .label) s ≡ leb (length (nodeIn s .label)) most
+unfolding labelFits nodeIn
+node-fits most free = sym (le-leb 0 most (omega arith))
+node-fits most (live n) = refl
+
+edge-fits : (most : ℕ) (s : Slot Edge) → labelFits most (λ (e : Edge). e .label) s ≡ leb (length (edgeIn s .label)) most
+unfolding labelFits edgeIn
+edge-fits most free = sym (le-leb 0 most (omega arith))
+edge-fits most (live e) = refl
+
+module _ (L : Layout) (nodes edges : List ℕ) (most : ℕ) where
+  pub fit-at : (t : Table) → labelsFitIn L nodes edges t most ≡ true → (x : ℕ) → x < slotsIn L nodes edges t
+      → length (labelIn L nodes edges t x) ≤ most
+  fit-at Nodes e x h = leb-true _ _ (sym (node-fits most _) ∙ every-true _ (readNodes L nodes) free e x h)
+  fit-at Edges e x h = leb-true _ _ (sym (edge-fits most _) ∙ every-true _ (readEdges L edges) free e x h)
+
+  pub fit-of : (t : Table) → ((x : ℕ) → x < slotsIn L nodes edges t → length (labelIn L nodes edges t x) ≤ most)
+      → labelsFitIn L nodes edges t most ≡ true
+  fit-of Nodes f = every-of _ (readNodes L nodes) free (λ x h. node-fits most _ ∙ le-leb _ _ (f x h))
+  fit-of Edges f = every-of _ (readEdges L edges) free (λ x h. edge-fits most _ ∙ le-leb _ _ (f x h))
+
+  pub fit-not : (t : Table) (x : ℕ) → x < slotsIn L nodes edges t → most < length (labelIn L nodes edges t x)
+      → false ≡ labelsFitIn L nodes edges t most
+  fit-not t x h k = at (labelsFitIn L nodes edges t most) refl
+    where
+      at : (b : Bool) → labelsFitIn L nodes edges t most ≡ b → false ≡ b
+      at true e = absurd (omega (arith, fit-at t e x h))
+      at false e = refl

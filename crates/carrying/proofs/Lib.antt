@@ -1,0 +1,4 @@
+mod Checks
+mod Labels
+mod Slots
+mod Filling
