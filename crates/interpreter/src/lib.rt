@@ -1,5 +1,6 @@
 // The calls, for a driver in C: byte buffers and numbers in, a number out. What each leaves is fixed on all inputs.
 ghost use Rattle.meaning.specs.Calls.{lending, lendingUndo, RunPromise, UndoPromise};
+ghost use Rattle.meaning.specs.Carrying.{lendingTables, WidenPromise, NarrowPromise};
 use meaning::Layout;
 
 pub mod running;
@@ -40,4 +41,44 @@ pub extern "C" fn nhiemavut_undo(
     ensures { λ r. ⌜ UndoPromise (lendingUndo (now (nodes .entry)) (now (edges .entry)) (now (journal .entry)) count (now (report .entry))) r (now (nodes .exit)) (now (edges .exit)) (now (journal .exit)) (now (report .exit)) ⌝ }
 {
     answers::answer_number(undo::undo_call(Layout::base(), nodes, edges, journal, count, report))
+}
+
+// Carries a host from old tables, with labels of at most four atoms, to tables of as many slots of today's layout.
+#[no_mangle]
+pub extern "C" fn nhiemavut_widen(
+    nodes: &[u8],
+    edges: &[u8],
+    to_nodes: &mut [u8],
+    to_edges: &mut [u8],
+) -> u32
+    ensures { λ r. ⌜ WidenPromise (lendingTables (now (nodes .entry)) (now (edges .entry)) (now («to_nodes» .entry)) (now («to_edges» .entry))) r (now («to_nodes» .exit)) (now («to_edges» .exit)) ⌝ }
+{
+    answers::answer_number(carrying::carry_tables(
+        Layout::four(),
+        Layout::base(),
+        nodes,
+        edges,
+        to_nodes,
+        to_edges,
+    ))
+}
+
+// Carries a host back to old tables, where each of its labels has at most four atoms.
+#[no_mangle]
+pub extern "C" fn nhiemavut_narrow(
+    nodes: &[u8],
+    edges: &[u8],
+    to_nodes: &mut [u8],
+    to_edges: &mut [u8],
+) -> u32
+    ensures { λ r. ⌜ NarrowPromise (lendingTables (now (nodes .entry)) (now (edges .entry)) (now («to_nodes» .entry)) (now («to_edges» .entry))) r (now («to_nodes» .exit)) (now («to_edges» .exit)) ⌝ }
+{
+    answers::answer_number(carrying::carry_tables(
+        Layout::base(),
+        Layout::four(),
+        nodes,
+        edges,
+        to_nodes,
+        to_edges,
+    ))
 }
