@@ -3,6 +3,7 @@ pub mod Hindrance
 pub mod Allowance
 pub mod Shortage
 pub mod Alike
+pub mod LargerLabels
 pub mod Further
 pub mod FurtherCommands
 pub mod FurtherTables

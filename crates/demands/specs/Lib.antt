@@ -7,6 +7,7 @@ pub mod First
 pub mod Started
 pub mod Second
 pub mod OneOutcome
+pub mod Larger
 pub mod Third
 pub mod Met
 pub mod Lending

@@ -31,7 +31,7 @@ module _ (L : Layout) (k : Numbered L) (x : Lent) (b : Lendable x) (a : Good L x
   abbrev pub last : Out
   last = end L x (a .tree)
 
-  last-legal : LegalLedger L (length (x .nodes) / nodeLength L) (length (x .edges) / edgeLength L) (last .state .ledger)
+  pub last-legal : LegalLedger L (length (x .nodes) / nodeLength L) (length (x .edges) / edgeLength L) (last .state .ledger)
   last-legal =
       out-legal L k (x .nodes) (x .edges) (x .journal) (b .nodes .bytewise) (b .edges .bytewise) (a .nodesFit) (a .edgesFit) (a .journalFits) (a .layout)
       (a .tree) rules-legal (x .fuel)

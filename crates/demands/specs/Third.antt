@@ -1,31 +1,30 @@
--- Our run meets demand 3. Rests on Started, Laws/FurtherTables, Laws/FurtherCommands and Laws/Shortage.
-use Prim.Native.Nat.{ℕ, zero, suc, _+_, _-_, _/_, _%_, _<_, _≤_}
+-- Our run meets demand 3. Rests on Larger and Laws/FurtherTables.
+use Prim.Native.Nat.{ℕ, zero, suc, _+_, _-_, _/_, _<_, _≤_}
 use mathlib.Core.Path.{_≡_, refl, sym, _∙_, ap, subst}
-use mathlib.Core.Option.{some, none}
+use mathlib.Core.Option.{none}
 use mathlib.Core.List.{[], _∷_, _++_, map, reverse}
 use native.Mathlib.Omega.{arith}
-use native.Mathlib.Nat.{div-mul-le-self, le-div-iff-mul-le}
+use native.Mathlib.Nat.{le-refl, div-mul-le-self, le-div-iff-mul-le}
 use lib.ListN.{length, getD, take, replicate, replicate-append-replicate}
 use lib.Seq.{take-at}
 use Rattle.meaning.specs.Basics.{absent, both, concat}
 use Rattle.meaning.specs.Numbers.{bytes}
-use Rattle.meaning.specs.Layout.{nodeLength, edgeLength, recordLength, readNodes, readEdges, writeRecord}
-use Rattle.meaning.specs.Image.{rawProgram}
-use Rattle.meaning.specs.Procedures.{Program, program}
-use Rattle.meaning.specs.Commands.{State, Out, ends, exec, beginning}
+use Rattle.meaning.specs.Layout.{recordLength, readNodes, readEdges, writeRecord}
+use Rattle.meaning.specs.Procedures.{Program}
+use Rattle.meaning.specs.Commands.{State, Out}
 use Rattle.meaning.specs.Calls.{Lent}
-use Rattle.demands.specs.Demands.{Outcome, Interpreter, stopAnswer, In, Lendable, reporting, runRefusedWith, start, outcomeAt, Means, Roomier, SameWithRoom, Entered, Settled, Demand3}
-use Rattle.demands.specs.Ours.{ours, end, ours-outcome, Good, good, good-starts}
+use Rattle.demands.specs.Demands.{Outcome, Interpreter, stopAnswer, In, Lendable, reporting, runRefusedWith, outcomeAt, Means, Roomier, SameWithRoom, Entered, Settled, Demand3}
+use Rattle.demands.specs.Ours.{ours, end, ours-outcome, Good, good}
 use Rattle.demands.specs.First.{run-settled}
 use Rattle.demands.specs.Started.{rules-sound, written-fits, last-means}
+use Rattle.demands.specs.Larger.{Larger, Settling, larger-left, larger-short}
 use Rattle.laws.specs.Undoing.{Numbered}
 use Rattle.meaning.specs.Laws.Tests.{absent-false, some-inj}
 use Rattle.laws.specs.Numbers.{length-bytes}
 use Rattle.demands.specs.Laws.Inference.{executes-one}
 use Rattle.laws.specs.Pieces.{fits-length}
-use Rattle.laws.specs.Fuel.{exec-counted}
-use Rattle.demands.specs.Laws.Shortage.{fuelled, endsWith, exec-fuel, exec-shortage}
-use Rattle.demands.specs.Laws.FurtherCommands.{EndsWithRoom, roomierState, roomierOut, exec-roomier}
+use Rattle.demands.specs.Laws.Shortage.{fuelled}
+use Rattle.demands.specs.Laws.FurtherCommands.{roomierState}
 use Rattle.demands.specs.Laws.FurtherTables.{readNodes-further, readEdges-further, writeNodes-further, writeEdges-further, keepsLayout-further, padded-longer}
 use Rattle.meaning.specs.declared.Layout.{Layout}
 use Rattle.meaning.specs.declared.Stop.{Stop}
@@ -35,9 +34,6 @@ use Rattle.meaning.specs.declared.End.the-variants.{Done, Failed, Broke, Stoppe
 
 -- The ends of which demand 3 speaks.
 
-abbrev Settling : End → Type 0
-Settling e = EndsWithRoom e × (e ≡ Stopped OutOfFuel → ⊥)
-
 stop-settling : (w : Stop) → In (stopAnswer w) (0 ∷ 1 ∷ 6 ∷ []) → w ≡ LabelTooLarge
 unfolding absent both
 stop-settling OutOfFuel h = let z : _≡_ {A = ℕ} 0 1 = cc in absurd (omega arith)
@@ -46,13 +42,13 @@ stop-settling NoEdgeRoom h = let z : _≡_ {A = ℕ} 0 1 = cc in absurd (omega a
 stop-settling NoRecordRoom h = let z : _≡_ {A = ℕ} 0 1 = cc in absurd (omega arith)
 stop-settling LabelTooLarge h = refl
 
-settling : (L : Layout) (x : Lent) (e : End) (t : State) → In (outcomeAt L x e t .answer) (0 ∷ 1 ∷ 6 ∷ []) → Settling e
+settling : (L : Layout) (x : Lent) (e : End) (t : State) → In (outcomeAt L x e t .answer) (0 ∷ 1 ∷ 6 ∷ []) → Settling L L e
 settling L x Done t h = (tt, λ q. let z : _≡_ {A = ℕ} 0 1 = cc in omega arith)
 settling L x Failed t h = (tt, λ q. let z : _≡_ {A = ℕ} 0 1 = cc in omega arith)
 settling L x Broke t h = (tt, λ q. let z : _≡_ {A = ℕ} 0 1 = cc in omega arith)
 settling L x (Stopped w) t h =
     let i = stop-settling w h in
-    rw i (tt, λ q. let z : _≡_ {A = ℕ} 0 1 = cc in omega arith)
+    rw i (refl, λ q. let z : _≡_ {A = ℕ} 0 1 = cc in omega arith)
 
 -- an answer of demand 3 is one of a run that starts
 settled-low : (n : ℕ) → In n (0 ∷ 1 ∷ 6 ∷ []) → n ≤ 6
@@ -66,6 +62,29 @@ settled-low n h = let t = absent-false n (0 ∷ 1 ∷ 6 ∷ []) h in at (t .0) (
 
 div-le : (w a b : ℕ) → 0 < w → a ≤ b → a / w ≤ b / w
 div-le w a b p h = le-div-iff-mul-le p .1 (omega (arith, div-mul-le-self a w))
+
+-- where x starts, it and what is roomier are at one layout what Larger asks of two
+roomier-larger : (L : Layout) (x : Lent) → Good L x → (y : Lent) → Roomier L x y → Larger L L x y
+roomier-larger L x a y more =
+    let nodes-whole = fits-length _ _ _ (a .nodesFit) .0 in
+    let edges-whole = fits-length _ _ _ (a .edgesFit) .0 in
+    let n = ap (readNodes L) (more .nodes) ∙ readNodes-further L (more .nodesMore) (x .nodes) nodes-whole in
+    let e = ap (readEdges L) (more .edges) ∙ readEdges-further L (more .edgesMore) (x .edges) edges-whole in
+    record {
+      nodesMore = more .nodesMore;
+      edgesMore = more .edgesMore;
+      host = λ i. record { nodes = n i; edges = e i };
+      layout =
+          rw (more .nodes, more .edges)
+          (keepsLayout-further L (more .nodesMore) (more .edgesMore) (x .nodes) (x .edges) nodes-whole edges-whole (a .layout));
+      records = div-le (recordLength L) (length (x .journal)) (length (y .journal)) (omega arith) (more .journal);
+      image = more .image;
+      nodesFit = more .nodesFit;
+      edgesFit = more .edgesFit;
+      journalFits = more .journalFits;
+      fuelFits = more .fuelFits;
+      reportFits = more .reportFits;
+    }
 
 -- the report states steps and records
 stated : (L : Layout) (x : Lent) (e : End) (t : State) → (n : ℕ) × (outcomeAt L x e t .report ≡ reporting (t .steps) n)
@@ -119,108 +138,20 @@ module _ (L : Layout) (k : Numbered L) (x : Lent) (b : Lendable x) (h : In (ours
   left : ours L .run x ≡ outcomeAt L x (o .end) (o .state)
   left = ours-outcome L x p starts (a .form)
 
-  ended : Settling (o .end)
+  ended : Settling L L (o .end)
   ended = settling L x (o .end) (o .state) (subst (λ (q : Outcome). In (q .answer) (0 ∷ 1 ∷ 6 ∷ [])) left h)
 
-  module _ (y : Lent) (more : Roomier L x y) where
-    nodes-whole : length (x .nodes) % nodeLength L ≡ 0
-    nodes-whole = fits-length _ _ _ (a .nodesFit) .0
+  fits-x : length (concat (map (writeRecord L) (reverse (o .state .ledger .journal)))) ≤ length (x .journal)
+  fits-x = written-fits L k x b a
 
-    edges-whole : length (x .edges) % edgeLength L ≡ 0
-    edges-whole = fits-length _ _ _ (a .edgesFit) .0
-
-    form-y : program (y .image) ≡ some p
-    form-y = ap program (more .image) ∙ a .form
-
-    starts-y : runRefusedWith L y ≡ none
-    starts-y =
-        good-starts L y
-        (record {
-          reportSize = more .reportFits;
-          nodesFit = more .nodesFit;
-          edgesFit = more .edgesFit;
-          journalFits = more .journalFits;
-          fuelFits = more .fuelFits;
-          imageFits = omega (arith, ap length (more .image), a .imageFits);
-          layout =
-              rw (more .nodes, more .edges)
-              (keepsLayout-further L (more .nodesMore) (more .edgesMore) (x .nodes) (x .edges) nodes-whole edges-whole (a .layout));
-          raw = a .raw;
-          read = ap rawProgram (more .image) ∙ a .read;
-          references = a .references;
-          placement = a .placement;
-          depth = a .depth;
-          tree = p;
-          whole = a .whole;
-          form = form-y;
-        })
-
-    abbrev room : ℕ
-    room = length (x .journal) / recordLength L
-
-    abbrev room′ : ℕ
-    room′ = length (y .journal) / recordLength L
-
-    room-more : room ≤ room′
-    room-more = div-le (recordLength L) (length (x .journal)) (length (y .journal)) (omega arith) (more .journal)
-
-    -- y starts where x does, with further free slots
-    abbrev begin : State
-    begin = roomierState (more .nodesMore) (more .edgesMore) (start L x)
-
-    start-y : start L y ≡ fuelled (y .fuel) begin
-    start-y =
-        let n = ap (readNodes L) (more .nodes) ∙ readNodes-further L (more .nodesMore) (x .nodes) nodes-whole in
-        let e = ap (readEdges L) (more .edges) ∙ readEdges-further L (more .edgesMore) (x .edges) edges-whole in
-        λ i. beginning (record { nodes = n i; edges = e i }) (y .fuel)
-
-    -- the same command there, with the fuel of x
-    roomy : exec (L .atoms) room′ (p .rules) (p .main) begin ≡ roomierOut (more .nodesMore) (more .edgesMore) o
-    roomy =
-        exec-roomier (more .nodesMore) (more .edgesMore) (p .rules) (rules-sound L k x b a) (L .atoms) room room′ room-more (p .main)
-        (start L x) (ended .0)
-
-    spent : o .state .fuel + o .state .steps ≡ x .fuel + 0
-    spent = exec-counted (L .atoms) room (p .rules) (p .main) (start L x) .total
-
-    roomy-fuel : exec (L .atoms) room′ (p .rules) (p .main) begin .state .fuel ≡ o .state .fuel
-    roomy-fuel = ap (λ (q : Out). q .state .fuel) roomy
-
-    left-y : ours L .run y ≡ outcomeAt L y (end L y p .end) (end L y p .state)
-    left-y = ours-outcome L y p starts-y form-y
-
-    end-y : end L y p ≡ exec (L .atoms) room′ (p .rules) (p .main) (fuelled (y .fuel) begin)
-    end-y = ap (exec (L .atoms) room′ (p .rules) (p .main)) start-y
-
-    -- with the fuel of y, where it is enough, the end is the same; where it is not, fuel runs out
-    enough-y : o .state .steps ≤ y .fuel
-        → (f : ℕ) × (end L y p ≡ ends (o .end) (fuelled f (roomierState (more .nodesMore) (more .edgesMore) (o .state))))
-    enough-y l =
-        let e =
-        exec-fuel (L .atoms) room′ (p .rules) (p .main) begin (y .fuel) (λ q. ended .1 (sym (ap (λ (q : Out). q .end) roomy) ∙ q))
-        (omega (arith, spent, roomy-fuel)) in
-        (y .fuel + o .state .fuel - x .fuel, end-y ∙ e ∙ ap (endsWith (y .fuel) begin) roomy)
-
-    short-y : y .fuel < o .state .steps → end L y p .end ≡ Stopped OutOfFuel
-    short-y l =
-        ap (λ (q : Out). q .end) end-y
-        ∙ exec-shortage (L .atoms) room′ (p .rules) (p .main) begin (y .fuel) (omega (arith, spent, roomy-fuel))
-
-    fits-x : o .end ≡ Done → length (concat (map (writeRecord L) (reverse (o .state .ledger .journal)))) ≤ length (x .journal)
-    fits-x e = written-fits L k x b a
-
-    same-y : o .state .steps ≤ y .fuel → SameWithRoom L x y more (ours L .run x) (ours L .run y)
-    same-y l =
-        let t = enough-y l in
-        let q : ours L .run y ≡ outcomeAt L y (o .end) (fuelled (t .0) (roomierState (more .nodesMore) (more .edgesMore) (o .state))) =
-        left-y ∙ ap (λ (z : Out). outcomeAt L y (z .end) (z .state)) (t .1) in
-        subst (λ (z : Outcome). SameWithRoom L x y more z (ours L .run y)) (sym left)
-        (subst (λ (z : Outcome). SameWithRoom L x y more (outcomeAt L x (o .end) (o .state)) z) (sym q)
-        (left-same L x y more (o .end) (o .state) (t .0) fits-x))
-
-    out-y : y .fuel < o .state .steps → ours L .run y .answer ≡ 2
-    out-y l =
-        ap (λ (z : Outcome). z .answer) left-y ∙ ap (λ (e : End). outcomeAt L y e (end L y p .state) .answer) (short-y l)
+  same-y : (y : Lent) (more : Roomier L x y) → o .state .steps ≤ y .fuel → SameWithRoom L x y more (ours L .run x) (ours L .run y)
+  unfolding roomier-larger
+  same-y y more l =
+      let larger = roomier-larger L x a y more in
+      subst (λ (z : Outcome). SameWithRoom L x y more z (ours L .run y)) (sym left)
+      (subst (λ (z : Outcome). SameWithRoom L x y more (outcomeAt L x (o .end) (o .state)) z)
+      (sym (larger-left L L k (le-refl _) x b a ended y larger l))
+      (left-same L x y more (o .end) (o .state) _ (λ e. fits-x)))
 
   pub settled : Settled L (ours L) x
   settled =
@@ -232,7 +163,7 @@ module _ (L : Layout) (k : Numbered L) (x : Lent) (b : Lendable x) (h : In (ours
         entered =
             record { tree = p; image = a .form; end = o .end; state = o .state; means = last-means L k x b a; steps = refl };
         enough = same-y;
-        short = out-y;
+        short = λ y more. larger-short L L k (le-refl _) x b a ended y (roomier-larger L x a y more);
       }
 
 pub demand3 : (L : Layout) → Numbered L → Demand3 L (ours L)

@@ -8,8 +8,8 @@ use mathlib.Core.List.{List, [], _∷_, _++_, map}
 use native.Mathlib.Omega.{arith}
 use lib.ListN.{length, getD, replicate}
 use lib.Dec.{eqb}
-use Rattle.meaning.specs.Basics.{choose, both, concat}
-use Rattle.meaning.specs.Layout.{base, Tables, undone, nodeLength, edgeLength, cut, readRecord, keepsLayout}
+use Rattle.meaning.specs.Basics.{choose, both, concat, padded}
+use Rattle.meaning.specs.Layout.{base, Tables, undone, nodeLength, edgeLength, recordLength, cut, readRecord, keepsLayout}
 use Rattle.meaning.specs.Calls.{LentUndo, counted}
 use Rattle.meaning.specs.Computing.{computing}
 use Rattle.demands.specs.Demands.{Outcome, Interpreter, storedBack, Demand1}
@@ -31,7 +31,7 @@ emptiesRest =
     (record { answer = 0; nodes = []; edges = []; journal = []; report = [] }) o)
 
 abbrev broken : LentUndo
-broken = record { nodes = 0 ∷ 1 ∷ replicate 18 0; edges = []; journal = []; count = 0; report = replicate 8 7 }
+broken = record { nodes = padded (nodeLength base) (0 ∷ 1 ∷ []); edges = []; journal = []; count = 0; report = replicate 8 7 }
 
 pub emptying-rest : Demand1 base emptiesRest → ⊥
 unfolding computing storedBack
@@ -42,9 +42,9 @@ emptying-rest d = let z = ap length (d .undoes broken (lendableUndo broken refl)
 abbrev twice : LentUndo
 twice =
     record {
-      nodes = replicate 20 0;
+      nodes = padded (nodeLength base) [];
       edges = [];
-      journal = (1 ∷ replicate 27 0) ++ (1 ∷ 0 ∷ 0 ∷ 0 ∷ 1 ∷ replicate 23 0);
+      journal = padded (recordLength base) (1 ∷ []) ++ padded (recordLength base) (1 ∷ 0 ∷ 0 ∷ 0 ∷ 1 ∷ []);
       count = 2;
       report = replicate 8 7;
     }

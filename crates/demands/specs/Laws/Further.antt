@@ -1,5 +1,6 @@
--- Further free slots behind both tables: stores inside the tables, new nodes and right edges, and so an application at a
--- match, do the same, and the further slots stay free behind. Rests on Laws/Alike and the meaning's Laws/Room.
+-- Further free slots behind both tables, room for more records and labels of more atoms: stores inside the tables, new nodes and right
+-- edges, and so an application at a match, do the same, and the further slots stay free behind.
+-- Rests on Laws/Alike, Laws/LargerLabels and the meaning's Laws/Room.
 use Prim.Native.Nat.{ℕ, zero, suc, _+_, _<_, _≤_}
 use mathlib.Core.Path.{_≡_, refl, sym, _∙_, ap}
 use mathlib.Core.Option.{Option, some, none}
@@ -19,6 +20,7 @@ use Rattle.demands.specs.Laws.Hindrance.{labels-first, nodes-second, edg
 use Rattle.meaning.specs.Laws.Applying.{store-host, rightSide-some}
 use Rattle.meaning.specs.Laws.Room.{Placed, match-nodes, match-edges, afterLeft, afterNew, afterLeft-nodes, afterLeft-edges, addNodes-edges}
 use Rattle.demands.specs.Laws.Alike.{Alike, rightSide-alike}
+use Rattle.demands.specs.Laws.LargerLabels.{rightSide-larger}
 use Rattle.meaning.specs.declared.Stop.{Stop}
 use Rattle.meaning.specs.declared.Stop.the-variants.{OutOfFuel, NoNodeRoom, NoEdgeRoom, NoRecordRoom, LabelTooLarge}
 
@@ -183,63 +185,70 @@ abbrev pub roomierApplied : ℕ → ℕ → Applied → Applied
 roomierApplied a b (applied g) = applied (roomierLedger a b g)
 roomierApplied a b (hindered w) = hindered w
 
--- no want of slots or records
-abbrev pub HasRoom : Stop → Type 0
-HasRoom OutOfFuel = Unit {0}
-HasRoom NoNodeRoom = ⊥
-HasRoom NoEdgeRoom = ⊥
-HasRoom NoRecordRoom = ⊥
-HasRoom LabelTooLarge = Unit {0}
+-- no want of slots or records, nor of atoms in a label where labels hold more of them
+module _ (most most′ : ℕ) where
+  abbrev pub HasRoom : Stop → Type 0
+  HasRoom OutOfFuel = Unit {0}
+  HasRoom NoNodeRoom = ⊥
+  HasRoom NoEdgeRoom = ⊥
+  HasRoom NoRecordRoom = ⊥
+  HasRoom LabelTooLarge = most ≡ most′
 
-abbrev pub AppliedWithRoom : Applied → Type 0
-AppliedWithRoom (applied g) = Unit {0}
-AppliedWithRoom (hindered w) = HasRoom w
+  abbrev pub AppliedWithRoom : Applied → Type 0
+  AppliedWithRoom (applied g) = Unit {0}
+  AppliedWithRoom (hindered w) = HasRoom w
 
-module _ (most room room′ a b : ℕ) (r : Rule) (p : List ℕ) (g : Ledger) (k : room ≤ room′) (m : Match (g .host) r p) where
-  abbrev large : Ledger
-  large = roomierLedger a b g
+module _ (most most′ room room′ a b : ℕ) (larger : most ≤ most′) (more : room ≤ room′) (r : Rule) (p : List ℕ) (g : Ledger)
+    (m : Match (g .host) r p)
+  where
+    abbrev large : Ledger
+    large = roomierLedger a b g
 
-  values : rightSide most (large .host) r p ≡ rightSide most (g .host) r p
-  values = sym (rightSide-alike (g .host) (large .host) (roomier-alike a b (g .host)) most r p)
+    values : rightSide most′ (large .host) r p ≡ rightSide most′ (g .host) r p
+    values = sym (rightSide-alike (g .host) (large .host) (roomier-alike a b (g .host)) most′ r p)
 
-  -- what hinders it hinders it
-  hindered-by : (w : Stop) → hindrance most room r p g ≡ some w → AppliedWithRoom (apply most room r p g) → HasRoom w
-  unfolding apply unhindered
-  hindered-by w e h = rw e at h
+    -- what hinders it hinders it
+    hindered-by : (w : Stop) → hindrance most room r p g ≡ some w → AppliedWithRoom most most′ (apply most room r p g) → HasRoom most most′ w
+    unfolding apply unhindered
+    hindered-by w e h = rw e at h
 
-  apply-none : rightSide most (g .host) r p ≡ none → apply most room′ r p large ≡ roomierApplied a b (apply most room r p g)
-  unfolding apply unhindered
-  apply-none q = rw (labels-first most room′ r p large (values ∙ q), labels-first most room r p g q)
+    apply-none : most ≡ most′ → rightSide most (g .host) r p ≡ none
+        → apply most′ room′ r p large ≡ roomierApplied a b (apply most room r p g)
+    unfolding apply unhindered
+    apply-none s q =
+        let v = values ∙ ap (λ (n : ℕ). rightSide n (g .host) r p) (sym s) ∙ q in
+        rw (labels-first most′ room′ r p large v, labels-first most room r p g q)
 
-  apply-some : (right : Right) → rightSide most (g .host) r p ≡ some right
-      → newNodes r ≤ freeSlots (g .host .nodes) + goneNodes r
-      → length (r .right .edges) ≤ freeSlots (g .host .edges) + leftEdges r → length (g .journal) + recordsOf r ≤ room
-      → apply most room′ r p large ≡ roomierApplied a b (apply most room r p g)
-  unfolding apply unhindered
-  apply-some right q n e j =
-      let x = further-free a (g .host .nodes) in
-      let y = further-free b (g .host .edges) in
-      let free-small = unhindered-of most room r p g right q n e j in
-      let free-large = unhindered-of most room′ r p large right (values ∙ q) (omega arith) (omega arith) (omega arith) in
-      rw (free-small, q, free-large, values, q, changed-roomier most r p right g m q a b n e)
+    apply-some : (right : Right) → rightSide most (g .host) r p ≡ some right
+        → newNodes r ≤ freeSlots (g .host .nodes) + goneNodes r
+        → length (r .right .edges) ≤ freeSlots (g .host .edges) + leftEdges r → length (g .journal) + recordsOf r ≤ room
+        → apply most′ room′ r p large ≡ roomierApplied a b (apply most room r p g)
+    unfolding apply unhindered
+    apply-some right q n e j =
+        let x = further-free a (g .host .nodes) in
+        let y = further-free b (g .host .edges) in
+        let v = values ∙ rightSide-larger most most′ larger (g .host) r p right q in
+        let free-small = unhindered-of most room r p g right q n e j in
+        let free-large = unhindered-of most′ room′ r p large right v (omega arith) (omega arith) (omega arith) in
+        rw (free-small, q, free-large, v, changed-roomier most r p right g m q a b n e)
 
-  pub apply-roomier : AppliedWithRoom (apply most room r p g)
-      → apply most room′ r p large ≡ roomierApplied a b (apply most room r p g)
-  apply-roomier h = at (rightSide most (g .host) r p) refl
-    where
-      enough : (right : Right) → rightSide most (g .host) r p ≡ some right
-          → Dec (newNodes r ≤ freeSlots (g .host .nodes) + goneNodes r)
-          → Dec (length (r .right .edges) ≤ freeSlots (g .host .edges) + leftEdges r)
-          → Dec (length (g .journal) + recordsOf r ≤ room)
-          → apply most room′ r p large ≡ roomierApplied a b (apply most room r p g)
-      enough right q (yes n) (yes e) (yes j) = apply-some right q n e j
-      enough right q (yes n) (yes e) (no j) =
-          absurd (hindered-by NoRecordRoom (records-last most room r p g right q n e (omega arith)) h)
-      enough right q (yes n) (no e) j =
-          absurd (hindered-by NoEdgeRoom (edges-third most room r p g right q n (omega arith)) h)
-      enough right q (no n) e j = absurd (hindered-by NoNodeRoom (nodes-second most room r p g right q (omega arith)) h)
+    pub apply-roomier : AppliedWithRoom most most′ (apply most room r p g)
+        → apply most′ room′ r p large ≡ roomierApplied a b (apply most room r p g)
+    apply-roomier h = at (rightSide most (g .host) r p) refl
+      where
+        enough : (right : Right) → rightSide most (g .host) r p ≡ some right
+            → Dec (newNodes r ≤ freeSlots (g .host .nodes) + goneNodes r)
+            → Dec (length (r .right .edges) ≤ freeSlots (g .host .edges) + leftEdges r)
+            → Dec (length (g .journal) + recordsOf r ≤ room)
+            → apply most′ room′ r p large ≡ roomierApplied a b (apply most room r p g)
+        enough right q (yes n) (yes e) (yes j) = apply-some right q n e j
+        enough right q (yes n) (yes e) (no j) =
+            absurd (hindered-by NoRecordRoom (records-last most room r p g right q n e (omega arith)) h)
+        enough right q (yes n) (no e) j =
+            absurd (hindered-by NoEdgeRoom (edges-third most room r p g right q n (omega arith)) h)
+        enough right q (no n) e j = absurd (hindered-by NoNodeRoom (nodes-second most room r p g right q (omega arith)) h)
 
-      at : (o : Option Right) → rightSide most (g .host) r p ≡ o
-          → apply most room′ r p large ≡ roomierApplied a b (apply most room r p g)
-      at none q = apply-none q
-      at (some right) q = enough right q (decLe _ _) (decLe _ _) (decLe _ _)
+        at : (o : Option Right) → rightSide most (g .host) r p ≡ o
+            → apply most′ room′ r p large ≡ roomierApplied a b (apply most room r p g)
+        at none q = apply-none (hindered-by LabelTooLarge (labels-first most room r p g q) h) q
+        at (some right) q = enough right q (decLe _ _) (decLe _ _) (decLe _ _)
