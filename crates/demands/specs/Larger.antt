@@ -27,6 +27,7 @@ use Rattle.meaning.specs.declared.End.the-variants.{Stopped}
 -- y holds at M the graph that x holds at L, with further free slots behind, and has room for as many records or more, within the
 -- limits; the program is the same, and the fuel any
 pub record Larger (L M : Layout) (x y : Lent) : Type 0 where
+  pub lendable : Lendable y
   pub nodesMore : ℕ
   pub edgesMore : ℕ
   pub host : hostOf M (y .nodes) (y .edges) ≡ roomier nodesMore edgesMore (hostOf L (x .nodes) (x .edges))

@@ -71,6 +71,7 @@ roomier-larger L x a y more =
     let n = ap (readNodes L) (more .nodes) ∙ readNodes-further L (more .nodesMore) (x .nodes) nodes-whole in
     let e = ap (readEdges L) (more .edges) ∙ readEdges-further L (more .edgesMore) (x .edges) edges-whole in
     record {
+      lendable = more .lendable;
       nodesMore = more .nodesMore;
       edgesMore = more .edgesMore;
       host = λ i. record { nodes = n i; edges = e i };
@@ -87,7 +88,7 @@ roomier-larger L x a y more =
     }
 
 -- the report states steps and records
-stated : (L : Layout) (x : Lent) (e : End) (t : State) → (n : ℕ) × (outcomeAt L x e t .report ≡ reporting (t .steps) n)
+pub stated : (L : Layout) (x : Lent) (e : End) (t : State) → (n : ℕ) × (outcomeAt L x e t .report ≡ reporting (t .steps) n)
 stated L x Done t = (length (t .ledger .journal), refl)
 stated L x Failed t = (0, refl)
 stated L x Broke t = (0, refl)
