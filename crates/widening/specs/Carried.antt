@@ -1,6 +1,6 @@
 -- What a carrying leaves: refused, both tables as they were lent; else the same host in the layout that it is carried to, from which it is
 -- carried back to the bytes that it came from. Rests on the meaning's Carrying and on laws' Hosts and Carrying.
-use Prim.Native.Nat.{ℕ, _+_, _*_, _/_, _%_, _^_, _<_, _≤_}
+use Prim.Native.Nat.{ℕ, _/_, _^_, _≤_}
 use mathlib.Core.Path.{_≡_, refl, sym, _∙_, ap, subst}
 use mathlib.Core.Bool.{Bool, true, false}
 use mathlib.Core.Option.{Option, some, none}
@@ -10,7 +10,7 @@ use native.Mathlib.Omega.{arith}
 use borrow.Author.Tests.{leb-true, le-leb}
 use lib.ListN.{length, getD}
 use Rattle.meaning.specs.Basics.{choose, both, every, absent, firstFailing}
-use Rattle.meaning.specs.Layout.{Slot, free, live, Node, Edge, Host, nodeLength, edgeLength, fitsTable, readNode, readEdge, readNodes, readEdges, hostOf, writeNodes, writeEdges, keepsLayout}
+use Rattle.meaning.specs.Layout.{Slot, free, live, Node, Edge, Host, nodeLength, edgeLength, readNode, readEdge, readNodes, readEdges, hostOf, writeNodes, writeEdges, keepsLayout}
 use Rattle.meaning.specs.Calls.{answerNumber, refusalNumber}
 use Rattle.meaning.specs.Carrying.{LentTables, lendingTables, Carried, asManySlots, labelFits, labelsFit, carryRefusal, carryOn, carry}
 use Rattle.meaning.specs.Laws.Tests.{both-true, both-of, every-of}
@@ -26,7 +26,7 @@ use Rattle.laws.specs.Carrying.{AsManySlots, Taken, taken, takes}
 use Rattle.demands.specs.Demands.{In}
 use Rattle.meaning.specs.declared.Layout.{Layout}
 use Rattle.meaning.specs.declared.Refusal.{Refusal}
-use Rattle.meaning.specs.declared.Refusal.the-variants.{NodeTableLength, EdgeTableLength, BadHost, LabelDoesNotFit}
+use Rattle.meaning.specs.declared.Refusal.the-variants.{NodeTableLength, EdgeTableLength, BadHost}
 use Rattle.meaning.specs.declared.Answer.the-variants.{Result, Refused}
 
 -- Labels that fit.

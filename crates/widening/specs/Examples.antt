@@ -1,1 +1,149 @@
--- todo
+-- Computed cases: tables that are widened and narrowed, and that are refused; a program that can't hold a label with four atoms and can
+-- with eight; and one for which all that `widened-run` asks is met. Rests on Widening, on the demands' Met and Cases, and on the meaning's
+-- ProvedSet and Computing.
+use mathlib.Core.Path.{_≡_, refl, ap}
+use mathlib.Core.List.{List, [], _∷_, _++_}
+use Prim.Native.Nat.{ℕ, _*_, _≤_}
+use native.Mathlib.Omega.{arith}
+use native.Mathlib.Decide.{decLe}
+use borrow.Author.Tests.{leb-true}
+use lib.ListN.{length, replicate}
+use Rattle.meaning.specs.Basics.{padded}
+use Rattle.meaning.specs.Layout.{base, four, nodeLength, edgeLength, recordLength, atomBytes}
+use Rattle.meaning.specs.Calls.{Lent, lending, reportOf}
+use Rattle.meaning.specs.Carrying.{Carried, lendingTables, widen, narrow}
+use Rattle.meaning.specs.Computing.{computing}
+use Rattle.meaning.specs.ProvedSet.{ruleField, nodeField, variableField, ruleSetField}
+use Rattle.demands.specs.Demands.{Outcome}
+use Rattle.demands.specs.Ours.{ours}
+use Rattle.demands.specs.First.{demand1}
+use Rattle.demands.specs.Second.{demand2}
+use Rattle.demands.specs.Met.{met}
+use Rattle.demands.specs.Cases.{lendable}
+use Rattle.meaning.specs.declared.Layout.{Layout}
+use Rattle.meaning.specs.declared.Refusal.{Refusal}
+use Rattle.meaning.specs.declared.Refusal.the-variants.{NodeTableLength, EdgeTableLength, BadHost, LabelDoesNotFit}
+use Rattle.meaning.specs.declared.Answer.the-variants.{Result, Refused}
+use Rattle.widening.specs.LargerRuns.{RunsAs}
+use Rattle.widening.specs.CarriedRuns.{CarriedLent, CarriedRun}
+use Rattle.widening.specs.Widening.{four-numbered, widened-run}
+
+-- Slots: a live node of a mark and a label, a blue loop at slot 0 of a label, and slots full of sevens, which are no slots of a host.
+
+abbrev node : Layout → ℕ → List ℕ → List ℕ
+node L mark label = padded (nodeLength L) (1 ∷ mark ∷ 0 ∷ length label ∷ atomBytes label)
+
+abbrev loopEdge : Layout → List ℕ → List ℕ
+loopEdge L label = padded (edgeLength L) (1 ∷ 3 ∷ 0 ∷ length label ∷ 0 ∷ 0 ∷ 0 ∷ 0 ∷ atomBytes label)
+
+abbrev sevens : ℕ → List ℕ
+sevens n = replicate n 7
+
+abbrev fourAtoms : List ℕ
+fourAtoms = 1 ∷ 2 ∷ 300 ∷ 4 ∷ []
+
+-- Widened and back, over sevens; the atoms lie where they lay, and there are zeros behind.
+
+pub widened : widen (lendingTables (node four 0 fourAtoms) (loopEdge four fourAtoms) (sevens 36) (sevens 40))
+    ≡ record { answer = Result; nodes = node base 0 fourAtoms; edges = loopEdge base fourAtoms }
+unfolding computing
+widened = refl
+
+pub narrowed : narrow (lendingTables (node base 0 fourAtoms) (loopEdge base fourAtoms) (sevens 20) (sevens 24))
+    ≡ record { answer = Result; nodes = node four 0 fourAtoms; edges = loopEdge four fourAtoms }
+unfolding computing
+narrowed = refl
+
+-- Refused: five atoms do not fit; a root flag of 2; one slot to two, of nodes and of edges. The lowest number is answered, and the tables
+-- are as they were.
+
+abbrev leaves : Refusal → List ℕ → List ℕ → Carried
+leaves w nodes edges = record { answer = Refused w; nodes = nodes; edges = edges }
+
+pub five-atoms : narrow (lendingTables (node base 0 (5 ∷ fourAtoms)) [] (sevens 20) []) ≡ leaves LabelDoesNotFit (sevens 20) []
+unfolding computing
+five-atoms = refl
+
+pub damaged : widen (lendingTables (padded 20 (1 ∷ 0 ∷ 2 ∷ [])) [] (sevens 36) []) ≡ leaves BadHost (sevens 36) []
+unfolding computing
+damaged = refl
+
+pub other-nodes : widen (lendingTables (padded 20 (1 ∷ 0 ∷ 2 ∷ [])) [] (sevens 72) []) ≡ leaves NodeTableLength (sevens 72) []
+unfolding computing
+other-nodes = refl
+
+pub other-edges : narrow (lendingTables (node base 0 (5 ∷ fourAtoms)) [] (sevens 20) (sevens 24)) ≡ leaves EdgeTableLength (sevens 20) (sevens 24)
+unfolding computing
+other-edges = refl
+
+-- Programs, on one node, with 8 records and fuel 10: one labels a node x anew with five x; one marks a node of any label red.
+
+abbrev lent : Layout → List ℕ → List ℕ → Lent
+lent L image nodes = lending nodes [] (replicate (8 * recordLength L) 1) image 10 (sevens 8)
+
+abbrev fiveTimes : List ℕ
+fiveTimes =
+    ruleField (1 ∷ []) (nodeField 0 (variableField 0))
+    (nodeField 0 (variableField 0 ++ variableField 0 ++ variableField 0 ++ variableField 0 ++ variableField 0)) 1
+    ++ ruleSetField 0
+
+abbrev reddens : List ℕ
+reddens = ruleField (2 ∷ []) (nodeField 0 (variableField 0)) (nodeField 1 (variableField 0)) 1 ++ ruleSetField 0
+
+-- what a run answers, and leaves in the node table and in the report
+abbrev seen : Outcome → ℕ × List ℕ × List ℕ
+seen o = (o .answer, o .nodes, o .report)
+
+-- five atoms are too many of four, and not of eight
+pub too-large : seen (ours four .run (lent four fiveTimes (node four 0 (9 ∷ [])))) ≡ (6, node four 0 (9 ∷ []), reportOf 1 0)
+unfolding computing
+too-large = refl
+
+pub large-enough : seen (ours base .run (lent base fiveTimes (node base 0 (9 ∷ []))))
+    ≡ (0, node base 0 (9 ∷ 9 ∷ 9 ∷ 9 ∷ 9 ∷ []), reportOf 1 1)
+unfolding computing
+large-enough = refl
+
+-- All that the theorem on widened tables asks is met.
+
+abbrev x : Lent
+x = lent four reddens (node four 0 fourAtoms)
+
+abbrev y : Lent
+y = lent base reddens (node base 0 fourAtoms)
+
+x-red : seen (ours four .run x) ≡ (0, node four 1 fourAtoms, reportOf 1 1)
+unfolding computing
+x-red = refl
+
+y-red : seen (ours base .run y) ≡ (0, node base 1 fourAtoms, reportOf 1 1)
+unfolding computing
+y-red = refl
+
+x-to-y : CarriedLent four base x y
+unfolding computing
+x-to-y =
+    record {
+      lendable = lendable y refl;
+      toNodes = sevens 36;
+      toEdges = [];
+      carried = refl;
+      records = leb-true 8 8 refl;
+      journalFits = refl;
+      image = refl;
+      fuelFits = leb-true 10 1000000 refl;
+      reportFits = refl;
+    }
+
+x-runs : RunsAs four (ours four) (ours base) x (CarriedLent four base x) (λ y c. CarriedRun four base x y (ours four .run x) (ours base .run y))
+unfolding computing
+x-runs = widened-run (ours four) (ours base) (demand1 four) (demand2 four four-numbered) (met .0) (met .1) x (lendable x refl) (omega arith)
+
+-- fuel 10 is enough, since it does not run out
+pub same-red : CarriedRun four base x y (ours four .run x) (ours base .run y)
+same-red = at (decLe (x-runs .s) 10)
+  where
+    at : Dec (x-runs .s ≤ 10) → CarriedRun four base x y (ours four .run x) (ours base .run y)
+    at (yes h) = x-runs .enough y x-to-y h
+    at (no h) =
+        absurd (omega (arith, x-runs .short y x-to-y (omega arith), ap (λ (t : ℕ × List ℕ × List ℕ). t .0) y-red))

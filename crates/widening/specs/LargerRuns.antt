@@ -1,7 +1,7 @@
 -- Runs at two layouts, by interpreters that meet demands 1 and 2 there: what ends with a result or a fail at the one ends so at the other,
 -- where the tables hold the same graph, with room for as many atoms, slots and records or more. Answer, steps, live slots and records
 -- are the same. Rests on demands' Larger and OneOutcome.
-use Prim.Native.Nat.{ℕ, _+_, _-_, _*_, _/_, _%_, _<_, _≤_}
+use Prim.Native.Nat.{ℕ, _-_, _/_, _<_, _≤_}
 use mathlib.Core.Path.{_≡_, refl, sym, _∙_, ap, subst}
 use mathlib.Core.Bool.{true}
 use mathlib.Core.Option.{none}
@@ -19,7 +19,7 @@ use Rattle.laws.specs.Hosts.{LegalHost, legal-host, read-write-nodes, read-writ
 use Rattle.laws.specs.Legality.{LegalLedger}
 use Rattle.laws.specs.Undoing.{Numbered}
 use Rattle.demands.specs.Demands.{Lendable, Outcome, Interpreter, reporting, runRefusedWith, asItCame, outcomeAt, Entered, Demand1, Demand2}
-use Rattle.demands.specs.Ours.{ours, end, ours-outcome, Good, good, good-starts}
+use Rattle.demands.specs.Ours.{ours, end, ours-outcome, Good, good}
 use Rattle.demands.specs.First.{stop-answer, run-settled}
 use Rattle.demands.specs.Started.{last-legal, last-means}
 use Rattle.demands.specs.OneOutcome.{run-one}

@@ -7,19 +7,14 @@ use mathlib.Core.List.{List, [], _∷_}
 use native.Mathlib.Omega.{arith}
 use borrow.Author.Tests.{leb-true, le-leb}
 use lib.ListN.{length}
-use Rattle.meaning.specs.Basics.{concat, each, _>>=_}
+use Rattle.meaning.specs.Basics.{concat, each}
 use Rattle.meaning.specs.Layout.{Node, Edge, Host}
 use Rattle.meaning.specs.Image.{RuleNode, RuleEdge, Rule}
 use Rattle.meaning.specs.Matching.{Assignment}
 use Rattle.meaning.specs.Assigned.{assigned}
 use Rattle.meaning.specs.Applying.{elementValue, labelValue, rightNode, rightNodes, rightEdge, Right, rightSide}
-use Rattle.meaning.specs.Laws.Tests.{bind-some, ensure-some, ensure-yes}
+use Rattle.meaning.specs.Laws.Tests.{bind-same, ensure-some, ensure-yes}
 use Rattle.meaning.specs.declared.Element.{Element}
-
-bind-same : {A B : Type 0} (o o′ : Option A) (f f′ : A → Option B) (b : B) → ((a : A) → o ≡ some a → o′ ≡ some a)
-    → ((a : A) → f a ≡ some b → f′ a ≡ some b) → (o >>= f) ≡ some b → (o′ >>= f′) ≡ some b
-unfolding _>>=_
-bind-same o o′ f f′ b h k e = let t = bind-some o f b e in rw (h (t .0) (t .1)) (k (t .0) (t .2))
 
 each-same : {A B : Type 0} (f g : A → Option B) → ((a : A) (b : B) → f a ≡ some b → g a ≡ some b)
     → (l : List A) (m : List B) → each f l ≡ some m → each g l ≡ some m

@@ -262,6 +262,12 @@ unfolding _>>=_
 bind-some none f b e = let z : _≡_ {A = ℕ} 0 1 = cc in absurd (omega arith)
 bind-some (some a) f b e = (a, refl, e)
 
+-- and so does another whose parts have what its parts have
+pub bind-same : {A B : Type 0} (o o′ : Option A) (f f′ : A → Option B) (b : B) → ((a : A) → o ≡ some a → o′ ≡ some a)
+    → ((a : A) → f a ≡ some b → f′ a ≡ some b) → (o >>= f) ≡ some b → (o′ >>= f′) ≡ some b
+unfolding _>>=_
+bind-same o o′ f f′ b h k e = let t = bind-some o f b e in rw (h (t .0) (t .1)) (k (t .0) (t .2))
+
 -- an ensured test: it holds, and what is behind it succeeds
 pub ensure-some : {B : Type 0} (t : Bool) (o : Option B) (b : B) → (ensure t >> o) ≡ some b → (t ≡ true) × (o ≡ some b)
 unfolding ensure _>>_
