@@ -140,6 +140,10 @@ pub fits-length : (slot most : ℕ) (bs : List ℕ) → fitsTable slot most bs �
 unfolding fitsTable
 fits-length slot most bs e = let t = both-true _ _ e in (eqb-true _ _ (t .0), leb-true _ _ (t .1))
 
+-- it is its slots and nothing behind them
+pub fits-whole : (slot most : ℕ) (bs : List ℕ) → fitsTable slot most bs ≡ true → length bs / slot * slot ≡ length bs
+fits-whole slot most bs e = omega (arith, fits-length slot most bs e .0, div-add-mod' (length bs) slot)
+
 -- a table of the same length fits too
 pub fits-same : (slot most : ℕ) (a b : List ℕ) → length b ≡ length a → fitsTable slot most a ≡ true → fitsTable slot most b ≡ true
 unfolding fitsTable

@@ -6,7 +6,7 @@ use mathlib.Core.Path.{_≡_, refl, _∙_, ap}
 use mathlib.Core.List.{List, _++_, map, reverse}
 use mathlib.Core.Bool.{true}
 use mathlib.Core.Option.{Option, some, none}
-use native.Mathlib.Nat.{div-add-mod', div-mul-le-self, mul-le-mul-right}
+use native.Mathlib.Nat.{div-mul-le-self, mul-le-mul-right}
 use native.Mathlib.Omega.{arith}
 use borrow.Author.Tests.{eq-eqb, le-leb}
 use lib.ListN.{length, drop, replicate, replicate-append-replicate}
@@ -20,7 +20,7 @@ use Rattle.meaning.specs.Calls.{Returned, reportOf, refused, runRefusal, journa
 use Rattle.meaning.specs.Laws.Tests.{both-of}
 use Rattle.meaning.specs.Laws.Every.{Every}
 use Rattle.laws.specs.Numbers.{Bytes, length-bytes, number-bytes}
-use Rattle.laws.specs.Pieces.{fits-length, fits-same, length-read}
+use Rattle.laws.specs.Pieces.{fits-length, fits-whole, fits-same, length-read}
 use Rattle.laws.specs.Layout.{length-padded, write-read-nodes, write-read-edges}
 use Rattle.laws.specs.Hosts.{legal-host, length-writeNodes, length-writeEdges, keepsLayout-write}
 use Rattle.laws.specs.Records.{LegalChange, Every-reverse, mapTables, keeps-records, length-written, counted-written, undo-written}
@@ -148,15 +148,11 @@ module _ (L : Layout) (numbered : Numbered L) (nodes edges journal : List ℕ) (
 
     length-nodes : length (writeNodes L (after .nodes)) ≡ length nodes
     length-nodes =
-        let d = div-add-mod' (length nodes) (nodeLength L) in
-        let t = fits-length (nodeLength L) (L .nodes) nodes nodesFit in
-        length-writeNodes L after (out-legal .host) ∙ rw (out-legal .nodes) (omega (arith, t .0))
+        length-writeNodes L after (out-legal .host) ∙ ap (λ (n : ℕ). n * nodeLength L) (out-legal .nodes) ∙ fits-whole _ _ nodes nodesFit
 
     length-edges : length (writeEdges L (after .edges)) ≡ length edges
     length-edges =
-        let d = div-add-mod' (length edges) (edgeLength L) in
-        let t = fits-length (edgeLength L) (L .edges) edges edgesFit in
-        length-writeEdges L after (out-legal .host) ∙ rw (out-legal .edges) (omega (arith, t .0))
+        length-writeEdges L after (out-legal .host) ∙ ap (λ (n : ℕ). n * edgeLength L) (out-legal .edges) ∙ fits-whole _ _ edges edgesFit
 
     length-journal : length journalAfter ≡ length journal
     length-journal =

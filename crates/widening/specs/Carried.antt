@@ -1,11 +1,11 @@
 -- What a carrying leaves: refused, both tables as they were lent; else the same host in the layout that it is carried to, from which it is
 -- carried back to the bytes that it came from. Rests on the meaning's Carrying and on laws' Hosts and Carrying.
-use Prim.Native.Nat.{ℕ, _/_, _^_, _≤_}
+use Prim.Native.Nat.{ℕ, _*_, _/_, _^_, _≤_}
 use mathlib.Core.Path.{_≡_, refl, sym, _∙_, ap, subst}
 use mathlib.Core.Bool.{Bool, true, false}
 use mathlib.Core.Option.{Option, some, none}
 use mathlib.Core.List.{List, [], _∷_}
-use native.Mathlib.Nat.{div-add-mod', le-refl}
+use native.Mathlib.Nat.{le-refl}
 use native.Mathlib.Omega.{arith}
 use borrow.Author.Tests.{leb-true, le-leb}
 use lib.ListN.{length, getD}
@@ -19,7 +19,7 @@ use Rattle.meaning.specs.Laws.Checks.{failing-of}
 use Rattle.meaning.specs.Laws.Slots.{OnLive, liveAt-lt}
 use Rattle.meaning.specs.Laws.Attached.{Attached}
 use Rattle.laws.specs.Numbers.{Bytes}
-use Rattle.laws.specs.Pieces.{fits-length, fits-same, length-read}
+use Rattle.laws.specs.Pieces.{fits-length, fits-whole, fits-same, length-read}
 use Rattle.laws.specs.Layout.{write-read-nodes, write-read-edges}
 use Rattle.laws.specs.Hosts.{LegalNode, LegalEdge, LegalHost, legal-host, read-write-nodes, read-write-edges, length-writeNodes, length-writeEdges, keepsLayout-write}
 use Rattle.laws.specs.Carrying.{AsManySlots, Taken, taken, takes}
@@ -30,6 +30,10 @@ use Rattle.meaning.specs.declared.Refusal.the-variants.{NodeTableLength, EdgeTa
 use Rattle.meaning.specs.declared.Answer.the-variants.{Result, Refused}
 
 -- Labels that fit.
+
+OnLive-then : {A : Type 0} (P Q : A → Type 0) → ((a : A) → P a → Q a) → (s : Slot A) → OnLive P s → OnLive Q s
+OnLive-then P Q f free p = tt
+OnLive-then P Q f (live a) p = f a p
 
 OnLive-both : {A : Type 0} (P Q R : A → Type 0) → ((a : A) → P a → Q a → R a) → (s : Slot A) → OnLive P s → OnLive Q s → OnLive R s
 OnLive-both P Q R f free p q = tt
@@ -61,9 +65,9 @@ unfolding labelsFit
 legal-fits L most l h legal =
     both-of _ _
     (fits-of most (λ (n : Node). n .label) (h .nodes)
-    (λ i. OnLive-both (LegalNode L) (LegalNode L) _ (λ n k q. omega (arith, k .size)) (getD (h .nodes) i free) (legal .nodes i) (legal .nodes i)))
+    (λ i. OnLive-then (LegalNode L) _ (λ n k. omega (arith, k .size)) (getD (h .nodes) i free) (legal .nodes i)))
     (fits-of most (λ (e : Edge). e .label) (h .edges)
-    (λ i. OnLive-both (LegalEdge L) (LegalEdge L) _ (λ e k q. omega (arith, k .size)) (getD (h .edges) i free) (legal .edges i) (legal .edges i)))
+    (λ i. OnLive-then (LegalEdge L) _ (λ e k. omega (arith, k .size)) (getD (h .edges) i free) (legal .edges i)))
 
 -- a legal host whose labels fit is legal at another layout: the ends of its edges are live nodes, and those are numbered there
 pub fitting-legal : (L M : Layout) (h : Host) → LegalHost L h → length (h .nodes) ≤ 256 ^ M .width → labelsFit (M .atoms) h ≡ true
@@ -97,6 +101,10 @@ fitting-legal L M h legal few e =
 
 -- What is answered.
 
+-- these tables are left, and nothing is refused
+abbrev pub arriving : List ℕ → List ℕ → Carried
+arriving nodes edges = record { answer = Result; nodes = nodes; edges = edges }
+
 module _ (L M : Layout) (x : LentTables) where
   -- refused, it leaves both tables as they were lent
   pub carry-refused : (w : Refusal) → carryRefusal L M x ≡ some w
@@ -105,7 +113,7 @@ module _ (L M : Layout) (x : LentTables) where
   carry-refused w e = rw e
 
   pub carry-taken : carryRefusal L M x ≡ none
-      → carry L M x ≡ record { answer = Result; nodes = writeNodes M (readNodes L (x .nodes)); edges = writeEdges M (readEdges L (x .edges)) }
+      → carry L M x ≡ arriving (writeNodes M (readNodes L (x .nodes))) (writeEdges M (readEdges L (x .edges)))
   unfolding carry carryOn
   carry-taken e = rw e
 
@@ -120,7 +128,8 @@ module _ (L M : Layout) (x : LentTables) where
           let z : _≡_ {A = ℕ} 0 1 = cc in absurd (omega arith)
 
   -- the number that is answered is 0 or one that a refusal can have
-  answer-by : (P : ℕ → Type 0) → P 0 → ((w : Refusal) → carryRefusal L M x ≡ some w → P (refusalNumber w)) → P (answerNumber (carry L M x .answer))
+  answer-by : (P : ℕ → Type 0) → P 0 → ((w : Refusal) → carryRefusal L M x ≡ some w → P (refusalNumber w))
+      → P (answerNumber (carry L M x .answer))
   unfolding answerNumber
   answer-by P z f = at (carryRefusal L M x) refl
     where
@@ -198,7 +207,7 @@ module _ (L M : Layout) (numbered : M .nodes ≤ 256 ^ M .width) (x : LentTables
     here = hostOf L (x .nodes) (x .edges)
 
     abbrev there : Carried
-    there = record { answer = Result; nodes = writeNodes M (here .nodes); edges = writeEdges M (here .edges) }
+    there = arriving (writeNodes M (here .nodes)) (writeEdges M (here .edges))
 
     is-there : carry L M x ≡ there
     is-there = carry-taken L M x (result-taken L M x r)
@@ -222,15 +231,11 @@ module _ (L M : Layout) (numbered : M .nodes ≤ 256 ^ M .width) (x : LentTables
 
     nodes-length : length (there .nodes) ≡ length (x .toNodes)
     nodes-length =
-        let d = div-add-mod' (length (x .toNodes)) (nodeLength M) in
-        let t = fits-length (nodeLength M) (M .nodes) (x .toNodes) (its .nodes .into) in
-        length-writeNodes M here there-legal ∙ rw node-slots (omega (arith, t .0))
+        length-writeNodes M here there-legal ∙ ap (λ (n : ℕ). n * nodeLength M) node-slots ∙ fits-whole _ _ (x .toNodes) (its .nodes .into)
 
     edges-length : length (there .edges) ≡ length (x .toEdges)
     edges-length =
-        let d = div-add-mod' (length (x .toEdges)) (edgeLength M) in
-        let t = fits-length (edgeLength M) (M .edges) (x .toEdges) (its .edges .into) in
-        length-writeEdges M here there-legal ∙ rw edge-slots (omega (arith, t .0))
+        length-writeEdges M here there-legal ∙ ap (λ (n : ℕ). n * edgeLength M) edge-slots ∙ fits-whole _ _ (x .toEdges) (its .edges .into)
 
     pub carry-kept : Kept L M x (carry L M x)
     carry-kept =
@@ -269,7 +274,7 @@ module _ (L M : Layout) (numbered : M .nodes ≤ 256 ^ M .width) (x : LentTables
           ∙ write-read-edges L (x .nodes) (x .edges) (its .layout) he (fits-length _ _ (x .edges) (its .edges .from) .0)
 
       pub carry-back : carry M L (lendingTables (carry L M x .nodes) (carry L M x .edges) toNodes toEdges)
-          ≡ record { answer = Result; nodes = x .nodes; edges = x .edges }
+          ≡ arriving (x .nodes) (x .edges)
       carry-back =
           ap (λ (c : Carried). carry M L (lendingTables (c .nodes) (c .edges) toNodes toEdges)) is-there
-          ∙ carry-taken M L returning returning-taken ∙ (λ i. record { answer = Result; nodes = nodes-again i; edges = edges-again i })
+          ∙ carry-taken M L returning returning-taken ∙ (λ i. arriving (nodes-again i) (edges-again i))

@@ -17,7 +17,7 @@ use Rattle.demands.specs.Larger.{Larger}
 use Rattle.demands.specs.Laws.Further.{roomier}
 use Rattle.meaning.specs.declared.Layout.{Layout}
 use Rattle.meaning.specs.declared.Answer.the-variants.{Result}
-use Rattle.widening.specs.Carried.{legal-fits, carry-taken, result-taken, as-many-same, Kept, carry-kept}
+use Rattle.widening.specs.Carried.{legal-fits, arriving, carry-taken, result-taken, as-many-same, Kept, carry-kept}
 use Rattle.widening.specs.LargerRuns.{SameRun, RunsAs, run-larger}
 
 -- y is x with its tables carried from L to M and room for as many records or more; the program is the same, and the fuel any
@@ -25,7 +25,7 @@ pub record CarriedLent (L M : Layout) (x y : Lent) : Type 0 where
   pub lendable : Lendable y
   pub toNodes : List ℕ
   pub toEdges : List ℕ
-  pub carried : carry L M (lendingTables (x .nodes) (x .edges) toNodes toEdges) ≡ record { answer = Result; nodes = y .nodes; edges = y .edges }
+  pub carried : carry L M (lendingTables (x .nodes) (x .edges) toNodes toEdges) ≡ arriving (y .nodes) (y .edges)
   pub records : journalRoom L (x .journal) ≤ journalRoom M (y .journal)
   pub journalFits : fitsTable (recordLength M) (M .records) (y .journal) ≡ true
   pub image : y .image ≡ x .image
@@ -39,7 +39,7 @@ pub record CarriedRun (L M : Layout) (x y : Lent) (o q : Outcome) : Type 0 where
   pub report : q .report ≡ o .report
   pub host : hostOf M (q .nodes) (q .edges) ≡ hostOf L (o .nodes) (o .edges)
   pub tables : (toNodes toEdges : List ℕ) → length toNodes ≡ length (y .nodes) → length toEdges ≡ length (y .edges)
-      → carry L M (lendingTables (o .nodes) (o .edges) toNodes toEdges) ≡ record { answer = Result; nodes = q .nodes; edges = q .edges }
+      → carry L M (lendingTables (o .nodes) (o .edges) toNodes toEdges) ≡ arriving (q .nodes) (q .edges)
   pub changes : List (Change (Slot Node) (Slot Edge))
   pub recorded : o .journal ≡ padded (length (x .journal)) (concat (map (writeRecord L) changes))
   pub recordedThere : q .journal ≡ padded (length (y .journal)) (concat (map (writeRecord M) changes))
@@ -57,7 +57,7 @@ module _ (L M : Layout) (numberedThere : Numbered M) (x : Lent) (b : Lendable x)
   its : Taken L M lent
   its = taken L M lent (result-taken L M lent result)
 
-  kept : Kept L M lent (record { answer = Result; nodes = y .nodes; edges = y .edges })
+  kept : Kept L M lent (arriving (y .nodes) (y .edges))
   kept =
       subst (Kept L M lent) (c .carried)
       (carry-kept L M (numberedThere .nodes) lent (b .nodes .bytewise) (b .edges .bytewise) result)
@@ -92,18 +92,20 @@ module _ (L M : Layout) (numberedThere : Numbered M) (x : Lent) (b : Lendable x)
       after-taken =
           record {
             nodes =
-                as-many-same _ _ (x .nodes) _ _ (c .toNodes) (its .nodes) (o .nodes) toNodes (same .left .nodesLength) (en ∙ kept .nodesLength);
+                as-many-same _ _ (x .nodes) _ _ (c .toNodes) (its .nodes) (o .nodes) toNodes (same .left .nodesLength)
+                (en ∙ kept .nodesLength);
             edges =
-                as-many-same _ _ (x .edges) _ _ (c .toEdges) (its .edges) (o .edges) toEdges (same .left .edgesLength) (ee ∙ kept .edgesLength);
+                as-many-same _ _ (x .edges) _ _ (c .toEdges) (its .edges) (o .edges) toEdges (same .left .edgesLength)
+                (ee ∙ kept .edgesLength);
             layout = same .left .layout;
             labels = legal-fits L (M .atoms) labels (hostOf L (o .nodes) (o .edges)) (same .left .legal);
           }
 
-      after-carried : carry L M after ≡ record { answer = Result; nodes = q .nodes; edges = q .edges }
+      after-carried : carry L M after ≡ arriving (q .nodes) (q .edges)
       after-carried =
           let n = ap (λ (h : Host). writeNodes M (h .nodes)) (sym same-host) ∙ same .leftThere .nodesWritten in
           let e = ap (λ (h : Host). writeEdges M (h .edges)) (sym same-host) ∙ same .leftThere .edgesWritten in
-          carry-taken L M after (takes L M after after-taken) ∙ (λ i. record { answer = Result; nodes = n i; edges = e i })
+          carry-taken L M after (takes L M after after-taken) ∙ (λ i. arriving (n i) (e i))
 
     carried-run : CarriedRun L M x y o q
     carried-run =

@@ -122,6 +122,7 @@ module _ (n n′ : ℕ) (bs : List ℕ) (l : List Element) where
   label-lower e h = only-same passesAll element n′ n bs l e h
 
 -- with the limit that there is now
-pub label-kept : (n : ℕ) → n ≤ limits .elements → (bs : List ℕ) (l : List Element) → only passesAll element n bs ≡ some l → label bs ≡ some l
+pub label-kept : (n : ℕ) → n ≤ limits .elements → (bs : List ℕ) (l : List Element) → only passesAll element n bs ≡ some l
+    → label bs ≡ some l
 unfolding label
 label-kept n h bs l e = label-higher n (limits .elements) bs l h e

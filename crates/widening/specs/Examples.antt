@@ -23,7 +23,8 @@ use Rattle.demands.specs.Cases.{lendable}
 use Rattle.meaning.specs.declared.Layout.{Layout}
 use Rattle.meaning.specs.declared.Refusal.{Refusal}
 use Rattle.meaning.specs.declared.Refusal.the-variants.{NodeTableLength, EdgeTableLength, BadHost, LabelDoesNotFit}
-use Rattle.meaning.specs.declared.Answer.the-variants.{Result, Refused}
+use Rattle.meaning.specs.declared.Answer.the-variants.{Refused}
+use Rattle.widening.specs.Carried.{arriving}
 use Rattle.widening.specs.LargerRuns.{RunsAs}
 use Rattle.widening.specs.CarriedRuns.{CarriedLent, CarriedRun}
 use Rattle.widening.specs.Widening.{four-numbered, widened-run}
@@ -45,12 +46,12 @@ fourAtoms = 1 ∷ 2 ∷ 300 ∷ 4 ∷ []
 -- Widened and back, over sevens; the atoms lie where they lay, and there are zeros behind.
 
 pub widened : widen (lendingTables (node four 0 fourAtoms) (loopEdge four fourAtoms) (sevens 36) (sevens 40))
-    ≡ record { answer = Result; nodes = node base 0 fourAtoms; edges = loopEdge base fourAtoms }
+    ≡ arriving (node base 0 fourAtoms) (loopEdge base fourAtoms)
 unfolding computing
 widened = refl
 
 pub narrowed : narrow (lendingTables (node base 0 fourAtoms) (loopEdge base fourAtoms) (sevens 20) (sevens 24))
-    ≡ record { answer = Result; nodes = node four 0 fourAtoms; edges = loopEdge four fourAtoms }
+    ≡ arriving (node four 0 fourAtoms) (loopEdge four fourAtoms)
 unfolding computing
 narrowed = refl
 
@@ -72,7 +73,8 @@ pub other-nodes : widen (lendingTables (padded 20 (1 ∷ 0 ∷ 2 ∷ [])) [] (se
 unfolding computing
 other-nodes = refl
 
-pub other-edges : narrow (lendingTables (node base 0 (5 ∷ fourAtoms)) [] (sevens 20) (sevens 24)) ≡ leaves EdgeTableLength (sevens 20) (sevens 24)
+pub other-edges : narrow (lendingTables (node base 0 (5 ∷ fourAtoms)) [] (sevens 20) (sevens 24))
+    ≡ leaves EdgeTableLength (sevens 20) (sevens 24)
 unfolding computing
 other-edges = refl
 
@@ -135,7 +137,8 @@ x-to-y =
       reportFits = refl;
     }
 
-x-runs : RunsAs four (ours four) (ours base) x (CarriedLent four base x) (λ y c. CarriedRun four base x y (ours four .run x) (ours base .run y))
+x-runs : RunsAs four (ours four) (ours base) x (CarriedLent four base x)
+    (λ y c. CarriedRun four base x y (ours four .run x) (ours base .run y))
 unfolding computing
 x-runs = widened-run (ours four) (ours base) (demand1 four) (demand2 four four-numbered) (met .0) (met .1) x (lendable x refl) (omega arith)
 

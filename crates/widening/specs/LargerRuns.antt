@@ -1,19 +1,18 @@
 -- Runs at two layouts, by interpreters that meet demands 1 and 2 there: what ends with a result or a fail at the one ends so at the other,
 -- where the tables hold the same graph, with room for as many atoms, slots and records or more. Answer, steps, live slots and records
 -- are the same. Rests on demands' Larger and OneOutcome.
-use Prim.Native.Nat.{ℕ, _-_, _/_, _<_, _≤_}
+use Prim.Native.Nat.{ℕ, _-_, _*_, _/_, _<_, _≤_}
 use mathlib.Core.Path.{_≡_, refl, sym, _∙_, ap, subst}
 use mathlib.Core.Bool.{true}
 use mathlib.Core.Option.{none}
 use mathlib.Core.List.{List, [], map, reverse}
-use native.Mathlib.Nat.{div-add-mod'}
 use native.Mathlib.Omega.{arith}
 use lib.ListN.{length, replicate}
 use Rattle.meaning.specs.Basics.{concat, padded}
 use Rattle.meaning.specs.Layout.{Slot, Node, Edge, Host, Change, nodeLength, edgeLength, readNodes, readEdges, hostOf, writeNodes, writeEdges, writeRecord, keepsLayout}
 use Rattle.meaning.specs.Commands.{State, Out}
 use Rattle.meaning.specs.Calls.{Lent}
-use Rattle.laws.specs.Pieces.{fits-length}
+use Rattle.laws.specs.Pieces.{fits-length, fits-whole}
 use Rattle.laws.specs.Layout.{write-read-nodes, write-read-edges}
 use Rattle.laws.specs.Hosts.{LegalHost, legal-host, read-write-nodes, read-write-edges, length-writeNodes, length-writeEdges, keepsLayout-write}
 use Rattle.laws.specs.Legality.{LegalLedger}
@@ -54,22 +53,22 @@ module _ (L : Layout) (x : Lent) (b : Lendable x) (a : Good L x) where
         edgesLength = refl;
         layout = a .layout;
         legal = legal-host L (x .nodes) (x .edges) (b .nodes .bytewise) (b .edges .bytewise) (a .layout);
-        nodesWritten = write-read-nodes L (x .nodes) (x .edges) (a .layout) (b .nodes .bytewise) (fits-length _ _ (x .nodes) (a .nodesFit) .0);
-        edgesWritten = write-read-edges L (x .nodes) (x .edges) (a .layout) (b .edges .bytewise) (fits-length _ _ (x .edges) (a .edgesFit) .0);
+        nodesWritten =
+            write-read-nodes L (x .nodes) (x .edges) (a .layout) (b .nodes .bytewise) (fits-length _ _ (x .nodes) (a .nodesFit) .0);
+        edgesWritten =
+            write-read-edges L (x .nodes) (x .edges) (a .layout) (b .edges .bytewise) (fits-length _ _ (x .edges) (a .edgesFit) .0);
       }
 
   left-at : (e : End) (t : State) → LegalLedger L (length (x .nodes) / nodeLength L) (length (x .edges) / edgeLength L) (t .ledger)
       → Left L x (outcomeAt L x e t)
   left-at Done t l =
       let h : Host = t .ledger .host in
-      let n = fits-length _ _ (x .nodes) (a .nodesFit) .0 in
-      let m = fits-length _ _ (x .edges) (a .edgesFit) .0 in
-      let i = div-add-mod' (length (x .nodes)) (nodeLength L) in
-      let j = div-add-mod' (length (x .edges)) (edgeLength L) in
       let w = written-host L h (l .host) in
       record {
-        nodesLength = length-writeNodes L h (l .host) ∙ rw (l .nodes) (omega arith);
-        edgesLength = length-writeEdges L h (l .host) ∙ rw (l .edges) (omega arith);
+        nodesLength =
+            length-writeNodes L h (l .host) ∙ ap (λ (n : ℕ). n * nodeLength L) (l .nodes) ∙ fits-whole _ _ (x .nodes) (a .nodesFit);
+        edgesLength =
+            length-writeEdges L h (l .host) ∙ ap (λ (n : ℕ). n * edgeLength L) (l .edges) ∙ fits-whole _ _ (x .edges) (a .edgesFit);
         layout = keepsLayout-write L h (l .host);
         legal = subst (LegalHost L) (sym w) (l .host);
         nodesWritten = ap (λ (g : Host). writeNodes L (g .nodes)) w;
@@ -152,7 +151,7 @@ pub record RunsAs (L : Layout) (I J : Interpreter) (x : Lent) (Given : Lent → 
   pub enough : (y : Lent) (given : Given y) → s ≤ y .fuel → Same y given
   pub short : (y : Lent) → Given y → y .fuel < s → J .run y .answer ≡ 2
 
-module _ (L M : Layout) (numbered : Numbered L) (numberedThere : Numbered M) (labels : L .atoms ≤ M .atoms) (x : Lent) (b : Lendable x) where
+module _ (L M : Layout) (kl : Numbered L) (km : Numbered M) (labels : L .atoms ≤ M .atoms) (x : Lent) (b : Lendable x) where
   module _ (h : ours L .run x .answer ≤ 1) where
     starts : runRefusedWith L x ≡ none
     starts = run-settled L x (omega arith)
@@ -171,17 +170,17 @@ module _ (L M : Layout) (numbered : Numbered L) (numberedThere : Numbered M) (la
 
     module _ (y : Lent) (more : Larger L M x y) where
       abbrev startedThere : Good M y
-      startedThere = good-y L M numbered labels x b started ended y more
+      startedThere = good-y L M kl labels x b started ended y more
 
       same : o .state .steps ≤ y .fuel → SameRun L M x y more (ours L .run x) (ours M .run y)
       same l =
-          let t = enough-y L M numbered labels x b started ended y more l in
+          let t = enough-y L M kl labels x b started ended y more l in
           subst (λ (z : Outcome). SameRun L M x y more z (ours M .run y)) (sym left)
           (subst (SameRun L M x y more (outcomeAt L x (o .end) (o .state)))
-          (sym (larger-left L M numbered labels x b started ended y more l))
-          (same-at L M x y b started more startedThere (o .end) (o .state) (t .0) (last-legal L numbered x b started)
+          (sym (larger-left L M kl labels x b started ended y more l))
+          (same-at L M x y b started more startedThere (o .end) (o .state) (t .0) (last-legal L kl x b started)
           (subst (λ (q : Out). LegalLedger M (length (y .nodes) / nodeLength M) (length (y .edges) / edgeLength M) (q .state .ledger)) (t .1)
-          (last-legal M numberedThere y (more .lendable) startedThere))))
+          (last-legal M km y (more .lendable) startedThere))))
 
     ours-larger : RunsAs L (ours L) (ours M) x (Larger L M x) (λ y more. SameRun L M x y more (ours L .run x) (ours M .run y))
     ours-larger =
@@ -191,17 +190,24 @@ module _ (L M : Layout) (numbered : Numbered L) (numberedThere : Numbered M) (la
           records = r .0;
           report = ap (λ (z : Outcome). z .report) left ∙ r .1;
           entered =
-              record { tree = started .tree; image = started .form; end = o .end; state = o .state; means = last-means L numbered x b started; steps = refl };
+              record {
+                tree = started .tree;
+                image = started .form;
+                end = o .end;
+                state = o .state;
+                means = last-means L kl x b started;
+                steps = refl;
+              };
           enough = same;
-          short = larger-short L M numbered labels x b started ended;
+          short = larger-short L M kl labels x b started ended;
         }
 
   module _ (I J : Interpreter) (first : Demand1 L I) (second : Demand2 L I) (firstThere : Demand1 M J) (secondThere : Demand2 M J) where
     is-ours : I .run x ≡ ours L .run x
-    is-ours = run-one L numbered I first second x b
+    is-ours = run-one L kl I first second x b
 
     there-ours : (y : Lent) → Larger L M x y → J .run y ≡ ours M .run y
-    there-ours y more = run-one M numberedThere J firstThere secondThere y (more .lendable)
+    there-ours y more = run-one M km J firstThere secondThere y (more .lendable)
 
     pub run-larger : I .run x .answer ≤ 1 → RunsAs L I J x (Larger L M x) (λ y more. SameRun L M x y more (I .run x) (J .run y))
     run-larger h =

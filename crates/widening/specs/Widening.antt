@@ -13,7 +13,7 @@ use Rattle.laws.specs.Numbers.{Bytes}
 use Rattle.laws.specs.Undoing.{Numbered, base-numbered}
 use Rattle.demands.specs.Demands.{Lendable, Interpreter, In, Demand1, Demand2}
 use Rattle.meaning.specs.declared.Answer.the-variants.{Result}
-use Rattle.widening.specs.Carried.{carry-answers, larger-answers, Kept, carry-kept, carry-back}
+use Rattle.widening.specs.Carried.{arriving, carry-answers, larger-answers, Kept, carry-kept, carry-back}
 use Rattle.widening.specs.LargerRuns.{RunsAs}
 use Rattle.widening.specs.CarriedRuns.{CarriedLent, CarriedRun, run-carried}
 
@@ -45,12 +45,12 @@ module _ (x : LentTables) (hn : Bytes (x .nodes)) (he : Bytes (x .edges)) where
   module _ (toNodes toEdges : List ℕ) (en : length toNodes ≡ length (x .nodes)) (ee : length toEdges ≡ length (x .edges)) where
     -- narrowing what was widened is not refused, and gives the old bytes
     pub narrow-widen : widen x .answer ≡ Result
-        → narrow (lendingTables (widen x .nodes) (widen x .edges) toNodes toEdges) ≡ record { answer = Result; nodes = x .nodes; edges = x .edges }
+        → narrow (lendingTables (widen x .nodes) (widen x .edges) toNodes toEdges) ≡ arriving (x .nodes) (x .edges)
     narrow-widen r = carry-back four base (base-numbered .nodes) x hn he r toNodes toEdges en ee
 
     -- widening what was narrowed is not refused, and gives the wide bytes
     pub widen-narrow : narrow x .answer ≡ Result
-        → widen (lendingTables (narrow x .nodes) (narrow x .edges) toNodes toEdges) ≡ record { answer = Result; nodes = x .nodes; edges = x .edges }
+        → widen (lendingTables (narrow x .nodes) (narrow x .edges) toNodes toEdges) ≡ arriving (x .nodes) (x .edges)
     widen-narrow r = carry-back base four (four-numbered .nodes) x hn he r toNodes toEdges en ee
 
 -- What a program answers with 0 or 1 on old tables it answers so on the widened ones, by any two interpreters that meet demands 1 and 2:

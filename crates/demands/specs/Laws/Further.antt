@@ -208,7 +208,8 @@ module _ (most most′ room room′ a b : ℕ) (larger : most ≤ most′) (more
     values = sym (rightSide-alike (g .host) (large .host) (roomier-alike a b (g .host)) most′ r p)
 
     -- what hinders it hinders it
-    hindered-by : (w : Stop) → hindrance most room r p g ≡ some w → AppliedWithRoom most most′ (apply most room r p g) → HasRoom most most′ w
+    hindered-by : (w : Stop) → hindrance most room r p g ≡ some w → AppliedWithRoom most most′ (apply most room r p g)
+        → HasRoom most most′ w
     unfolding apply unhindered
     hindered-by w e h = rw e at h
 
