@@ -1,16 +1,17 @@
 -- What is known of a run of ours that starts: its rules are legal, what it ends at is legal and its records fit the journal,
--- and it ends as the rules of inference say. Rests on Ours and Laws/Inference and on laws' Undoing and Calls.
+-- it ends as the rules of inference say, and leaves what that end says. Rests on Ours and Laws/Inference and on laws' Undoing and Calls.
 use Prim.Native.Nat.{ℕ, _/_, _≤_}
+use mathlib.Core.Path.{_≡_, refl, _∙_, ap}
 use mathlib.Core.List.{List, map, reverse}
 use native.Mathlib.Omega.{arith}
 use native.Mathlib.Nat.{div-mul-le-self, mul-le-mul-right}
 use lib.ListN.{length}
 use Rattle.meaning.specs.Basics.{concat}
 use Rattle.meaning.specs.Layout.{nodeLength, edgeLength, recordLength, writeRecord}
-use Rattle.meaning.specs.Commands.{Out, ruleAt}
+use Rattle.meaning.specs.Commands.{State, Out, ruleAt}
 use Rattle.meaning.specs.Calls.{Lent}
-use Rattle.demands.specs.Demands.{Lendable, start, Means}
-use Rattle.demands.specs.Ours.{end, Good}
+use Rattle.demands.specs.Demands.{Outcome, Lendable, reporting, start, outcomeAt, Means, Entered}
+use Rattle.demands.specs.Ours.{ours, end, ours-outcome, Good, good-starts}
 use Rattle.laws.specs.Records.{length-written}
 use Rattle.laws.specs.Commands.{exec-room}
 use Rattle.laws.specs.Legality.{LegalLedger}
@@ -20,6 +21,15 @@ use Rattle.laws.specs.Undoing.{Numbered, out-legal}
 use Rattle.laws.specs.References.{Sound}
 use Rattle.demands.specs.Laws.Inference.{exec-executes}
 use Rattle.meaning.specs.declared.Layout.{Layout}
+use Rattle.meaning.specs.declared.End.{End}
+use Rattle.meaning.specs.declared.End.the-variants.{Done, Failed, Broke, Stopped}
+
+-- a report states steps and records
+stated : (L : Layout) (x : Lent) (e : End) (t : State) → (n : ℕ) × (outcomeAt L x e t .report ≡ reporting (t .steps) n)
+stated L x Done t = (length (t .ledger .journal), refl)
+stated L x Failed t = (0, refl)
+stated L x Broke t = (0, refl)
+stated L x (Stopped w) t = (0, refl)
 
 module _ (L : Layout) (k : Numbered L) (x : Lent) (b : Lendable x) (a : Good L x) where
   rules-legal : LegalRules (a .tree .rules)
@@ -55,3 +65,14 @@ module _ (L : Layout) (k : Numbered L) (x : Lent) (b : Lendable x) (a : Good L x
   last-means =
       exec-executes (L .atoms) (length (x .journal) / recordLength L) (a .tree .rules) rules-sound (a .tree .main) (start L x)
       (accepted-stays L x a)
+
+  -- what it leaves, and what its report states
+  pub last-left : ours L .run x ≡ outcomeAt L x (last .end) (last .state)
+  last-left = ours-outcome L x (a .tree) (good-starts L x a) (a .form)
+
+  pub last-stated : (n : ℕ) × (ours L .run x .report ≡ reporting (last .state .steps) n)
+  last-stated = let r = stated L x (last .end) (last .state) in (r .0, ap (λ (o : Outcome). o .report) last-left ∙ r .1)
+
+  pub last-entered : Entered L x (last .state .steps)
+  last-entered =
+      record { tree = a .tree; image = a .form; end = last .end; state = last .state; means = last-means; steps = refl }

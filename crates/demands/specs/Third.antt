@@ -13,10 +13,10 @@ use Rattle.meaning.specs.Layout.{recordLength, readNodes, readEdges, writeRecor
 use Rattle.meaning.specs.Procedures.{Program}
 use Rattle.meaning.specs.Commands.{State, Out}
 use Rattle.meaning.specs.Calls.{Lent}
-use Rattle.demands.specs.Demands.{Outcome, Interpreter, stopAnswer, In, Lendable, reporting, runRefusedWith, outcomeAt, Means, Roomier, SameWithRoom, Entered, Settled, Demand3}
-use Rattle.demands.specs.Ours.{ours, end, ours-outcome, Good, good}
+use Rattle.demands.specs.Demands.{Outcome, Interpreter, stopAnswer, In, Lendable, runRefusedWith, outcomeAt, Means, Roomier, SameWithRoom, Entered, Settled, Demand3}
+use Rattle.demands.specs.Ours.{ours, end, Good, good}
 use Rattle.demands.specs.First.{run-settled}
-use Rattle.demands.specs.Started.{rules-sound, written-fits, last-means}
+use Rattle.demands.specs.Started.{rules-sound, last, written-fits, last-means, last-left, last-stated, last-entered}
 use Rattle.demands.specs.Larger.{Larger, Settling, larger-left, larger-short}
 use Rattle.laws.specs.Undoing.{Numbered}
 use Rattle.meaning.specs.Laws.Tests.{absent-false, some-inj}
@@ -87,13 +87,6 @@ roomier-larger L x a y more =
       reportFits = more .reportFits;
     }
 
--- the report states steps and records
-pub stated : (L : Layout) (x : Lent) (e : End) (t : State) → (n : ℕ) × (outcomeAt L x e t .report ≡ reporting (t .steps) n)
-stated L x Done t = (length (t .ledger .journal), refl)
-stated L x Failed t = (0, refl)
-stated L x Broke t = (0, refl)
-stated L x (Stopped w) t = (0, refl)
-
 -- what is left of y, where the last state of x is the same with further free slots and any fuel
 module _ (L : Layout) (x y : Lent) (more : Roomier L x y) where
   zeros-longer : replicate {A = ℕ} (length (y .journal)) 0
@@ -104,7 +97,7 @@ module _ (L : Layout) (x y : Lent) (more : Roomier L x y) where
       ∙ sym (replicate-append-replicate (length (x .journal)) (length (y .journal) - length (x .journal)) 0)
 
   left-same : (e : End) (t : State) (f : ℕ)
-      → (e ≡ Done → length (concat (map (writeRecord L) (reverse (t .ledger .journal)))) ≤ length (x .journal))
+      → length (concat (map (writeRecord L) (reverse (t .ledger .journal)))) ≤ length (x .journal)
       → SameWithRoom L x y more (outcomeAt L x e t) (outcomeAt L y e (fuelled f (roomierState (more .nodesMore) (more .edgesMore) t)))
   left-same Done t f h =
       record {
@@ -113,7 +106,7 @@ module _ (L : Layout) (x y : Lent) (more : Roomier L x y) where
         nodes = writeNodes-further L (more .nodesMore) (t .ledger .host .nodes);
         edges = writeEdges-further L (more .edgesMore) (t .ledger .host .edges);
         journal =
-            padded-longer (length (x .journal)) (length (y .journal)) (concat (map (writeRecord L) (reverse (t .ledger .journal)))) (h refl)
+            padded-longer (length (x .journal)) (length (y .journal)) (concat (map (writeRecord L) (reverse (t .ledger .journal)))) h
             (more .journal);
       }
   left-same Failed t f h =
@@ -130,39 +123,28 @@ module _ (L : Layout) (k : Numbered L) (x : Lent) (b : Lendable x) (h : In (ours
   abbrev a : Good L x
   a = good L x starts
 
-  abbrev p : Program
-  p = a .tree
-
   abbrev o : Out
-  o = end L x p
-
-  left : ours L .run x ≡ outcomeAt L x (o .end) (o .state)
-  left = ours-outcome L x p starts (a .form)
+  o = last L k x b a
 
   ended : Settling L L (o .end)
-  ended = settling L x (o .end) (o .state) (subst (λ (q : Outcome). In (q .answer) (0 ∷ 1 ∷ 6 ∷ [])) left h)
-
-  fits-x : length (concat (map (writeRecord L) (reverse (o .state .ledger .journal)))) ≤ length (x .journal)
-  fits-x = written-fits L k x b a
+  ended = settling L x (o .end) (o .state) (subst (λ (q : Outcome). In (q .answer) (0 ∷ 1 ∷ 6 ∷ [])) (last-left L k x b a) h)
 
   same-y : (y : Lent) (more : Roomier L x y) → o .state .steps ≤ y .fuel → SameWithRoom L x y more (ours L .run x) (ours L .run y)
   unfolding roomier-larger
   same-y y more l =
-      let larger = roomier-larger L x a y more in
-      subst (λ (z : Outcome). SameWithRoom L x y more z (ours L .run y)) (sym left)
-      (subst (λ (z : Outcome). SameWithRoom L x y more (outcomeAt L x (o .end) (o .state)) z)
-      (sym (larger-left L L k (le-refl _) x b a ended y larger l))
-      (left-same L x y more (o .end) (o .state) _ (λ e. fits-x)))
+      subst (λ (z : Outcome). SameWithRoom L x y more z (ours L .run y)) (sym (last-left L k x b a))
+      (subst (SameWithRoom L x y more (outcomeAt L x (o .end) (o .state)))
+      (sym (larger-left L L k (le-refl _) x b a ended y (roomier-larger L x a y more) l))
+      (left-same L x y more (o .end) (o .state) _ (written-fits L k x b a)))
 
   pub settled : Settled L (ours L) x
   settled =
-      let r = stated L x (o .end) (o .state) in
+      let r = last-stated L k x b a in
       record {
         s = o .state .steps;
         records = r .0;
-        report = ap (λ (z : Outcome). z .report) left ∙ r .1;
-        entered =
-            record { tree = p; image = a .form; end = o .end; state = o .state; means = last-means L k x b a; steps = refl };
+        report = r .1;
+        entered = last-entered L k x b a;
         enough = same-y;
         short = λ y more. larger-short L L k (le-refl _) x b a ended y (roomier-larger L x a y more);
       }
@@ -175,14 +157,13 @@ module _ (L : Layout) (k : Numbered L) (x : Lent) (b : Lendable x) (e : runRefus
   pub entered-is : (s : ℕ) → Entered L x s → take 4 (ours L .run x .report) ≡ bytes 4 s
   entered-is s n =
       let a = good L x e in
-      let o = end L x (a .tree) in
+      let o = last L k x b a in
       let i : n .tree ≡ a .tree = some-inj (n .tree) (a .tree) (sym (n .image) ∙ a .form) in
       let m : Means L x (a .tree) (n .end) (n .state) = subst (λ (p : Program). Means L x p (n .end) (n .state)) i (n .means) in
       let q =
       executes-one (L .atoms) (length (x .journal) / recordLength L) (a .tree .rules) (rules-sound L k x b a) m (last-means L k x b a) in
-      let r = stated L x (o .end) (o .state) in
       let t : o .state .steps ≡ s = sym (ap (λ (t : State). t .steps) (q .1)) ∙ n .steps in
-      ap (λ (z : Outcome). take 4 (z .report)) (ours-outcome L x (a .tree) e (a .form)) ∙ ap (take 4) (r .1)
+      ap (take 4) (last-stated L k x b a .1)
       ∙ take-at (bytes 4 (o .state .steps)) _ 4 (length-bytes 4 (o .state .steps)) ∙ ap (bytes 4) t
 
   pub one-count : (I : Interpreter) → Demand3 L I → In (I .run x .answer) (0 ∷ 1 ∷ 6 ∷ [])

@@ -4,7 +4,6 @@
 use Prim.Native.Nat.{ℕ, _-_, _*_, _/_, _<_, _≤_}
 use mathlib.Core.Path.{_≡_, refl, sym, _∙_, ap, subst}
 use mathlib.Core.Bool.{true}
-use mathlib.Core.Option.{none}
 use mathlib.Core.List.{List, [], map, reverse}
 use native.Mathlib.Omega.{arith}
 use lib.ListN.{length, replicate}
@@ -17,13 +16,12 @@ use Rattle.laws.specs.Layout.{write-read-nodes, write-read-edges}
 use Rattle.laws.specs.Hosts.{LegalHost, legal-host, read-write-nodes, read-write-edges, length-writeNodes, length-writeEdges, keepsLayout-write}
 use Rattle.laws.specs.Legality.{LegalLedger}
 use Rattle.laws.specs.Undoing.{Numbered}
-use Rattle.demands.specs.Demands.{Lendable, Outcome, Interpreter, reporting, runRefusedWith, asItCame, outcomeAt, Entered, Demand1, Demand2}
-use Rattle.demands.specs.Ours.{ours, end, ours-outcome, Good, good}
+use Rattle.demands.specs.Demands.{Lendable, Outcome, Interpreter, reporting, asItCame, outcomeAt, Entered, Demand1, Demand2}
+use Rattle.demands.specs.Ours.{ours, end, Good, good}
 use Rattle.demands.specs.First.{stop-answer, run-settled}
-use Rattle.demands.specs.Started.{last-legal, last-means}
+use Rattle.demands.specs.Started.{last, last-legal, last-left, last-stated, last-entered}
 use Rattle.demands.specs.OneOutcome.{run-one}
 use Rattle.demands.specs.Larger.{Larger, Settling, good-y, enough-y, larger-left, larger-short}
-use Rattle.demands.specs.Third.{stated}
 use Rattle.demands.specs.Laws.Further.{roomier}
 use Rattle.demands.specs.Laws.Shortage.{fuelled}
 use Rattle.demands.specs.Laws.FurtherCommands.{roomierState}
@@ -153,20 +151,14 @@ pub record RunsAs (L : Layout) (I J : Interpreter) (x : Lent) (Given : Lent → 
 
 module _ (L M : Layout) (kl : Numbered L) (km : Numbered M) (labels : L .atoms ≤ M .atoms) (x : Lent) (b : Lendable x) where
   module _ (h : ours L .run x .answer ≤ 1) where
-    starts : runRefusedWith L x ≡ none
-    starts = run-settled L x (omega arith)
-
     abbrev started : Good L x
-    started = good L x starts
+    started = good L x (run-settled L x (omega arith))
 
     abbrev o : Out
-    o = end L x (started .tree)
-
-    left : ours L .run x ≡ outcomeAt L x (o .end) (o .state)
-    left = ours-outcome L x (started .tree) starts (started .form)
+    o = last L kl x b started
 
     ended : Settling L M (o .end)
-    ended = settling L M x (o .end) (o .state) (subst (λ (q : Outcome). q .answer ≤ 1) left h)
+    ended = settling L M x (o .end) (o .state) (subst (λ (q : Outcome). q .answer ≤ 1) (last-left L kl x b started) h)
 
     module _ (y : Lent) (more : Larger L M x y) where
       abbrev startedThere : Good M y
@@ -175,7 +167,7 @@ module _ (L M : Layout) (kl : Numbered L) (km : Numbered M) (labels : L .atoms �
       same : o .state .steps ≤ y .fuel → SameRun L M x y more (ours L .run x) (ours M .run y)
       same l =
           let t = enough-y L M kl labels x b started ended y more l in
-          subst (λ (z : Outcome). SameRun L M x y more z (ours M .run y)) (sym left)
+          subst (λ (z : Outcome). SameRun L M x y more z (ours M .run y)) (sym (last-left L kl x b started))
           (subst (SameRun L M x y more (outcomeAt L x (o .end) (o .state)))
           (sym (larger-left L M kl labels x b started ended y more l))
           (same-at L M x y b started more startedThere (o .end) (o .state) (t .0) (last-legal L kl x b started)
@@ -184,20 +176,12 @@ module _ (L M : Layout) (kl : Numbered L) (km : Numbered M) (labels : L .atoms �
 
     ours-larger : RunsAs L (ours L) (ours M) x (Larger L M x) (λ y more. SameRun L M x y more (ours L .run x) (ours M .run y))
     ours-larger =
-        let r = stated L x (o .end) (o .state) in
+        let r = last-stated L kl x b started in
         record {
           s = o .state .steps;
           records = r .0;
-          report = ap (λ (z : Outcome). z .report) left ∙ r .1;
-          entered =
-              record {
-                tree = started .tree;
-                image = started .form;
-                end = o .end;
-                state = o .state;
-                means = last-means L kl x b started;
-                steps = refl;
-              };
+          report = r .1;
+          entered = last-entered L kl x b started;
           enough = same;
           short = larger-short L M kl labels x b started ended;
         }
