@@ -17,7 +17,7 @@ use Rattle.laws.specs.Hosts.{LegalHost, legal-host, read-write-nodes, read-writ
 use Rattle.laws.specs.Legality.{LegalLedger}
 use Rattle.laws.specs.Undoing.{Numbered}
 use Rattle.demands.specs.Demands.{Lendable, Outcome, Interpreter, reporting, asItCame, outcomeAt, Entered, Demand1, Demand2}
-use Rattle.demands.specs.Ours.{ours, end, Good, good}
+use Rattle.demands.specs.Ours.{ours, Good, good}
 use Rattle.demands.specs.First.{stop-answer, run-settled}
 use Rattle.demands.specs.Started.{last, last-legal, last-left, last-stated, last-entered}
 use Rattle.demands.specs.OneOutcome.{run-one}
