@@ -11,15 +11,7 @@ use Rattle.meaning.specs.Image.{Field as Whole, field, expect}
 use Rattle.fields.specs.Fields.{fieldAt}
 use Rattle.fields.specs.Laws.{found-field, end-none, short-none}
 use Rattle.fields.specs.declared.Found.the-variants.{Field, Short, End}
-use Rattle.run_input.specs.Reading.{Expected, Expects, fieldHead}
-use Rattle.run_input.specs.declared.Place.{Place}
-use Rattle.run_input.specs.declared.Place.the-variants.{Until, Nowhere}
-
-pub until : {bs : List ℕ} {at tag : ℕ} (r : Place) (end : ℕ) → r ≡ Until end → Expects bs at tag r → Expected bs at tag end
-until r end e x = rw e at x
-
-pub nowhere : (bs : List ℕ) (at tag : ℕ) (r : Place) → r ≡ Nowhere → Expects bs at tag r → expect tag (drop at bs) ≡ none
-nowhere bs at tag r e x = rw e at x
+use Rattle.run_input.specs.Reading.{Expected, fieldHead}
 
 same-field : (d : Whole) (t : ℕ) (p r : List ℕ) → d .tag ≡ t → d .payload ≡ p → d .rest ≡ r → d ≡ record { tag = t; payload = p; rest = r }
 same-field d t p r a b c = rw (← a, ← b, ← c) refl

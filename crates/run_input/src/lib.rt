@@ -1,5 +1,6 @@
 // The reading of a run image: five fields, each once in order, the two numbers of their sizes, and nothing behind; and the parts of
-// the input that an image holds. The definitions that the contracts cite are in specs/.
+// the input that an image holds. A field of a tag at a place, and its payload, serve the reader of two tables too. The definitions
+// that the contracts cite are in specs/.
 ghost use mathlib.Core.Path.{_≡_};
 ghost use Prim.Native.Nat.{_+_, _-_, _≤_};
 ghost use lib.ListN.{length, take, drop};
@@ -56,7 +57,7 @@ pub enum Read {
 }
 
 // The field at a place, if it has this tag.
-fn expect(image: &[u8], at: usize, tag: u8) -> Place
+pub fn expect(image: &[u8], at: usize, tag: u8) -> Place
     ensures { λ r. ⌜ Expects (now (image .entry)) at tag r ⌝ }
 {
     let found = fields::read_field(image, at);
@@ -129,7 +130,7 @@ pub fn read_input(image: &[u8]) -> Read
 // The parts of an input that was read.
 
 // The payload of the field at a place.
-fn payload(image: &[u8], at: usize, end: usize) -> &[u8]
+pub fn payload(image: &[u8], at: usize, end: usize) -> &[u8]
     requires { ⌜ length (now image) ≤ mostInput ⌝ }
     requires { ⌜ (at + fieldHead ≤ end) × (end ≤ length (now image)) ⌝ }
     ensures { λ r. ⌜ Payload (take (end - (at + fieldHead)) (drop (at + fieldHead) (now (image .entry)))) (now r) ⌝ }

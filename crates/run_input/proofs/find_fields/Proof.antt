@@ -1,6 +1,6 @@
 -- `find_fields` meets its contract: each field is the one that is expected, or the definition reads nothing.
 use borrow.Author.Needs.{needs}
-use Rattle.run_input.proofs.Fields.{until, nowhere}
+use Rattle.run_input.specs.Laws.{until, nowhere}
 use Rattle.run_input.proofs.Inputs.{no-nodes, no-edges, no-records, no-fuel, no-program}
 use Rattle.run_input.proofs.find_fields.Statement.{statement}
 use Rattle.run_input.proofs.find_fields.Tie as tie
