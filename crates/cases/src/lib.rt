@@ -68,3 +68,13 @@ pub fn copy(to: &mut [u8], from: &[u8]) -> usize
     slots::bytes::copy(to, &from[..room]);
     room
 }
+
+// Writes a space and bytes in hexadecimal digits on standard output.
+pub fn write_hex(bytes: &[u8]) {
+    io::write_all(1, b" ");
+    let mut i: usize = 0;
+    while i < bytes.len() {
+        io::print_hex(1, fields::wide(bytes[i]) as u64, 2);
+        i += 1;
+    }
+}

@@ -1,19 +1,6 @@
 // Undoes each of the stored cases on standard input and writes what the call leaves, a line a case: the number, then report,
 // nodes, edges and journal in hexadecimal digits. A case holds nodes, edges, journal, count and report.
 
-fn write_hex(bytes: &[u8]) {
-    io::write_all(1, b" ");
-    let mut i: usize = 0;
-    while i < bytes.len() {
-        io::print_hex(1, wide(bytes[i]), 2);
-        i += 1;
-    }
-}
-
-fn wide(x: u8) -> u64 {
-    x as u64
-}
-
 // Undoes and writes what is left.
 fn undo_lent(
     nodes: &mut [u8],
@@ -24,19 +11,19 @@ fn undo_lent(
 ) {
     let number = interpreter::nhiemavut_undo(nodes, edges, journal, count, report);
     io::print_decimal(1, number as u64);
-    write_hex(&report[..]);
-    write_hex(&nodes[..]);
-    write_hex(&edges[..]);
-    write_hex(&journal[..]);
+    cases::write_hex(&report[..]);
+    cases::write_hex(&nodes[..]);
+    cases::write_hex(&edges[..]);
+    cases::write_hex(&journal[..]);
     io::write_all(1, b"\n");
 }
 
-// Undoes a case in buffers that are large enough for every case.
+// Undoes a case in buffers that hold every part, whose length is written in two bytes.
 fn undo_case(case: &[u8]) {
-    let mut nodes = [0u8; 10300];
-    let mut edges = [0u8; 24700];
-    let mut journal = [0u8; 28800];
-    let mut report = [0u8; 16];
+    let mut nodes = io::large_buffer();
+    let mut edges = io::large_buffer();
+    let mut journal = io::large_buffer();
+    let mut report = io::large_buffer();
     let n = cases::copy(&mut nodes, cases::part(case, 0));
     let e = cases::copy(&mut edges, cases::part(case, 1));
     let j = cases::copy(&mut journal, cases::part(case, 2));

@@ -3,8 +3,8 @@ use Prim.Native.Nat.{_-_}
 use native.Mathlib.Omega.{arith}
 use borrow.Author.Needs.{needs}
 use lib.ListN.{length}
-use Rattle.undo_cases.proofs.write_hex.Statement.{statement}
-use Rattle.undo_cases.proofs.write_hex.Tie as tie
+use Rattle.cases.proofs.write_hex.Statement.{statement}
+use Rattle.cases.proofs.write_hex.Tie as tie
 
 abbrev Inv-loop : tie.InvT-loop
 Inv-loop bytes i₀ i = Unit {0}

@@ -1,0 +1,2 @@
+mod Inputs
+mod Printing
