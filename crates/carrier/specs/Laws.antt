@@ -8,22 +8,19 @@ use native.Mathlib.Omega.{arith}
 use borrow.Author.Tests.{le-leb, eq-eqb}
 use lib.ListN.{length, length-append}
 use Rattle.meaning.specs.Basics.{isEmpty, ensure, _>>_, _>>=_}
-use Rattle.meaning.specs.Layout.{Sized, Tables, base, four}
+use Rattle.meaning.specs.Layout.{Tables, base, four}
 use Rattle.meaning.specs.Image.{expect}
 use Rattle.meaning.specs.Calls.{answerNumber}
 use Rattle.meaning.specs.ProvedSet.{fieldBytes}
 use Rattle.meaning.specs.declared.Layout.{Layout}
 use Rattle.meaning.specs.Laws.Tests.{choose-eq}
-use Rattle.laws.specs.Layout.{base-sized}
+use Rattle.laws.specs.Layout.{base-sized, four-sized}
 use Rattle.renewing.specs.Written.{field-written, length-field}
 use Rattle.run_input.specs.Input.{nodesTag, edgesTag, mostInput}
 use Rattle.carrier.specs.Carried.{tablesIn, tableFields, carriedText, carriedTables, printed, carriedInput}
 use Rattle.carrier.specs.Rooms.{InputOf, Between}
 
 -- Layouts.
-
-four-sized : Sized four
-four-sized = record { node = refl; edge = refl; change = refl; atoms = omega arith; narrow = omega arith; wide = omega arith }
 
 pub widening : Between four base
 widening = record { from = four-sized; to = base-sized; few = omega arith; room = omega arith }

@@ -1,4 +1,4 @@
--- What is refused, check by check, and what a carrying that is not refused may rest on. Rests on specs/Tables and specs/Taken.
+-- What is refused, check by check, and what a carrying that is not refused may rest on. Rests on specs/Tables and the laws' Carrying.
 use mathlib.Core.Path.{_≡_, refl, sym, _∙_, ap}
 use mathlib.Core.Bool.{Bool, true, false}
 use mathlib.Core.Option.{Option, some, none}
@@ -21,7 +21,7 @@ use Rattle.meaning.specs.declared.Answer.the-variants.{Result, Refused}
 use Rattle.meaning.specs.declared.Table.the-variants.{Nodes, Edges}
 use Rattle.graph.specs.Graph.{Legal, slotsIn}
 use Rattle.carrying.specs.Tables.{labelsFitIn}
-use Rattle.carrying.specs.Taken.{AsManySlots, as-many, Taken, taken}
+use Rattle.laws.specs.Carrying.{as-many, Taken, taken}
 
 -- Slot counts.
 

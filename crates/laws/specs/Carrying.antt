@@ -19,7 +19,7 @@ pub record AsManySlots (w most : ℕ) (table : List ℕ) (v most′ : ℕ) (to :
   pub slots : length table / w ≡ length to / v
 
 module _ (w most : ℕ) (table : List ℕ) (v most′ : ℕ) (to : List ℕ) where
-  as-many : asManySlots w most table v most′ to ≡ true → AsManySlots w most table v most′ to
+  pub as-many : asManySlots w most table v most′ to ≡ true → AsManySlots w most table v most′ to
   unfolding asManySlots clauses
   as-many e =
       let t = both-true _ _ e in

@@ -13,7 +13,7 @@ use lib.ListN.{length, drop, replicate, replicate-append-replicate}
 use lib.Seq.{drop-at}
 use Rattle.meaning.specs.Basics.{choose, concat, padded, firstFailing}
 use Rattle.meaning.specs.Numbers.{number, bytes, whole}
-use Rattle.meaning.specs.Layout.{Slot, Node, Edge, Host, Change, base, nodeLength, edgeLength, recordLength, fitsTable, readNode, readEdge, hostOf, writeNode, writeEdge, writeNodes, writeEdges, writeRecord, keepsLayout}
+use Rattle.meaning.specs.Layout.{Slot, Node, Edge, Host, Change, base, four, nodeLength, edgeLength, recordLength, fitsTable, readNode, readEdge, hostOf, writeNode, writeEdge, writeNodes, writeEdges, writeRecord, keepsLayout}
 use Rattle.meaning.specs.Procedures.{Program, program}
 use Rattle.meaning.specs.Commands.{State, Out, beginning, exec}
 use Rattle.meaning.specs.Calls.{Returned, reportOf, refused, runRefusal, journalRoom, finished, started, runOn, run, keepsRecords, undoRefusal, tablesUndone, undoOn, undo, lending, lendingUndo}
@@ -44,6 +44,9 @@ pub record Numbered (L : Layout) : Type 0 where
 
 pub base-numbered : Numbered base
 base-numbered = record { narrow = omega arith; nodes = omega arith; edges = omega arith; records = omega arith }
+
+pub four-numbered : Numbered four
+four-numbered = record { narrow = omega arith; nodes = omega arith; edges = omega arith; records = omega arith }
 
 -- The journal that a run writes.
 

@@ -27,7 +27,8 @@ use Rattle.meaning.specs.declared.Answer.the-variants.{Refused}
 use Rattle.widening.specs.Carried.{arriving}
 use Rattle.widening.specs.LargerRuns.{RunsAs}
 use Rattle.widening.specs.CarriedRuns.{CarriedLent, CarriedRun}
-use Rattle.widening.specs.Widening.{four-numbered, widened-run}
+use Rattle.laws.specs.Undoing.{four-numbered}
+use Rattle.widening.specs.Widening.{widened-run}
 
 -- Slots: a live node of a mark and a label, a blue loop at slot 0 of a label, and slots full of sevens, which are no slots of a host.
 
@@ -45,12 +46,12 @@ fourAtoms = 1 ∷ 2 ∷ 300 ∷ 4 ∷ []
 
 -- Widened and back, over sevens; the atoms lie where they lay, and there are zeros behind.
 
-pub widened : widen (lendingTables (node four 0 fourAtoms) (loopEdge four fourAtoms) (sevens 36) (sevens 40))
+pub widened : widen (lendingTables (node four 0 fourAtoms) (loopEdge four fourAtoms) (sevens (nodeLength base)) (sevens (edgeLength base)))
     ≡ arriving (node base 0 fourAtoms) (loopEdge base fourAtoms)
 unfolding computing
 widened = refl
 
-pub narrowed : narrow (lendingTables (node base 0 fourAtoms) (loopEdge base fourAtoms) (sevens 20) (sevens 24))
+pub narrowed : narrow (lendingTables (node base 0 fourAtoms) (loopEdge base fourAtoms) (sevens (nodeLength four)) (sevens (edgeLength four)))
     ≡ arriving (node four 0 fourAtoms) (loopEdge four fourAtoms)
 unfolding computing
 narrowed = refl
@@ -61,20 +62,20 @@ narrowed = refl
 abbrev leaves : Refusal → List ℕ → List ℕ → Carried
 leaves w nodes edges = record { answer = Refused w; nodes = nodes; edges = edges }
 
-pub five-atoms : narrow (lendingTables (node base 0 (5 ∷ fourAtoms)) [] (sevens 20) []) ≡ leaves LabelDoesNotFit (sevens 20) []
+pub five-atoms : narrow (lendingTables (node base 0 (5 ∷ fourAtoms)) [] (sevens (nodeLength four)) []) ≡ leaves LabelDoesNotFit (sevens (nodeLength four)) []
 unfolding computing
 five-atoms = refl
 
-pub damaged : widen (lendingTables (padded 20 (1 ∷ 0 ∷ 2 ∷ [])) [] (sevens 36) []) ≡ leaves BadHost (sevens 36) []
+pub damaged : widen (lendingTables (padded (nodeLength four) (1 ∷ 0 ∷ 2 ∷ [])) [] (sevens (nodeLength base)) []) ≡ leaves BadHost (sevens (nodeLength base)) []
 unfolding computing
 damaged = refl
 
-pub other-nodes : widen (lendingTables (padded 20 (1 ∷ 0 ∷ 2 ∷ [])) [] (sevens 72) []) ≡ leaves NodeTableLength (sevens 72) []
+pub other-nodes : widen (lendingTables (padded (nodeLength four) (1 ∷ 0 ∷ 2 ∷ [])) [] (sevens (2 * nodeLength base)) []) ≡ leaves NodeTableLength (sevens (2 * nodeLength base)) []
 unfolding computing
 other-nodes = refl
 
-pub other-edges : narrow (lendingTables (node base 0 (5 ∷ fourAtoms)) [] (sevens 20) (sevens 24))
-    ≡ leaves EdgeTableLength (sevens 20) (sevens 24)
+pub other-edges : narrow (lendingTables (node base 0 (5 ∷ fourAtoms)) [] (sevens (nodeLength four)) (sevens (edgeLength four)))
+    ≡ leaves EdgeTableLength (sevens (nodeLength four)) (sevens (edgeLength four))
 unfolding computing
 other-edges = refl
 
@@ -127,7 +128,7 @@ unfolding computing
 x-to-y =
     record {
       lendable = lendable y refl;
-      toNodes = sevens 36;
+      toNodes = sevens (nodeLength base);
       toEdges = [];
       carried = refl;
       records = leb-true 8 8 refl;

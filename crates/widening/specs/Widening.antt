@@ -10,15 +10,12 @@ use Rattle.meaning.specs.Layout.{base, four, hostOf}
 use Rattle.meaning.specs.Calls.{Lent, answerNumber}
 use Rattle.meaning.specs.Carrying.{LentTables, lendingTables, widen, narrow}
 use Rattle.laws.specs.Numbers.{Bytes}
-use Rattle.laws.specs.Undoing.{Numbered, base-numbered}
+use Rattle.laws.specs.Undoing.{base-numbered, four-numbered}
 use Rattle.demands.specs.Demands.{Lendable, Interpreter, In, Demand1, Demand2}
 use Rattle.meaning.specs.declared.Answer.the-variants.{Result}
 use Rattle.widening.specs.Carried.{arriving, carry-answers, larger-answers, Kept, carry-kept, carry-back}
 use Rattle.widening.specs.LargerRuns.{RunsAs}
 use Rattle.widening.specs.CarriedRuns.{CarriedLent, CarriedRun, run-carried}
-
-pub four-numbered : Numbered four
-four-numbered = record { narrow = omega arith; nodes = omega arith; edges = omega arith; records = omega arith }
 
 -- What is answered.
 
