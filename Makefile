@@ -1,5 +1,5 @@
 # `make run` runs the main job, `make test` runs everything that is checked. The others: `make library`, `make driver`,
-# `make bench`, `make fuzz`, `make memory`, `make map`, `make install PREFIX=..`. ARCH=aarch64 or ARCH=x86_64 says for which
+# `make bench`, `make fuzz`, `make memory`, `make carriers`, `make map`, `make install PREFIX=..`. ARCH=aarch64 or ARCH=x86_64 says for which
 # processor; without it, for this machine's own.
 
 CARGO = cargo --quiet
@@ -22,7 +22,7 @@ ROUNDS ?= 10
 
 export ARCH
 
-.PHONY: run test tools runner library driver bench fuzz memory map install clean
+.PHONY: run test tools runner carriers library driver bench fuzz memory map install clean
 
 # Runs an image by the proved runner, which rt builds as x86-64 code.
 run: tools runner
@@ -42,6 +42,10 @@ tools:
 # The runner program and what it rests on: rt builds what it has proved. What is proved already is not proved again.
 runner:
 	@tools/prove check runner
+
+# The programs that carry tables between the old layout and today's: target/bin/widen and target/bin/narrow, x86-64 code.
+carriers:
+	@tools/prove check widen narrow
 
 # The static library for C, built again when a source of it is newer.
 library: $(LIBRARY)
