@@ -11,7 +11,7 @@ clear-requires-2 : tie.Need-clear-requires-2
 clear-requires-2 c κs = search needs
 
 carry-tables-requires : tie.Need-carry-tables-requires
-carry-tables-requires c κs = (c .before .before .before .before .before .before .before .before .before .before .before .before .before .before .before .pre .0 .from, c .before .before .before .before .before .before .before .before .before .before .before .before .before .before .before .pre .0 .to, c .before .before .before .before .before .before .before .before .before .before .before .before .before .before .before .pre .0 .few)
+carry-tables-requires c κs = let b = c .before .before .before .before .before .before .before .before .before .before .before .before .before .before .before .pre .0 in (b .from, (b .to, b .few))
 
 answer-number-requires : tie.Need-answer-number-requires
 answer-number-requires c κs = search needs

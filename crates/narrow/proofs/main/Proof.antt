@@ -14,11 +14,11 @@ slice-aggregate-read-full c = search needs
 read-full-requires : tie.Need-read-full-requires
 read-full-requires c κs = search needs
 
-four-requires : tie.Need-four-requires
-four-requires c κs = search needs
-
 base-requires : tie.Need-base-requires
 base-requires c κs = search needs
+
+four-requires : tie.Need-four-requires
+four-requires c κs = search needs
 
 array-share-prefix-input : tie.Need-array-share-prefix-input
 array-share-prefix-input c = search needs
@@ -30,7 +30,7 @@ slice-aggregate-carry-input-2 : tie.Need-slice-aggregate-carry-input-2
 slice-aggregate-carry-input-2 c = search needs
 
 carry-input-requires : tie.Need-carry-input-requires
-carry-input-requires c κs = (rw (c .before .before .before .four .ensures, c .before .before .base .ensures) narrowing, omega (arith, c .before .before .before .before .before .before .before .large-buffer .ensures))
+carry-input-requires c κs = (rw (c .before .before .before .base .ensures, c .before .before .four .ensures) narrowing, omega (arith, c .before .before .before .before .before .before .before .large-buffer .ensures))
 
 array-share-prefix-out : tie.Need-array-share-prefix-out
 array-share-prefix-out c = search needs
@@ -51,8 +51,8 @@ main-spec =
     large-buffer-requires
     slice-aggregate-read-full
     read-full-requires
-    four-requires
     base-requires
+    four-requires
     array-share-prefix-input
     slice-aggregate-carry-input
     slice-aggregate-carry-input-2
