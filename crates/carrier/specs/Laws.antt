@@ -8,16 +8,13 @@ use native.Mathlib.Omega.{arith}
 use borrow.Author.Tests.{le-leb, eq-eqb}
 use lib.ListN.{length, length-append}
 use Rattle.meaning.specs.Basics.{isEmpty, ensure, _>>_, _>>=_}
-use Rattle.meaning.specs.Layout.{Tables, base, four}
+use Rattle.meaning.specs.Layout.{base, four}
 use Rattle.meaning.specs.Image.{expect}
-use Rattle.meaning.specs.Calls.{answerNumber}
 use Rattle.meaning.specs.ProvedSet.{fieldBytes}
-use Rattle.meaning.specs.declared.Layout.{Layout}
-use Rattle.meaning.specs.Laws.Tests.{choose-eq}
 use Rattle.laws.specs.Layout.{base-sized, four-sized}
 use Rattle.renewing.specs.Written.{field-written, length-field}
 use Rattle.run_input.specs.Input.{nodesTag, edgesTag, mostInput}
-use Rattle.carrier.specs.Carried.{tablesIn, tableFields, carriedText, carriedTables, printed, carriedInput}
+use Rattle.carrier.specs.Carried.{tablesIn, tableFields}
 use Rattle.carrier.specs.Rooms.{InputOf, Between}
 
 -- Layouts.
@@ -35,6 +32,7 @@ expect-written : (tag : ℕ) (payload more : List ℕ) → length payload < 6553
 unfolding expect ensure _>>_ _>>=_
 expect-written tag payload more h = rw (field-written tag payload more h, eq-eqb tag tag refl)
 
+-- the fields of two tables that are an input are read as those tables
 pub tables-again : (nodes edges : List ℕ) → InputOf (length nodes) (length edges)
     → tablesIn (tableFields nodes edges) ≡ some (record { nodes = nodes; edges = edges })
 unfolding tablesIn isEmpty ensure _>>_ _>>=_
@@ -42,13 +40,3 @@ tables-again nodes edges i =
     let size : length (tableFields nodes edges) ≤ mostInput = omega (arith, length-append (fieldBytes nodesTag nodes) (fieldBytes edgesTag edges), length-field nodesTag nodes, length-field edgesTag edges) in
     let last : expect edgesTag (fieldBytes edgesTag edges) ≡ some (record { tag = edgesTag; payload = edges; rest = [] }) = ap (expect edgesTag) (sym (append-nil (fieldBytes edgesTag edges))) ∙ expect-written edgesTag edges [] (omega arith) in
     rw (le-leb (length (tableFields nodes edges)) mostInput size, expect-written nodesTag nodes (fieldBytes edgesTag edges) (omega arith), last)
-
--- what is printed of tables that are carried is an input: the carried tables
-pub carried-again : (L M : Layout) (bs : List ℕ) (t : Tables ℕ ℕ) → tablesIn bs ≡ some t
-    → let c = carriedTables L M (t .nodes) (t .edges) in
-    answerNumber (c .answer) ≡ 0 → InputOf (length (c .nodes)) (length (c .edges))
-    → tablesIn (carriedInput L M bs) ≡ some (record { nodes = c .nodes; edges = c .edges })
-unfolding carriedInput printed carriedText
-carried-again L M bs t q z i =
-    let c = carriedTables L M (t .nodes) (t .edges) in
-    rw (q, choose-eq (answerNumber (c .answer)) 0 (tableFields (c .nodes) (c .edges)) _ z) (tables-again (c .nodes) (c .edges) i)

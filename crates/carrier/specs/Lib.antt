@@ -1,3 +1,4 @@
 pub mod Carried
 pub mod Rooms
 pub mod Laws
+pub mod Back
