@@ -13,7 +13,8 @@
 #include <stdlib.h>
 #include <string.h>
 
-enum { NODE = 20, EDGE = 24, ANY = 6 };
+enum { ATOM = 4, ATOMS = 8, ELEMENTS = 8, ANY = 6 };
+enum { NODE_HEAD = 4, EDGE_HEAD = 8, NODE = NODE_HEAD + ATOMS * ATOM, EDGE = EDGE_HEAD + ATOMS * ATOM };
 
 struct element {
     int variable; /* its number, or -1 for a constant */
@@ -23,7 +24,7 @@ struct element {
 struct item {
     int mark, root, source, target;
     int elements, lists;
-    struct element label[4];
+    struct element label[ELEMENTS];
 };
 
 struct operand {
@@ -202,18 +203,18 @@ static int label_agrees(struct search *s, int i, const uint8_t *atoms, int lengt
         const struct element *element = &item->label[e];
         int v = element->variable;
         if (v < 0) {
-            if (at >= length || four(atoms + 4 * at) != element->constant)
+            if (at >= length || four(atoms + ATOM * at) != element->constant)
                 return 0;
             at++;
         } else {
             int share = s->rule.types[v] == 2 ? length - (item->elements - item->lists) : 1;
             if (s->rule.first[v] == i && !(bound >> v & 1)) {
-                s->value[v].atoms = atoms + 4 * at;
+                s->value[v].atoms = atoms + ATOM * at;
                 s->value[v].length = share;
                 bound |= 1 << v;
             } else {
                 share = s->value[v].length;
-                if (length - at < share || memcmp(atoms + 4 * at, s->value[v].atoms, 4 * (size_t)share) != 0)
+                if (length - at < share || memcmp(atoms + ATOM * at, s->value[v].atoms, ATOM * (size_t)share) != 0)
                     return 0;
             }
             at += share;
@@ -324,7 +325,7 @@ static int next_like(const struct search *s, int i, int c)
         const uint8_t *node = s->nodes + NODE * c;
         if (node[0] && marks_agree(left->mark, node[1]) && (left->root == node[2] || either) &&
             (left->lists == 0 ? node[3] == left->elements : node[3] >= left->elements - left->lists) &&
-            !(one && four(node + 4) != left->label[0].constant))
+            !(one && four(node + NODE_HEAD) != left->label[0].constant))
             break;
     }
     return c;
@@ -337,7 +338,7 @@ static int node_fits(struct search *s, int i, int c)
     if (!unused(s, 0, i, c))
         return 0;
     s->at[i] = c;
-    return label_agrees(s, i, node + 4, node[3]) && linked(s, i) && can_go(s, i, c) && tests_hold(s, i + 1);
+    return label_agrees(s, i, node + NODE_HEAD, node[3]) && linked(s, i) && can_go(s, i, c) && tests_hold(s, i + 1);
 }
 
 static int edge_fits(struct search *s, int i, int a, int b, int c)
@@ -347,7 +348,7 @@ static int edge_fits(struct search *s, int i, int a, int b, int c)
     if (!runs(edge, a, b) || !marks_agree(left->mark, edge[1]) || !unused(s, s->rule.nodes, i, c))
         return 0;
     s->at[i] = c;
-    return label_agrees(s, i, edge + 8, edge[3]) && tests_hold(s, i + 1);
+    return label_agrees(s, i, edge + EDGE_HEAD, edge[3]) && tests_hold(s, i + 1);
 }
 
 /* The lowest slot from c on that an edge of the mark joins to slot p. */
@@ -453,7 +454,7 @@ int main(void)
     for (v = 0; v < s.rule.variables; v++) {
         printf(" =");
         for (i = 0; s.rule.first[v] < 12 && i < s.value[v].length; i++)
-            printf(" %u", (unsigned)four(s.value[v].atoms + 4 * i));
+            printf(" %u", (unsigned)four(s.value[v].atoms + ATOM * i));
     }
     puts("");
     return 0;

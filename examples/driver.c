@@ -85,7 +85,7 @@ static enum next handle(uint32_t answer)
     case NHIEMAVUT_NO_NODE_ROOM: /* lend longer tables: a graph that grows without end is the pass author's mistake */
     case NHIEMAVUT_NO_EDGE_ROOM:
         return GIVE_UP;
-    case NHIEMAVUT_LABEL_TOO_LARGE: /* the pass counts beyond 32 bits or makes a label of more than four atoms */
+    case NHIEMAVUT_LABEL_TOO_LARGE: /* the pass counts beyond 32 bits or makes a label of more than eight atoms */
         return GIVE_UP;
     case NHIEMAVUT_BAD_REPORT: /* 9 to 14: the driver lends wrong buffers */
     case NHIEMAVUT_BAD_NODES:

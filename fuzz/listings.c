@@ -15,12 +15,19 @@
 #ifdef PEER
 #include "peer.h"
 #define RUN peer_run
+enum { NODE = PEER_NODE_BYTES, EDGE = PEER_EDGE_BYTES, RECORD = PEER_RECORD_BYTES, MOST_RECORDS = PEER_MOST_RECORDS };
 #else
 #include "nhiemavut.h"
 #define RUN nhiemavut_run
+enum {
+    NODE = NHIEMAVUT_NODE_BYTES,
+    EDGE = NHIEMAVUT_EDGE_BYTES,
+    RECORD = NHIEMAVUT_RECORD_BYTES,
+    MOST_RECORDS = NHIEMAVUT_MOST_RECORDS
+};
 #endif
 
-enum { NODE = 20, EDGE = 24, RECORD = 28, MOST_RECORDS = 1024, LONGEST = 65536 };
+enum { LONGEST = 65536 };
 
 /* A buffer with forbidden pages on both sides of its room. */
 struct guarded {

@@ -6,12 +6,15 @@
  * have any pointer.
  *
  *   buffer    slot      most slots   a slot holds
- *   nodes     20 bytes  512          state, mark, root, label length, four atoms
- *   edges     24 bytes  1,024        state, mark, zero, label length, source (2), target (2), four atoms
- *   journal   28 bytes  1,024        kind, zero, slot number (2), the slot's bytes before the change
+ *   nodes     36 bytes  512          state, mark, root, label length, eight atoms
+ *   edges     40 bytes  1,024        state, mark, zero, label length, source (2), target (2), eight atoms
+ *   journal   44 bytes  1,024        kind, zero, slot number (2), the slot's bytes before the change
  *   report    8 bytes in all         steps (4), records (4)
  *
  * Numbers are big-endian, atoms signed 32-bit. A table may have no slots. A free slot is all zero.
+ *
+ * Old tables have room for four atoms in a label: their slots are as these but for the last four atoms, of 20 and 24 bytes.
+ * nhiemavut_widen and nhiemavut_narrow carry a graph from them and to them.
  */
 #ifndef NHIEMAVUT_H
 #define NHIEMAVUT_H
@@ -24,10 +27,15 @@ extern "C" {
 #endif
 
 enum {
-    NHIEMAVUT_NODE_BYTES = 20,
-    NHIEMAVUT_EDGE_BYTES = 24,
-    NHIEMAVUT_RECORD_BYTES = 28,
+    NHIEMAVUT_NODE_BYTES = 36,
+    NHIEMAVUT_EDGE_BYTES = 40,
+    NHIEMAVUT_RECORD_BYTES = 44,
     NHIEMAVUT_REPORT_BYTES = 8,
+    NHIEMAVUT_OLD_NODE_BYTES = 20, /* of old tables */
+    NHIEMAVUT_OLD_EDGE_BYTES = 24,
+    NHIEMAVUT_MOST_ATOMS = 8,
+    NHIEMAVUT_OLD_MOST_ATOMS = 4,
+    NHIEMAVUT_MOST_ELEMENTS = 8, /* of a label in a rule */
     NHIEMAVUT_MOST_NODES = 512,
     NHIEMAVUT_MOST_EDGES = 1024,
     NHIEMAVUT_MOST_RECORDS = 1024,
@@ -45,22 +53,24 @@ enum {
     NHIEMAVUT_NO_NODE_ROOM = 3,    /* too few node slots for the nodes that a rule adds */
     NHIEMAVUT_NO_EDGE_ROOM = 4,    /* too few edge slots for the edges that a rule adds */
     NHIEMAVUT_NO_RECORD_ROOM = 5,  /* too few journal slots for the records of a rule */
-    NHIEMAVUT_LABEL_TOO_LARGE = 6, /* a sum or difference leaves 32 bits, or a label has over four atoms */
+    NHIEMAVUT_LABEL_TOO_LARGE = 6, /* a sum or difference leaves 32 bits, or a label has over eight atoms */
 
-    /* a refused call: nothing is run or undone */
+    /* a refused call: nothing is run, undone or carried */
     NHIEMAVUT_BAD_REPORT = 9,      /* the report isn't 8 bytes; it is left as it was */
-    NHIEMAVUT_BAD_NODES = 10,      /* the node table's length is no multiple of its slot's, or has too many slots */
-    NHIEMAVUT_BAD_EDGES = 11,      /* the same of the edge table */
+    NHIEMAVUT_BAD_NODES = 10,      /* the node table's length is no multiple of its slot's, or it has too many slots; widen and
+                                      narrow: this of either node table, or one has more slots than the other */
+    NHIEMAVUT_BAD_EDGES = 11,      /* the same of the edge table, or of either */
     NHIEMAVUT_BAD_JOURNAL = 12,    /* the same of the journal */
     NHIEMAVUT_TOO_MUCH_FUEL = 13,  /* run: the fuel is over 1,000,000 */
     NHIEMAVUT_IMAGE_TOO_LONG = 14, /* run: the image has over 8,192 bytes */
-    NHIEMAVUT_BAD_HOST = 15,       /* run: a slot of either table breaks the layout */
+    NHIEMAVUT_BAD_HOST = 15,       /* run, widen, narrow: a slot of either table breaks the layout */
     NHIEMAVUT_BAD_FORM = 16,       /* run: the image isn't a program, or has if and try in the old form (0x52, 0x53) */
     NHIEMAVUT_BAD_REFERENCES = 17, /* run: a rule, a procedure, a variable or a node that it names isn't there or is misused */
     NHIEMAVUT_BAD_PLACEMENT = 18,  /* run: a break isn't in a loop body of its own procedure, or a guard is between them */
     NHIEMAVUT_BAD_DEPTH = 19,      /* run: calls of procedures form a ring, or nest commands over 16 deep */
-    NHIEMAVUT_BAD_RECORDS = 20     /* undo: the count is over the journal's records, or a counted record has a kind
+    NHIEMAVUT_BAD_RECORDS = 20,    /* undo: the count is over the journal's records, or a counted record has a kind
                                       other than 1 or 2, a second byte other than 0, or a slot outside its table */
+    NHIEMAVUT_LABEL_DOES_NOT_FIT = 26 /* narrow: a label has over four atoms */
 };
 
 /*
@@ -92,6 +102,27 @@ uint32_t nhiemavut_undo(uint8_t *nodes, size_t nodes_length,
                         uint8_t *journal, size_t journal_length,
                         uint32_t count,
                         uint8_t *report, size_t report_length);
+
+/*
+ * Carries the graph in two old tables to two tables of as many slots, so that its labels have room for eight atoms. Each slot
+ * keeps its number. What the tables that it is carried to hold before doesn't matter. Journals are not carried: undo before.
+ *
+ * Answers 0, with the same graph in the tables that it was carried to; or the lowest of 10, 11 and 15 that applies. A refused
+ * call leaves these tables as they were.
+ */
+uint32_t nhiemavut_widen(const uint8_t *nodes, size_t nodes_length,
+                         const uint8_t *edges, size_t edges_length,
+                         uint8_t *to_nodes, size_t to_nodes_length,
+                         uint8_t *to_edges, size_t to_edges_length);
+
+/*
+ * The same the other way, from tables to old ones. Answers 26 where a label has more than the four atoms that old tables have room
+ * for, and none of the numbers above applies.
+ */
+uint32_t nhiemavut_narrow(const uint8_t *nodes, size_t nodes_length,
+                          const uint8_t *edges, size_t edges_length,
+                          uint8_t *to_nodes, size_t to_nodes_length,
+                          uint8_t *to_edges, size_t to_edges_length);
 
 #ifdef __cplusplus
 }

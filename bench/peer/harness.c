@@ -11,12 +11,14 @@
 #ifdef PROVED
 #include "nhiemavut.h"
 #define CALL nhiemavut_run
+enum { RECORD = NHIEMAVUT_RECORD_BYTES, MOST_RECORDS = NHIEMAVUT_MOST_RECORDS };
 #else
 #include "peer.h"
 #define CALL peer_run
+enum { RECORD = PEER_RECORD_BYTES, MOST_RECORDS = PEER_MOST_RECORDS };
 #endif
 
-static uint8_t image[65537], nodes[65536], edges[65536], journal[1024 * 28], report[8];
+static uint8_t image[65537], nodes[65536], edges[65536], journal[MOST_RECORDS * RECORD], report[8];
 
 static uint32_t number(const uint8_t *p, unsigned n)
 {
@@ -58,7 +60,7 @@ int main(int argc, char **argv)
         part[i] = image + at + 3;
         at += 3 + size[i];
     }
-    size_t records = 28 * number(part[2], 2);
+    size_t records = RECORD * number(part[2], 2);
     uint32_t answer = 0;
     double limit = atof(argv[2]) * 1e9, start = now(), passed;
     unsigned long runs = 0;

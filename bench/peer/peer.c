@@ -3,7 +3,9 @@
 
 #include <string.h>
 
-enum { NODE = 20, EDGE = 24, RECORD = 28, ATOMS = 4, ANY = 6 };
+enum { ATOM = PEER_ATOM_BYTES, ATOMS = PEER_MOST_ATOMS, LABEL = PEER_LABEL_BYTES, ELEMENTS = 8, ANY = 6 };
+enum { NODE = PEER_NODE_BYTES, EDGE = PEER_EDGE_BYTES, RECORD = PEER_RECORD_BYTES };
+enum { NODE_HEAD = PEER_NODE_HEAD, EDGE_HEAD = PEER_EDGE_HEAD, RECORD_HEAD = PEER_RECORD_HEAD };
 
 /* Programs. */
 
@@ -19,7 +21,7 @@ struct element {
 
 struct item {
     uint8_t mark, root, source, target, length;
-    struct element label[4];
+    struct element label[ELEMENTS];
 };
 
 struct side {
@@ -115,7 +117,7 @@ static int read_label(struct reader p, struct item *m)
     while (left(&p) > 0) {
         struct reader q;
         int tag = next(&p, &q);
-        if (m->length == 4)
+        if (m->length == ELEMENTS)
             return 0;
         struct element *e = &m->label[m->length++];
         e->kind = (uint8_t)tag;
@@ -456,12 +458,17 @@ static int zeros(const uint8_t *p, size_t n)
     return n == 0;
 }
 
+static int label_keeps_layout(unsigned length, const uint8_t *atoms)
+{
+    return length <= ATOMS && zeros(atoms + ATOM * length, LABEL - ATOM * length);
+}
+
 static int keeps_layout(const struct host *h)
 {
     for (unsigned i = 0; i < h->node_slots; i++) {
         const uint8_t *p = h->nodes + i * NODE;
         if (p[0] == 0 ? !zeros(p, NODE)
-                      : p[0] != 1 || p[1] > 4 || p[2] > 1 || p[3] > 4 || !zeros(p + 4 + 4 * p[3], 16 - 4 * p[3]))
+                      : p[0] != 1 || p[1] > 4 || p[2] > 1 || !label_keeps_layout(p[3], p + NODE_HEAD))
             return 0;
     }
     for (unsigned i = 0; i < h->edge_slots; i++) {
@@ -472,7 +479,7 @@ static int keeps_layout(const struct host *h)
             continue;
         }
         unsigned s = number(p + 4, 2), t = number(p + 6, 2);
-        if (p[0] != 1 || !(p[1] <= 3 || p[1] == 5) || p[2] != 0 || p[3] > 4 || !zeros(p + 8 + 4 * p[3], 16 - 4 * p[3]))
+        if (p[0] != 1 || !(p[1] <= 3 || p[1] == 5) || p[2] != 0 || !label_keeps_layout(p[3], p + EDGE_HEAD))
             return 0;
         if (s >= h->node_slots || t >= h->node_slots || h->nodes[s * NODE] != 1 || h->nodes[t * NODE] != 1)
             return 0;
@@ -513,26 +520,26 @@ static int label_agrees(struct search *s, const struct item *m, unsigned length,
     for (unsigned i = 0; i < m->length; i++) {
         const struct element *e = &m->label[i];
         if (e->kind == 0x30) {
-            if (number(atoms, 4) != e->a.value)
+            if (number(atoms, ATOM) != e->a.value)
                 return 0;
-            atoms += 4;
+            atoms += ATOM;
             continue;
         }
         unsigned v = e->a.value, n = r->type[v] == 2 ? spare : 1;
         if (!s->given[v]) {
             s->value[v].length = n;
             for (unsigned j = 0; j < n; j++)
-                s->value[v].atom[j] = number(atoms + 4 * j, 4);
+                s->value[v].atom[j] = number(atoms + ATOM * j, ATOM);
             s->given[v] = 1;
             *fresh |= 1u << v;
         } else {
             if (s->value[v].length != n)
                 return 0;
             for (unsigned j = 0; j < n; j++)
-                if (s->value[v].atom[j] != number(atoms + 4 * j, 4))
+                if (s->value[v].atom[j] != number(atoms + ATOM * j, ATOM))
                     return 0;
         }
-        atoms += 4 * n;
+        atoms += ATOM * n;
     }
     return 1;
 }
@@ -695,7 +702,7 @@ static int node_fits(struct search *s, unsigned i, unsigned c, unsigned *fresh)
     for (unsigned j = 0; j < i; j++)
         if (s->slot[j] == c)
             return 0;
-    if (!label_agrees(s, m, p[3], p + 4, fresh))
+    if (!label_agrees(s, m, p[3], p + NODE_HEAD, fresh))
         return 0;
     s->slot[i] = c;
     return linked(s, i) && can_go(s, i, c) && tests_so_far(s, i + 1);
@@ -711,7 +718,7 @@ static int edge_fits(struct search *s, unsigned k, unsigned x, unsigned *fresh)
     for (unsigned j = 0; j < k; j++)
         if (s->slot[r->left.nodes + j] == x)
             return 0;
-    if (!label_agrees(s, m, p[3], p + 8, fresh))
+    if (!label_agrees(s, m, p[3], p + EDGE_HEAD, fresh))
         return 0;
     s->slot[r->left.nodes + k] = x;
     return tests_so_far(s, r->left.nodes + k + 1);
@@ -721,7 +728,7 @@ static int edge_fits(struct search *s, unsigned k, unsigned x, unsigned *fresh)
  * Marks the slots that left node i can have by its first left edge to an earlier node; 0 where it has no such edge, so that
  * every slot is a candidate.
  */
-static int reach(const struct search *s, unsigned i, uint8_t reached[512])
+static int reach(const struct search *s, unsigned i, uint8_t reached[PEER_MOST_NODES])
 {
     const struct host *h = s->host;
     const struct item *e = s->rule->left.edge, *end = e + s->rule->left.edges;
@@ -752,7 +759,7 @@ static int place(struct search *s, unsigned i)
                 return 0;
         return r->interface == n || !dangling(s);
     }
-    uint8_t reached[512];
+    uint8_t reached[PEER_MOST_NODES];
     int some = i < n && reach(s, i, reached);
     unsigned most = i < n ? s->host->node_slots : s->host->edge_slots;
     for (unsigned c = 0; c < most; c++) {
@@ -784,10 +791,10 @@ static void record(struct host *h, unsigned kind, unsigned slot)
     p[2] = (uint8_t)(slot >> 8);
     p[3] = (uint8_t)slot;
     if (kind == 1) {
-        memcpy(p + 4, h->nodes + slot * NODE, NODE);
-        memset(p + 24, 0, 4);
+        memcpy(p + RECORD_HEAD, h->nodes + slot * NODE, NODE);
+        memset(p + RECORD_HEAD + NODE, 0, EDGE - NODE);
     } else {
-        memcpy(p + 4, h->edges + slot * EDGE, EDGE);
+        memcpy(p + RECORD_HEAD, h->edges + slot * EDGE, EDGE);
     }
 }
 
@@ -823,10 +830,10 @@ static int label_value(const struct search *s, const struct item *m, struct valu
 static void put_label(uint8_t *length, uint8_t *atoms, const struct value *v)
 {
     *length = (uint8_t)v->length;
-    memset(atoms, 0, 4 * ATOMS);
+    memset(atoms, 0, LABEL);
     for (unsigned j = 0; j < v->length; j++)
-        for (unsigned b = 0; b < 4; b++)
-            atoms[4 * j + b] = (uint8_t)(v->atom[j] >> (24 - 8 * b));
+        for (unsigned b = 0; b < ATOM; b++)
+            atoms[ATOM * j + b] = (uint8_t)(v->atom[j] >> (24 - 8 * b));
 }
 
 static unsigned free_slots(const uint8_t *table, unsigned slots, unsigned size)
@@ -855,7 +862,7 @@ static void put_node(struct host *h, unsigned slot, const struct item *m, const 
         p[1] = m->mark;
     if (!keeps_flag)
         p[2] = m->root;
-    put_label(p + 3, p + 4, v);
+    put_label(p + 3, p + NODE_HEAD, v);
 }
 
 /* 0, or the number that ends the run */
@@ -900,7 +907,7 @@ static unsigned apply(struct host *h, const struct search *s)
         p[5] = (uint8_t)a;
         p[6] = (uint8_t)(b >> 8);
         p[7] = (uint8_t)b;
-        put_label(p + 3, p + 8, &value[to->nodes + j]);
+        put_label(p + 3, p + EDGE_HEAD, &value[to->nodes + j]);
     }
     return 0;
 }
@@ -921,9 +928,9 @@ static void undo_to(struct host *h, unsigned mark)
         uint8_t *p = h->journal + --h->records * RECORD;
         unsigned slot = number(p + 2, 2);
         if (p[0] == 1)
-            memcpy(h->nodes + slot * NODE, p + 4, NODE);
+            memcpy(h->nodes + slot * NODE, p + RECORD_HEAD, NODE);
         else
-            memcpy(h->edges + slot * EDGE, p + 4, EDGE);
+            memcpy(h->edges + slot * EDGE, p + RECORD_HEAD, EDGE);
         memset(p, 0, RECORD);
     }
 }
@@ -1002,11 +1009,11 @@ static unsigned refusal(const struct host *h, size_t nodes, size_t edges, size_t
                         struct program *program)
 {
     struct faults f = {0, 0, 0};
-    if (nodes % NODE != 0 || nodes / NODE > 512)
+    if (nodes % NODE != 0 || nodes / NODE > PEER_MOST_NODES)
         return 10;
-    if (edges % EDGE != 0 || edges / EDGE > 1024)
+    if (edges % EDGE != 0 || edges / EDGE > PEER_MOST_EDGES)
         return 11;
-    if (journal % RECORD != 0 || journal / RECORD > 1024)
+    if (journal % RECORD != 0 || journal / RECORD > PEER_MOST_RECORDS)
         return 12;
     if (fuel > 1000000)
         return 13;

@@ -19,3 +19,4 @@ pub const REFERENCES: u32 = 17;
 pub const PLACEMENT: u32 = 18;
 pub const DEPTH: u32 = 19;
 pub const UNDO: u32 = 20;
+pub const CARRIED_LABEL: u32 = 26;

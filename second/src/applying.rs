@@ -90,6 +90,10 @@ impl Evaluation<'_> {
                 }
             }
         }
+        self.observer.sees(Event::LabelMade {
+            elements: elements.len(),
+            atoms: atoms.len(),
+        });
         self.layout.holds(atoms.len()).then(|| Label::of(&atoms))
     }
 

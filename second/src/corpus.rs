@@ -20,6 +20,8 @@ mod groupings;
 mod hosts;
 mod large;
 mod lefts;
+mod lengths;
+mod long_labels;
 mod mode_programs;
 mod modes;
 mod narrow;
@@ -55,7 +57,7 @@ pub const IMAGE_TAG: u8 = 0x06;
 
 /// The seed of the stored corpus, and how many of its images come from there.
 pub const STORED_SEED: u64 = 1;
-pub const STORED_COUNT: u64 = 2844;
+pub const STORED_COUNT: u64 = 2939;
 
 /// One image among so many is a large one.
 const LARGE_EVERY: u64 = 200;

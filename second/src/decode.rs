@@ -137,9 +137,12 @@ fn edge(reader: &mut Reader) -> Read<RuleEdge> {
     })
 }
 
-/// The rest of a node or an edge: 0 to 4 elements.
+/// What is expected where a label has more elements than there may be.
+pub const MOST_ELEMENTS: &str = "at most 8 label elements";
+
+/// The rest of a node or an edge: 0 to 8 elements.
 fn label(reader: &mut Reader) -> Read<Vec<Element>> {
-    reader.rest(limit::ELEMENTS, "at most 4 label elements", element)
+    reader.rest(limit::ELEMENTS, MOST_ELEMENTS, element)
 }
 
 fn element(reader: &mut Reader) -> Read<Element> {

@@ -1,7 +1,12 @@
 //! What runs exercise: an observer that counts.
 
+use crate::layout::Layout;
 use crate::observer::{Event, Observer};
 use crate::tree::{mark, Command, Element, Mode, Relation, Rule, Test, TestKind, VariableType};
+
+/// The least length of a label that old tables can't hold, and how many such lengths there are.
+pub const FIRST_LONG: usize = Layout::FOUR.atoms + 1;
+pub const LONG: usize = Layout::BASE.atoms - Layout::FOUR.atoms;
 
 #[derive(Clone, Debug, Default, PartialEq, Eq)]
 pub struct Exercised {
@@ -45,6 +50,12 @@ pub struct Exercised {
     pub unrooted_roots_deleted: u64,
     /// Flags of roots that an application keeps, since the rule has the node unrooted on both sides.
     pub root_flags_kept: u64,
+    /// Left labels in matches by their elements, and values of list variables by their atoms, both from `FIRST_LONG` on.
+    pub left_elements: [u64; LONG],
+    pub list_atoms: [u64; LONG],
+    /// Right labels that were evaluated by their elements from `FIRST_LONG` on, and by their atoms from there to one too many.
+    pub right_elements: [u64; LONG],
+    pub label_atoms: [u64; LONG + 1],
     /// For each guard and body that has begun and not ended, the applications before it.
     applications_before: Vec<u64>,
     /// The calls that have begun and not ended.
@@ -81,6 +92,14 @@ impl Observer for Exercised {
             Event::Dangled => self.dangling_refusals += 1,
             Event::Tested(tests, held, at_loop) => self.tested(tests, held, at_loop),
             Event::Matched(rule, on_roots) => self.matched(rule, on_roots),
+            Event::Bound(values) => {
+                let bound = values.iter().flatten();
+                bound.for_each(|value| count_long(&mut self.list_atoms, value.len()));
+            }
+            Event::LabelMade { elements, atoms } => {
+                count_long(&mut self.right_elements, elements);
+                count_long(&mut self.label_atoms, atoms);
+            }
             Event::Evaluated(rule, element) => {
                 *self.elements.of(element, &rule.variables) += 1;
             }
@@ -157,11 +176,23 @@ impl Exercised {
             Some(Mode::Preserving) => self.modes_matched[1] += 1,
             None => {}
         }
+        let labels = rule.left.nodes.iter().map(|node| &node.label);
+        for label in labels.chain(rule.left.edges.iter().map(|edge| &edge.label)) {
+            count_long(&mut self.left_elements, label.len());
+        }
         let nodes = rule.left.nodes.iter().zip(on_roots).enumerate();
         for (number, _) in nodes.filter(|(_, (left, on_root))| !left.root && **on_root) {
             self.unrooted_on_roots += 1;
             self.unrooted_roots_deleted += u64::from(number >= usize::from(rule.interface));
         }
+    }
+}
+
+/// Adds 1 to the count of this length, where it is a long one that is counted.
+pub fn count_long(counts: &mut [u64], length: usize) {
+    let place = length.checked_sub(FIRST_LONG);
+    if let Some(count) = place.and_then(|place| counts.get_mut(place)) {
+        *count += 1;
     }
 }
 
@@ -268,6 +299,31 @@ mod tests {
         assert_eq!(exercised.unrooted_on_roots, 3);
         assert_eq!(exercised.unrooted_roots_deleted, 1);
         assert_eq!((exercised.roots_matched, exercised.root_flags_kept), (4, 1));
+    }
+
+    #[test]
+    fn long_labels_count_by_their_length() {
+        use crate::build::{edge, node, rule};
+        let label = |elements: usize| vec![Element::Constant(0); elements];
+        let left = (
+            vec![node(0, &label(4)), node(0, &label(5))],
+            vec![edge(0, 0, 1, &label(8))],
+        );
+        let rule = rule(left, (vec![], vec![]), 0);
+        let atoms = [0; 7];
+        let made = |elements, atoms| Event::LabelMade { elements, atoms };
+        let exercised = seen(&[
+            Event::Matched(&rule, &[false, false]),
+            Event::Bound(&[None, Some(&atoms[..4]), Some(&atoms[..6]), Some(&atoms)]),
+            made(2, 9),
+            made(8, 8),
+            made(5, 10),
+            made(4, 4),
+        ]);
+        assert_eq!(exercised.left_elements, [1, 0, 0, 1]);
+        assert_eq!(exercised.list_atoms, [0, 1, 1, 0]);
+        assert_eq!(exercised.right_elements, [1, 0, 0, 1]);
+        assert_eq!(exercised.label_atoms, [0, 0, 0, 1, 1]);
     }
 
     #[test]

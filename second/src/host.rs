@@ -214,6 +214,7 @@ fn atoms_in_words(count: usize) -> String {
     match count {
         1 => "one atom".to_string(),
         4 => "four atoms".to_string(),
+        8 => "eight atoms".to_string(),
         _ => format!("{count} atoms"),
     }
 }

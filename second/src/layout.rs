@@ -36,13 +36,19 @@ pub struct Layout {
 }
 
 impl Layout {
-    /// The layout of document 01.
+    /// The layout of the calls.
     pub const BASE: Layout = Layout {
-        atoms: 4,
+        atoms: 8,
         width: 2,
         most_nodes: 512,
         most_edges: 1024,
         most_records: 1024,
+    };
+
+    /// The layout of old tables, which are carried to the base layout and back.
+    pub const FOUR: Layout = Layout {
+        atoms: 4,
+        ..Layout::BASE
     };
 
     /// Whether a label can have so many atoms.

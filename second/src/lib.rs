@@ -5,7 +5,7 @@
 //! where a change may have to be given back.
 //!
 //! No modules import each other in a ring. Those of the interpreter rest on the ones before them: `layout`, `host`,
-//! `journal`, `matching`, `applying`, `commands`, `calls`, `listing`. What runs exercise is counted from outside, by an
+//! `journal`, `matching`, `applying`, `commands`, `calls`, `listing`, `carrying`. What runs exercise is counted from outside, by an
 //! `observer`.
 
 pub mod build;
@@ -16,6 +16,7 @@ pub mod tree;
 pub mod answer;
 pub mod applying;
 pub mod calls;
+pub mod carrying;
 pub mod commands;
 pub mod decode;
 pub mod depth;

@@ -58,7 +58,7 @@ pub fn read_input_at(layout: &Layout, bytes: &[u8]) -> Option<RunnerInput> {
 }
 
 /// The payload of the field with this tag at the front of the bytes, and the bytes behind it.
-fn field(tag: u8, bytes: &[u8]) -> Option<(&[u8], &[u8])> {
+pub fn field(tag: u8, bytes: &[u8]) -> Option<(&[u8], &[u8])> {
     let (head, rest) = bytes.split_at_checked(3)?;
     let length = usize::from(u16::from_be_bytes([head[1], head[2]]));
     match head[0] == tag {

@@ -48,6 +48,7 @@ pub fn first_match_observed<'h>(
     let is_root = |slot: &usize| host.node(*slot).is_some_and(|node| node.root);
     let on_roots: Vec<bool> = found.nodes.iter().map(is_root).collect();
     observer.sees(Event::Matched(rule, &on_roots));
+    observer.sees(Event::Bound(&found.values));
     Some(found)
 }
 

@@ -25,8 +25,12 @@ pub enum Event<'a> {
     Tested(&'a [Test], &'a [bool], &'a [bool]),
     /// A match of the rule was found; whether each left node is on a root.
     Matched(&'a Rule, &'a [bool]),
+    /// The values of the variables in the match that was found; a variable that isn't on the left has none.
+    Bound(&'a [Option<&'a [i32]>]),
     /// An element of one of the rule's right labels is evaluated.
     Evaluated(&'a Rule, &'a Element),
+    /// A right label of so many elements came to so many atoms, which may be too many to hold.
+    LabelMade { elements: usize, atoms: usize },
     /// A node keeps this root flag, since a preserving rule has it unrooted on both sides.
     RootFlagKept(bool),
     /// A new item takes a slot; the slots of the left items of its kind.

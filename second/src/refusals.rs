@@ -1,6 +1,7 @@
 //! Inputs that are refused, one for each clause of document 01 that can refuse: each stands beside an
 //! accepted input from which it differs in that clause alone. The numbers come from the table of answers.
 
+mod carrying;
 mod depth;
 mod form;
 mod form_of_commands;
@@ -23,6 +24,7 @@ use crate::listing::INPUT_BYTES;
 use crate::tree::{self, mark, Command, Program};
 
 pub use crate::calls::{RunCall, UndoCall};
+pub use carrying::{carrying_refused_for, of_carrying, Carrying};
 pub use runner::of_runner;
 pub use undo::{of_undo, undo_refused_for};
 

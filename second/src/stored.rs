@@ -1,6 +1,7 @@
 //! Stored inputs of the test programs that run proved code, with what each must write: a folder of a program holds both as
 //! `stdin` and `stdout`. What must be written is this interpreter's answer.
 
+mod carryings;
 mod matches;
 
 use std::fmt::Write;
@@ -13,6 +14,7 @@ use crate::layout::Layout;
 use crate::listing;
 use crate::refusals::{self, RunCall, UndoCall};
 
+pub use carryings::{carry_cases, carry_calls, narrow, widen};
 pub use matches::{match_bench, match_cases, seen as seen_by_matches};
 
 /// The layout of the buffers.
@@ -21,7 +23,7 @@ const LAYOUT: &Layout = &Layout::BASE;
 /// What a test program reads and what it must write.
 pub struct Stored {
     pub stdin: Vec<u8>,
-    pub stdout: String,
+    pub stdout: Vec<u8>,
 }
 
 /// The stored inputs by the name of their program.
@@ -33,28 +35,35 @@ pub fn named(name: &str) -> Option<Stored> {
         "refusal_cases" => Some(refusal_cases()),
         "match_cases" => Some(match_cases()),
         "match_bench" => Some(match_bench()),
+        "carry_cases" => Some(carry_cases()),
+        "widen" => Some(widen()),
+        "narrow" => Some(narrow()),
         _ => None,
     }
 }
 
-pub const NAMES: [&str; 6] = ["corpus", "match_bench", "match_cases", "refusal_cases", "runner", "undo_cases"];
+pub const NAMES: [&str; 9] =
+    ["carry_cases", "corpus", "match_bench", "match_cases", "narrow", "refusal_cases", "runner", "undo_cases", "widen"];
 
 /// All images of the stored corpus, and their listings one behind the other.
 pub fn stored_corpus() -> Stored {
     let images = corpus::stored_images();
     let parts: Vec<&[u8]> = images.iter().map(Vec::as_slice).collect();
-    Stored { stdin: corpus::joined(&images), stdout: corpus::listings(&parts) }
+    Stored { stdin: corpus::joined(&images), stdout: corpus::listings(&parts).into_bytes() }
 }
 
 /// Case P of document 01, whose number among the images of every seed is 16.
 pub fn case_p() -> Stored {
     let image = corpus::image(corpus::STORED_SEED, 16);
-    let stdout = listing::listing(&image);
+    let stdout = listing::listing(&image).into_bytes();
     Stored { stdin: image, stdout }
 }
 
 /// What a test program reads at most.
 const MOST_BYTES: usize = 262_144;
+
+/// The most bytes that the tables of a case have together.
+const MOST_TABLE_BYTES: usize = 60_000;
 
 /// Drawn images whose runs are looked at, and how long one may be.
 const DRAWN: u64 = 400;
@@ -70,7 +79,7 @@ pub fn undo_cases() -> Stored {
     }
     let runs = corpus::mode_programs().into_iter().map(run_call).chain(drawn_calls());
     calls.extend(runs.flat_map(|run| undone_after(&run)));
-    calls.retain(|call| call.journal.len() + call.nodes.len() + call.edges.len() < 30_000);
+    calls.retain(|call| call.journal.len() + call.nodes.len() + call.edges.len() < MOST_TABLE_BYTES);
     let stdin = calls.iter().flat_map(undo_case).collect();
     let mut stdout = String::new();
     for call in &calls {
@@ -81,7 +90,7 @@ pub fn undo_cases() -> Stored {
         }
         stdout.push('\n');
     }
-    Stored { stdin, stdout }
+    Stored { stdin, stdout: stdout.into_bytes() }
 }
 
 /// Undo of a run's journal: all of its records, and all but the last.
@@ -147,7 +156,7 @@ pub fn refusal_cases() -> Stored {
         stdin.extend(case);
         writeln!(stdout, "{}", refused_by(call)).expect("a string takes all");
     }
-    Stored { stdin, stdout }
+    Stored { stdin, stdout: stdout.into_bytes() }
 }
 
 fn on_empty_tables(call: RunCall) -> RunCall {

@@ -29,7 +29,7 @@ pub mod limit {
     pub const VARIABLES: usize = 6;
     pub const NODES: usize = 6;
     pub const EDGES: usize = 6;
-    pub const ELEMENTS: usize = 4;
+    pub const ELEMENTS: usize = 8;
     pub const TESTS: usize = 4;
     pub const RULE_NUMBERS: usize = 8;
     pub const COMMANDS: usize = 16;

@@ -63,7 +63,7 @@ fn the_stored_corpus_exercises_everything() {
     let corpus = stored("stdin");
     let parts = split(&corpus).unwrap();
     let figures = Statistics::of(&parts);
-    assert!(corpus.len() <= 2_510_000, "{} bytes", corpus.len());
+    assert!(corpus.len() <= 3_500_000, "{} bytes", corpus.len());
     for answer in [0, 1, 2, 3, 4, 5, 6, 10, 11, 13, 14, 15, 16, 17, 18, 19] {
         assert!(
             figures.answers.contains_key(&answer),
@@ -113,7 +113,7 @@ fn the_stored_corpus_reaches_the_limits() {
     };
     assert!(inputs
         .iter()
-        .any(|input| input.nodes.len() == 512 * 20 && input.edges.len() == 1024 * 24));
+        .any(|input| input.nodes.len() == 512 * 36 && input.edges.len() == 1024 * 40));
     assert!(inputs.iter().any(|input| input.program.len() == 8192));
     assert!(inputs.iter().any(|input| input.fuel == 1_000_000));
     assert!(inputs.iter().any(|input| input.records == 1024));
@@ -254,6 +254,29 @@ fn drawn_images_have_procedures_and_damaged_ones() {
         at("one byte and nothing more", 0),
     ];
     assert!(found.iter().all(|count| *count >= 2), "{found:?}");
+}
+
+/// Long labels in hosts and rules that are drawn, right labels of the most atoms and of one too many, and what is refused.
+#[test]
+fn drawn_images_have_long_labels_and_damaged_ones() {
+    let drawn = drawn_images(SEED, 6000);
+    let parts: Vec<&[u8]> = drawn.iter().map(Vec::as_slice).collect();
+    let figures = Statistics::of(&parts);
+    let least = |names: &[&str], lengths: std::ops::RangeInclusive<u32>, least: u64| {
+        for name in names {
+            for length in lengths.clone() {
+                let counter = figures.counter(&format!("{name} {length}"));
+                assert!(counter.images >= least, "{counter:?}");
+            }
+        }
+    };
+    least(&["node label atoms", "edge label atoms"], 5..=8, 100);
+    least(&["left elements", "right elements"], 5..=8, 100);
+    least(&["list variable atoms", "right label atoms"], 5..=8, 100);
+    least(&["right label atoms"], 9..=9, 30);
+    for name in ["refused for 9 atoms", "refused for 9 elements", "old tables, answer 10", "old tables, answer 11", "old tables, answer 15"] {
+        assert!(figures.counter(name).images >= 2, "{:?}", figures.counter(name));
+    }
 }
 
 /// Answers 17, 18 and 19 for what is wrong with calls.

@@ -66,7 +66,7 @@ fn a_table_written_at_another_layout_is_read_back_as_the_same_graph() {
         graph().node_table(&Layout::BASE),
         graph().edge_table(&Layout::BASE),
     );
-    assert_eq!((nodes.len(), edges.len()), (3 * 20, 2 * 24));
+    assert_eq!((nodes.len(), edges.len()), (3 * 36, 2 * 40));
     assert_eq!(Host::read(&Layout::BASE, &nodes, &edges), Ok(graph()));
 }
 
@@ -75,10 +75,15 @@ fn a_label_longer_than_the_layouts_breaks_it() {
     let long = [1, 0, 0, 2, 0, 0, 0, 0];
     let reason = Host::read(&SMALL, &long, &[]).unwrap_err();
     assert_eq!(reason, "node 0: its label is longer than one atom");
-    let mut long = [0; 20];
-    (long[0], long[3]) = (1, 5);
-    let reason = Host::read(&Layout::BASE, &long, &[]).unwrap_err();
-    assert_eq!(reason, "node 0: its label is longer than four atoms");
+    let reason = |layout: &Layout, length: u8| {
+        let mut long = vec![0; layout.node_length()];
+        (long[0], long[3]) = (1, length);
+        Host::read(layout, &long, &[]).unwrap_err()
+    };
+    assert_eq!(
+        [reason(&Layout::FOUR, 5), reason(&Layout::BASE, 9)],
+        ["four", "eight"].map(|most| format!("node 0: its label is longer than {most} atoms"))
+    );
 }
 
 /// Case P's program: as long as possible grey x to grey y becomes red x, blue x + y, with the edge turned round.
@@ -184,8 +189,12 @@ fn a_label_over_the_layouts_atoms_answers_6() {
         [0, 0, 6, 6]
     );
     assert_eq!(
-        [0, 1, 2, 4].map(|atoms| answer(&Layout::BASE, atoms)),
-        [0; 4]
+        [0, 4, 5, 8].map(|atoms| answer(&Layout::FOUR, atoms)),
+        [0, 0, 6, 6]
+    );
+    assert_eq!(
+        [0, 1, 4, 5, 8].map(|atoms| answer(&Layout::BASE, atoms)),
+        [0; 5]
     );
 }
 
@@ -206,10 +215,10 @@ fn lengths_are_refused_by_the_layouts_numbers() {
     assert_eq!(answer(129 * 8, 255 * 10, 255 * 12), 10);
     assert_eq!(answer(128 * 8, 256 * 10, 255 * 12), 11);
     assert_eq!(answer(128 * 8, 255 * 10, 256 * 12), 12);
-    assert_eq!(
-        [answer(20, 0, 0), answer(0, 24, 0), answer(0, 0, 28)],
-        [10, 11, 12]
-    );
+    let other = Layout::FOUR;
+    assert_eq!(answer(other.node_length(), 0, 0), 10);
+    assert_eq!(answer(0, other.edge_length(), 0), 11);
+    assert_eq!(answer(0, 0, other.record_length()), 12);
 }
 
 #[test]

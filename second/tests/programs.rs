@@ -16,6 +16,7 @@ use purposes::{demand, purpose, Left};
 
 use second::calls::{self, Outcome};
 use second::families::{self, assembled, Input, ProgramRun, Published, PROGRAMS};
+use second::layout::Layout;
 use second::tree::{mark, Operand, Relation, Test, TestKind};
 use second::{encode, text};
 
@@ -26,7 +27,7 @@ fn image_of(program: &Published) -> Vec<u8> {
 }
 
 fn run(run: &ProgramRun, image: &[u8]) -> Outcome {
-    let journal = vec![0; usize::from(run.records) * 28];
+    let journal = vec![0; usize::from(run.records) * Layout::BASE.record_length()];
     calls::run(&run.nodes, &run.edges, &journal, image, run.fuel, &[0; 8])
 }
 

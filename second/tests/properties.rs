@@ -17,6 +17,9 @@ use second::random::Random;
 use second::tree::Rule;
 use std::ops::RangeInclusive;
 
+const BASE: Layout = Layout::BASE;
+const RECORD: usize = BASE.record_length();
+
 /// The samples whose runs answer so, with what they leave.
 fn answered(answers: RangeInclusive<u32>) -> impl Iterator<Item = (Sample, Outcome)> {
     let run = samples().map(|sample| {
@@ -104,14 +107,14 @@ fn more_room_and_fuel_change_nothing_after_0_1_and_6() {
             let free = most - bytes / slot;
             slot * random.between(0, free.min(9))
         };
-        let nodes = more(sample.nodes.len(), 20, 512);
-        let edges = more(sample.edges.len(), 24, 1024);
-        let journal = more(sample.records * 28, 28, 1024);
+        let nodes = more(sample.nodes.len(), BASE.node_length(), BASE.most_nodes);
+        let edges = more(sample.edges.len(), BASE.edge_length(), BASE.most_edges);
+        let journal = more(sample.records * RECORD, RECORD, BASE.most_records);
         let fuel = sample.fuel + more(sample.fuel as usize, 1, 1_000_000) as u32;
         let larger = run(
             &with_zeros(&sample.nodes, nodes),
             &with_zeros(&sample.edges, edges),
-            &vec![0xEE; sample.records * 28 + journal],
+            &vec![0xEE; sample.records * RECORD + journal],
             &sample.image,
             fuel,
             &[0xEE; 8],
@@ -159,7 +162,7 @@ fn answers_1_to_6_give_back_the_graph_and_a_zero_journal() {
     for (sample, outcome) in answered(1..=6) {
         assert_eq!(outcome.nodes, sample.nodes);
         assert_eq!(outcome.edges, sample.edges);
-        assert_eq!(outcome.journal, vec![0; sample.records * 28]);
+        assert_eq!(outcome.journal, vec![0; sample.records * RECORD]);
         assert_eq!(numbers(&outcome).2, 0);
     }
 }
@@ -181,9 +184,9 @@ fn a_result_keeps_the_layout_and_its_journal_ends_in_zeros() {
         assert_eq!(host.edge_table(&Layout::BASE), outcome.edges);
         let (_, _, records) = numbers(&outcome);
         assert!(records as usize <= sample.records);
-        let (counted, behind) = outcome.journal.split_at(records as usize * 28);
+        let (counted, behind) = outcome.journal.split_at(records as usize * RECORD);
         assert!(counted
-            .chunks(28)
+            .chunks(RECORD)
             .all(|record| [1, 2].contains(&record[0]) && record[1] == 0));
         assert!(behind.iter().all(|byte| *byte == 0));
     }
@@ -274,7 +277,7 @@ fn damaged(seed: u64) -> Damaged {
             answer: 0,
             nodes: sample.nodes.clone(),
             edges: sample.edges.clone(),
-            journal: vec![0xEE; sample.records * 28],
+            journal: vec![0xEE; sample.records * RECORD],
             report: vec![0xEE; 8],
         },
         program: sample.image,

@@ -136,11 +136,12 @@ fn undo_looks_at_counted_records_and_lengths_alone() {
     call.nodes.fill(0xFF);
     call.edges.fill(0xFF);
     call.count = 2;
-    call.journal[2 * 28..].fill(0xFF);
+    let counted = 2 * Layout::BASE.record_length();
+    call.journal[counted..].fill(0xFF);
     let outcome = call.outcome();
     assert_eq!(outcome.answer, 0);
     assert_eq!(outcome.report, [0, 0, 0, 0, 0, 0, 0, 2]);
-    assert_eq!(outcome.journal, [[0; 56], [0xFF; 56]].concat());
+    assert_eq!(outcome.journal, [vec![0; counted], vec![0xFF; counted]].concat());
 }
 
 #[test]

@@ -2,6 +2,7 @@
 
 use std::path::Path;
 
+use second::carrying::Way;
 use second::stored;
 
 fn folder(name: &str) -> std::path::PathBuf {
@@ -14,13 +15,17 @@ fn stored_inputs_and_outputs_are_what_this_interpreter_gives() {
         let stored = stored::named(name).expect("a listed name is known");
         let file = |part: &str| std::fs::read(folder(name).join(part)).expect("a test program has stored inputs");
         assert!(file("stdin") == stored.stdin, "{name}: stdin differs; write it anew by `second stored {name} FOLDER`");
-        assert!(file("stdout") == stored.stdout.as_bytes(), "{name}: stdout differs");
+        assert!(file("stdout") == stored.stdout, "{name}: stdout differs");
     }
+}
+
+fn text(stored: stored::Stored) -> String {
+    String::from_utf8(stored.stdout).expect("lines of text")
 }
 
 #[test]
 fn undo_cases_have_every_answer_of_undo() {
-    let text = stored::undo_cases().stdout;
+    let text = text(stored::undo_cases());
     for answer in [0, 9, 10, 11, 12, 20] {
         assert!(text.lines().any(|line| line.starts_with(&format!("{answer} "))), "no case answers {answer}");
     }
@@ -28,7 +33,7 @@ fn undo_cases_have_every_answer_of_undo() {
 
 #[test]
 fn refusal_cases_have_every_refusal_of_run() {
-    let text = stored::refusal_cases().stdout;
+    let text = text(stored::refusal_cases());
     for answer in [0, 9, 10, 11, 12, 13, 14, 15, 16, 17, 18, 19] {
         assert!(text.lines().any(|line| line == answer.to_string()), "no case answers {answer}");
     }
@@ -54,5 +59,43 @@ fn match_cases_exercise_every_rule_of_matching() {
 
 #[test]
 fn match_cases_stay_short() {
-    assert!(stored::match_cases().stdin.len() < 1_500_000);
+    assert!(stored::match_cases().stdin.len() < 2_200_000);
+}
+
+/// Each way has every answer, and results on drawn hosts among them.
+#[test]
+fn carry_cases_have_every_answer_of_both_calls() {
+    let stored = stored::carry_cases();
+    assert!(stored.stdin.len() <= 262_144, "{} bytes", stored.stdin.len());
+    let text = text(stored);
+    let calls = stored::carry_calls();
+    for (way, answers) in [(Way::Widen, &[0, 10, 11, 15][..]), (Way::Narrow, &[0, 10, 11, 15, 26])] {
+        for answer in answers {
+            let begins = format!("{answer} ");
+            let lines = text.lines().zip(&calls).filter(|(line, call)| call.way == way && line.starts_with(&begins));
+            assert!(lines.count() >= 10, "{way:?} seldom answers {answer}");
+        }
+    }
+}
+
+#[test]
+fn a_carry_case_shows_what_was_written_and_what_was_not() {
+    let text = text(stored::carry_cases());
+    let refused = text.lines().find(|line| line.starts_with("15 ")).expect("a refused case");
+    assert!(refused[3..].bytes().all(|byte| b"a5 ".contains(&byte)), "{refused}");
+    let empty = text.lines().find(|line| line.starts_with("0  "));
+    assert_eq!(empty, Some("0  "), "tables of no slots");
+}
+
+/// The lengths of the fields, and the bytes of one slot by hand.
+#[test]
+fn widen_and_narrow_write_each_others_input() {
+    let (widen, narrow) = (stored::widen(), stored::narrow());
+    assert_eq!((&widen.stdout, &narrow.stdout), (&narrow.stdin, &widen.stdin));
+    let field = |bytes: &[u8], at: usize| (bytes[at], u16::from_be_bytes([bytes[at + 1], bytes[at + 2]]));
+    assert_eq!((field(&widen.stdin, 0), field(&widen.stdin, 3 + 7 * 20)), ((1, 7 * 20), (2, 7 * 24)));
+    assert_eq!((field(&widen.stdout, 0), field(&widen.stdout, 3 + 7 * 36)), ((1, 7 * 36), (2, 7 * 40)));
+    let red = [1, 1, 1, 1, 0, 0, 0, 1];
+    assert_eq!(widen.stdin[3 + 2 * 20..][..20], [&red[..], &[0; 12]].concat());
+    assert_eq!(widen.stdout[3 + 2 * 36..][..36], [&red[..], &[0; 28]].concat());
 }

@@ -28,8 +28,12 @@ mod refused_conditions;
 mod refused_programs;
 #[path = "text/refused_rules.rs"]
 mod refused_rules;
+#[path = "text/renew_command_line.rs"]
+mod renew_command_line;
 #[path = "text/renewing.rs"]
 mod renewing;
+#[path = "text/renewing_hosts.rs"]
+mod renewing_hosts;
 #[path = "text/round_trips.rs"]
 mod round_trips;
 #[path = "text/rules.rs"]

@@ -61,7 +61,7 @@ fn store(name: &str, folder: &str) -> Result<(), String> {
     let stored = stored::named(name).ok_or(format!("{name} has no stored inputs; these have: {known}"))?;
     let stdin = format!("{folder}/stdin");
     let stdout = format!("{folder}/stdout");
-    corpus::write_files(&[(&stdin, stored.stdin), (&stdout, stored.stdout.into_bytes())])
+    corpus::write_files(&[(&stdin, stored.stdin), (&stdout, stored.stdout)])
 }
 
 fn read(image: &str) -> std::io::Result<Vec<u8>> {

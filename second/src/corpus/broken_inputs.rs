@@ -4,7 +4,7 @@
 use super::hosts::Host;
 use super::LAYOUT;
 use crate::encode::{field, runner_fields, RunnerInput};
-use crate::layout::{place, ATOM_BYTES};
+use crate::layout::{place, Layout, ATOM_BYTES};
 use crate::random::Random;
 use std::ops::Range;
 
@@ -157,6 +157,27 @@ fn break_unused_atom(random: &mut Random, slot: &mut [u8], atoms: usize) {
     } else {
         let nonzero = random.pick(&[1, 0x80, 0xFF]);
         slot[random.between(atoms + ATOM_BYTES * used, slot.len() - 1)] = nonzero;
+    }
+}
+
+/// Answers 10, 11 and 15: tables of the old layout, lent as they are. Often free slots are added behind, so that their bytes
+/// make whole slots.
+pub fn old_tables(random: &mut Random, host: &Host, input: &mut RunnerInput) {
+    let old = &Layout::FOUR;
+    input.nodes = host.node_table_at(old);
+    input.edges = host.edge_table_at(old);
+    if random.chance(60) {
+        fill_up(&mut input.nodes, old.node_length(), LAYOUT.node_length());
+    }
+    if random.chance(60) {
+        fill_up(&mut input.edges, old.edge_length(), LAYOUT.edge_length());
+    }
+}
+
+/// Adds free slots of one length until the table has whole slots of another.
+fn fill_up(table: &mut Vec<u8>, slot: usize, other: usize) {
+    while table.len() % other != 0 {
+        table.extend(vec![0; slot]);
     }
 }
 

@@ -62,7 +62,8 @@ pub fn bad_form(random: &mut Random, program: &mut Program) {
 }
 
 fn bad_rule_form(random: &mut Random, rule: &mut Rule) {
-    let kind = random.below(7);
+    let kind = random.below(8);
+    let label = [Element::Constant(1); limit::ELEMENTS + 1];
     let graph = either_side(random, rule);
     match kind {
         0 => rule
@@ -77,10 +78,8 @@ fn bad_rule_form(random: &mut Random, rule: &mut Rule) {
         5 => graph
             .edges
             .push(plain_edge(random.pick(&[mark::GREY, 7, 0xFF]))),
-        _ => {
-            let label = [Element::Constant(1); limit::ELEMENTS + 1];
-            graph.nodes.insert(0, node(mark::NONE, &label));
-        }
+        6 => graph.nodes.insert(0, node(mark::NONE, &label)),
+        _ => graph.edges.insert(0, edge(mark::NONE, 0, 0, &label)),
     }
 }
 

@@ -54,7 +54,8 @@ fn every_reasons() -> Vec<Reasons> {
     every
 }
 
-/// A right label that can't be held for this reason. The list variable 0 stands for three atoms.
+/// A right label that can't be held for this reason. The list variable 0 stands for three atoms, so that three times are one
+/// atom too many.
 fn right_label(reason: Option<Label>) -> Vec<Element> {
     let (least, most) = (Operand::Constant(i32::MIN), Operand::Constant(i32::MAX));
     let list = Element::Variable(0);
@@ -62,7 +63,7 @@ fn right_label(reason: Option<Label>) -> Vec<Element> {
         None => vec![list],
         Some(Label::Over) => vec![Element::Sum(most, Operand::Constant(1))],
         Some(Label::Under) => vec![Element::Difference(least, Operand::Constant(1))],
-        Some(Label::Long) => vec![list, list],
+        Some(Label::Long) => vec![list, list, list],
     }
 }
 
@@ -123,13 +124,17 @@ fn last_of_all_rules() -> RunnerInput {
 }
 
 /// Two labels that one list variable is to stand for: all but the first and the last pair differ.
-const LISTS: [(&[i32], &[i32]); 6] = [
+const LISTS: [(&[i32], &[i32]); 10] = [
     (&[], &[]),
     (&[], &[0]),
     (&[1, 2], &[1]),
     (&[1, 2, 3, 4], &[1, 2, 3, 5]),
     (&[1, 2, 3, 4], &[0, 2, 3, 4]),
-    (&[1, 2, 3, 4], &[1, 2, 3, 4]),
+    (&[1, 2, 3, 4, 5, 6, 7, 8], &[1, 2, 3, 4, 5, 6, 7, 9]),
+    (&[1, 2, 3, 4, 5, 6, 7, 8], &[0, 2, 3, 4, 5, 6, 7, 8]),
+    (&[1, 2, 3, 4, 5, 6, 7, 8], &[1, 2, 3, 4, 5, 6, 7]),
+    (&[1, 2, 3, 4, 5, 6, 7, 0], &[1, 2, 3, 4, 5, 6, 7]),
+    (&[1, 2, 3, 4, 5, 6, 7, 8], &[1, 2, 3, 4, 5, 6, 7, 8]),
 ];
 
 /// Two nodes with these labels, and a rule for two nodes with the same list.

@@ -17,6 +17,7 @@ enum Kind {
     Placement,
     Calls,
     Layout,
+    OldTables,
     Procedures,
     Mode,
     Guarded,
@@ -30,14 +31,15 @@ enum Kind {
 }
 
 /// Each kind with its weight.
-const KINDS: [(Kind, usize); 15] = [
+const KINDS: [(Kind, usize); 16] = [
     (Kind::Form, 14),
     (Kind::References, 24),
     (Kind::Placement, 10),
     (Kind::Calls, 32),
     (Kind::Layout, 16),
+    (Kind::OldTables, 12),
     (Kind::Procedures, 32),
-    (Kind::Mode, 13),
+    (Kind::Mode, 18),
     (Kind::Guarded, 13),
     (Kind::Bytes, 11),
     (Kind::Length, 1),
@@ -62,6 +64,7 @@ pub fn damaged(random: &mut Random, mut draft: Draft) -> Vec<u8> {
     for kind in &kinds {
         match kind {
             Kind::Layout => break_layout(random, &draft.host, &mut input),
+            Kind::OldTables => old_tables(random, &draft.host, &mut input),
             Kind::Procedures => break_procedures(random, &draft.program, &mut input.program),
             Kind::Mode => break_mode(random, &draft.program.rules, &mut input.program),
             Kind::Guarded => break_guarded(random, &mut input.program),

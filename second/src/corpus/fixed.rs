@@ -1,10 +1,11 @@
-//! The images at the front of every corpus: the cases of document 01, corners that random images meet seldom, modes of rules,
-//! groupings of sequences, procedures, an image for each clause that can refuse, the accepted ones that stand beside them, and some refused
+//! The images at the front of every corpus: the cases of document 01, corners that random images meet seldom, long labels, modes
+//! of rules, groupings of sequences, procedures, an image for each clause that can refuse, the accepted ones that stand beside them, and some refused
 //! twice over.
 
 use super::cases::cases;
 use super::corners::corners;
 use super::groupings::groupings;
+use super::long_labels::long_labels;
 use super::mode_programs::mode_programs;
 use super::modes::modes;
 use super::procedures::procedures;
@@ -24,6 +25,7 @@ pub fn fixed_images() -> &'static [Vec<u8>] {
 fn cases_and_refusals() -> Vec<Vec<u8>> {
     let mut inputs = cases();
     inputs.extend(corners());
+    inputs.extend(long_labels());
     inputs.extend(modes());
     inputs.extend(mode_programs());
     inputs.extend(groupings());

@@ -2,7 +2,7 @@
 
 use super::palette::Palette;
 use super::LAYOUT;
-use crate::encode::{edge_slot, node_slot};
+use crate::layout::Layout;
 use crate::random::Random;
 
 #[derive(Clone, Debug)]
@@ -144,25 +144,38 @@ impl Host {
     }
 
     pub fn node_table(&self) -> Vec<u8> {
+        self.node_table_at(LAYOUT)
+    }
+
+    pub fn edge_table(&self) -> Vec<u8> {
+        self.edge_table_at(LAYOUT)
+    }
+
+    /// The node table at a layout; what it can't hold of a label is left out.
+    pub fn node_table_at(&self, layout: &Layout) -> Vec<u8> {
         let slot = |node: &Option<Node>| match node {
-            Some(node) => node_slot(node.mark, node.root, &node.label),
-            None => [0; LAYOUT.node_length()],
+            Some(node) => layout.node_slot(node.mark, node.root, held(layout, &node.label)),
+            None => vec![0; layout.node_length()],
         };
         self.nodes.iter().flat_map(slot).collect()
     }
 
-    pub fn edge_table(&self) -> Vec<u8> {
+    /// The edge table at a layout; what it can't hold of a label is left out.
+    pub fn edge_table_at(&self, layout: &Layout) -> Vec<u8> {
         let slot = |edge: &Option<Edge>| match edge {
-            Some(edge) => edge_slot(
-                edge.mark,
-                edge.source as u16,
-                edge.target as u16,
-                &edge.label,
-            ),
-            None => [0; LAYOUT.edge_length()],
+            Some(edge) => {
+                let (source, target) = (edge.source as u16, edge.target as u16);
+                layout.edge_slot(edge.mark, source, target, held(layout, &edge.label))
+            }
+            None => vec![0; layout.edge_length()],
         };
         self.edges.iter().flat_map(slot).collect()
     }
+}
+
+/// The atoms of a label that a layout can hold.
+fn held<'a>(layout: &Layout, label: &'a [i32]) -> &'a [i32] {
+    &label[..label.len().min(layout.atoms)]
 }
 
 pub fn new_node(random: &mut Random, palette: &Palette) -> Node {

@@ -122,18 +122,24 @@ fn moved<T: Clone>(items: Vec<Option<T>>, places: &[usize], slots: usize) -> Vec
     table
 }
 
+/// A program over this host, drawn until the input is short enough for a corpus.
 fn over(random: &mut Random, palette: &Palette, host: Host) -> RunnerInput {
     let extent = Extent {
         rules: 4,
         commands: 8,
         levels: 8,
     };
-    let draft = Draft::over(random, palette, host, extent);
-    Draft {
-        records: RECORDS,
-        ..draft
+    loop {
+        let draft = Draft::over(random, palette, host.clone(), extent);
+        let input = Draft {
+            records: RECORDS,
+            ..draft
+        }
+        .input();
+        if runner_input(&input).len() <= MOST_BYTES {
+            return input;
+        }
     }
-    .input()
 }
 
 /// A program of exactly so many bytes: what is missing stands where no run comes to.

@@ -1,11 +1,16 @@
 //! A palette: the few marks, atoms and label lengths that one image is drawn from. Host and rules share it, so
 //! that what a rule asks for occurs in the host, and what a rule makes can be asked for again.
 
+use super::LAYOUT;
 use crate::random::Random;
 use crate::tree::mark;
 
 const NODE_MARKS: [u8; 5] = [mark::NONE, mark::RED, mark::GREEN, mark::BLUE, mark::GREY];
 const EDGE_MARKS: [u8; 5] = [mark::NONE, mark::RED, mark::GREEN, mark::BLUE, mark::DASHED];
+
+/// How often a label of each length comes, in percent: node labels, then edge labels.
+const NODE_LENGTHS: [usize; LAYOUT.atoms + 1] = [14, 36, 18, 11, 7, 4, 3, 2, 5];
+const EDGE_LENGTHS: [usize; LAYOUT.atoms + 1] = [48, 23, 9, 7, 4, 2, 2, 2, 3];
 
 /// Atoms at which a sum or difference leaves 32 bits easily.
 const EXTREMES: [i32; 5] = [i32::MAX, i32::MIN, i32::MAX - 1, i32::MIN + 1, 0x4000_0000];
@@ -35,8 +40,8 @@ impl Palette {
             pattern: pattern(random, &atoms),
             extreme: atoms.iter().any(|atom| EXTREMES.contains(atom)),
             atoms,
-            node_lengths: lengths(random, &[15, 40, 20, 15, 10]),
-            edge_lengths: lengths(random, &[50, 25, 10, 10, 5]),
+            node_lengths: lengths(random, &NODE_LENGTHS),
+            edge_lengths: lengths(random, &EDGE_LENGTHS),
             root_percent: random.pick(&[0, 0, 10, 30, 60]),
         }
     }
@@ -108,7 +113,7 @@ fn some_atoms(random: &mut Random) -> Vec<i32> {
 }
 
 fn pattern(random: &mut Random, atoms: &[i32]) -> Option<Vec<i32>> {
-    let length = random.between(2, 4);
+    let length = random.pick(&[2, 2, 3, 3, 4, 4, 5, 6, 7, LAYOUT.atoms]);
     let drawn = (0..length).map(|_| random.pick(atoms)).collect();
     random.chance(20).then_some(drawn)
 }

@@ -1,9 +1,10 @@
 //! What running a corpus exercises: how often each answer occurs, and the counters of the second interpreter.
 
+use super::lengths::Lengths;
 use super::LAYOUT;
 use crate::decode;
 use crate::encode::RunnerInput;
-use crate::exercised::{Exercised, TestCounts};
+use crate::exercised::{Exercised, TestCounts, FIRST_LONG};
 use crate::listing::{call_of, read_input};
 use crate::tree::{Command, Program};
 use std::collections::BTreeMap;
@@ -34,7 +35,8 @@ const FIRST_REFUSAL: u32 = 9;
 impl Statistics {
     pub fn of(images: &[&[u8]]) -> Statistics {
         let mut statistics = Statistics::default();
-        statistics.add_counters(&Exercised::default(), Procedures::default());
+        let (exercised, lengths) = (Exercised::default(), Lengths::default());
+        statistics.add_counters(&exercised, Procedures::default(), lengths);
         for image in images {
             statistics.add(image);
         }
@@ -58,11 +60,13 @@ impl Statistics {
         self.started += u64::from(started);
         let program = decode::program(&input.program).ok();
         let procedures = program.filter(|_| started).map(|it| Procedures::of(&it));
-        self.add_counters(&exercised, procedures.unwrap_or_default());
+        let lengths = Lengths::of(input, outcome.answer);
+        self.add_counters(&exercised, procedures.unwrap_or_default(), lengths);
     }
 
-    fn add_counters(&mut self, exercised: &Exercised, procedures: Procedures) {
+    fn add_counters(&mut self, exercised: &Exercised, procedures: Procedures, lengths: Lengths) {
         let counts = named(exercised).into_iter().chain(procedures.named());
+        let counts = counts.chain(lengths.named());
         for (index, (name, count)) in counts.enumerate() {
             if index == self.counters.len() {
                 self.counters.push(Counter {
@@ -152,15 +156,19 @@ fn named(exercised: &Exercised) -> Vec<(String, u64)> {
         .to_vec();
     named.extend(named_tests("true", &e.tests_true));
     named.extend(named_tests("false", &e.tests_false));
-    named.extend(named_numbers("matches, mode", &e.modes_matched));
-    named.extend(named_numbers("loop, in-degree", &e.in_degree_at_loops));
-    named.extend(named_numbers("loop, in-degree not", &e.not_in_degree_at_loops));
+    named.extend(named_numbers("matches, mode", 0, &e.modes_matched));
+    named.extend(named_numbers("loop, in-degree", 0, &e.in_degree_at_loops));
+    named.extend(named_numbers("loop, in-degree not", 0, &e.not_in_degree_at_loops));
+    named.extend(named_numbers("left elements", FIRST_LONG, &e.left_elements));
+    named.extend(named_numbers("list variable atoms", FIRST_LONG, &e.list_atoms));
+    named.extend(named_numbers("right elements", FIRST_LONG, &e.right_elements));
+    named.extend(named_numbers("right label atoms", FIRST_LONG, &e.label_atoms));
     named
 }
 
-/// Counts by a number from 0 on.
-fn named_numbers(counted: &str, counts: &[u64]) -> Vec<(String, u64)> {
-    let named = counts.iter().enumerate();
+/// Counts by a number, from the first one on.
+pub fn named_numbers(counted: &str, first: usize, counts: &[u64]) -> Vec<(String, u64)> {
+    let named = (first..).zip(counts);
     named
         .map(|(number, count)| (format!("{counted} {number}"), *count))
         .collect()

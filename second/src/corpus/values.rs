@@ -49,11 +49,18 @@ pub fn operand(random: &mut Random, palette: &Palette, left: &Left) -> Operand {
     }
 }
 
+/// How often a right label has each number of elements, in percent.
+const ELEMENTS: [usize; limit::ELEMENTS + 1] = [10, 43, 26, 11, 5, 2, 1, 1, 1];
+
 /// A label for the right side that nearly always can be held in the placement.
 pub fn new_label(random: &mut Random, palette: &Palette, left: &Left) -> Vec<Element> {
+    if random.chance(6) {
+        let atoms = LAYOUT.atoms + usize::from(random.chance(30));
+        return label_of_atoms(random, palette, left, atoms);
+    }
     let careless = random.chance(if palette.extreme { 30 } else { 7 });
     for _ in 0..8 {
-        let length = random.weighted(&[10, 45, 28, 12, 5]);
+        let length = random.weighted(&ELEMENTS);
         let label: Vec<Element> = (0..length)
             .map(|_| new_element(random, palette, left))
             .collect();
@@ -62,6 +69,47 @@ pub fn new_label(random: &mut Random, palette: &Palette, left: &Left) -> Vec<Ele
         }
     }
     Vec::new()
+}
+
+/// A label of so many atoms in the placement, or of fewer where no element adds what is missing: the longest that can be held,
+/// or one that can't.
+fn label_of_atoms(random: &mut Random, palette: &Palette, left: &Left, atoms: usize) -> Vec<Element> {
+    let mut label = Vec::new();
+    let mut missing = atoms;
+    while missing > 0 && label.len() < limit::ELEMENTS {
+        let whole = |variable: &u8| match &left.values[usize::from(*variable)] {
+            Value::List(list) => list.len() > 1 && list.len() <= missing,
+            Value::Int(_) => false,
+        };
+        let lists: Vec<u8> = left.list_variables().into_iter().filter(whole).collect();
+        let (element, more) = match lists.is_empty() {
+            true => (one_atom(random, palette, left), 1),
+            false => {
+                let list = random.pick(&lists);
+                (Element::Variable(list), length_of(&left.values[usize::from(list)]))
+            }
+        };
+        label.push(element);
+        missing -= more;
+    }
+    random.shuffle(&mut label);
+    label
+}
+
+/// An int variable of the left side, or a constant.
+fn one_atom(random: &mut Random, palette: &Palette, left: &Left) -> Element {
+    match operand(random, palette, left) {
+        Operand::Constant(value) => Element::Constant(value),
+        Operand::Variable(index) => Element::Variable(index),
+    }
+}
+
+/// How many atoms a variable stands for.
+fn length_of(value: &Value) -> usize {
+    match value {
+        Value::Int(_) => 1,
+        Value::List(list) => list.len(),
+    }
 }
 
 fn new_element(random: &mut Random, palette: &Palette, left: &Left) -> Element {

@@ -317,7 +317,7 @@ impl Graph {
         graph
     }
 
-    /// Labels of 0 to 4 atoms on nodes and edges.
+    /// Labels of every length on nodes and edges.
     pub fn labelled(&self, seed: u64) -> Graph {
         let mut random = Random::new(seed);
         let mut label = || -> Vec<i32> { (0..random.below(LAYOUT.atoms + 1)).map(|_| random.next() as i32 >> 24).collect() };

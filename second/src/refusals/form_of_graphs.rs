@@ -4,7 +4,7 @@ use super::form::Parts;
 use super::programs::{images, Images};
 use crate::build::node;
 use crate::encode::{self, field};
-use crate::tree::{mark, Element, Rule};
+use crate::tree::{limit, mark, Element, Rule};
 
 /// The image of one side's graph.
 type Side = fn(&[u8]) -> Vec<u8>;
@@ -93,7 +93,7 @@ fn form_of_node() -> Vec<Images> {
         payloads("node root 255", &[0, 1], &[0, 255]),
         payloads("node without mark and root", &[0, 0], &[]),
         payloads("node without root", &[0, 0], &[0]),
-        payloads("node label of 5 elements", &labelled(4), &labelled(5)),
+        payloads("node label of 9 elements", &labelled(limit::ELEMENTS), &labelled(limit::ELEMENTS + 1)),
     ]
 }
 
@@ -109,7 +109,7 @@ fn form_of_edge() -> Vec<Images> {
         payloads("empty edge", &[0, 0, 0], &[]),
         payloads("edge of a mark alone", &[0, 0, 0], &[0]),
         payloads("edge without target", &[0, 0, 0], &[0, 0]),
-        payloads("edge label of 5 elements", &labelled(4), &labelled(5)),
+        payloads("edge label of 9 elements", &labelled(limit::ELEMENTS), &labelled(limit::ELEMENTS + 1)),
     ]
 }
 

@@ -1,9 +1,9 @@
 //! Inputs that the runner refuses.
 
-use super::{accepted_run, Refusal, LAYOUT};
+use super::{Refusal, LAYOUT};
 use crate::encode::{self, field, RunnerInput};
 use crate::listing::INPUT_BYTES;
-use crate::tree::Command;
+use crate::tree::{mark, Command};
 
 const MOST_RECORDS: u16 = LAYOUT.most_records as u16;
 
@@ -32,12 +32,14 @@ fn with(edit: impl Fn(&mut Vec<Vec<u8>>)) -> Vec<u8> {
     fields.concat()
 }
 
+/// One node with a loop.
 fn runner_fields() -> Vec<Vec<u8>> {
-    let input = accepted_run().runner_input();
     encode::runner_fields(&RunnerInput {
+        nodes: encode::node_slot(mark::GREY, true, &[7, -7]).to_vec(),
+        edges: encode::edge_slot(mark::DASHED, 0, 0, &[1, 2, 3]).to_vec(),
         records: MOST_RECORDS,
+        fuel: 100,
         program: encode::command(&Command::Skip),
-        ..input.expect("a runner input leads to an accepted run")
     })
 }
 

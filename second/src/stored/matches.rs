@@ -19,7 +19,7 @@ use super::{case, Stored, LAYOUT};
 
 /// Small drawn images that are looked at, and how long the tables and the program of one may be together.
 const DRAWN: u64 = 1_000;
-const LONGEST: usize = 1_400;
+const LONGEST: usize = 2_000;
 
 /// Cases among them that a run refuses.
 const REFUSED: usize = 40;
@@ -67,7 +67,7 @@ pub fn match_cases() -> Stored {
         stdout.push_str(&lines(pair, &mut Seen::default()));
     }
     let stdin = pairs.iter().flat_map(|pair| case(&[&pair.nodes, &pair.edges, &pair.program])).collect();
-    Stored { stdin, stdout }
+    Stored { stdin, stdout: stdout.into_bytes() }
 }
 
 /// One case with a count behind its program: a host of the greatest size, whose first rule is matched three times.
@@ -75,8 +75,8 @@ pub fn match_bench() -> Stored {
     let matched = |pair: &Pairs| lines(pair, &mut Seen::default()).starts_with("match");
     let pair = (0..FULL).map(full_pairs).find(matched).expect("some first rule has a match");
     let stdin = case(&[&pair.nodes, &pair.edges, &pair.program, &3u32.to_be_bytes()]);
-    let first = lines(&pair, &mut Seen::default()).lines().take(1).map(|line| format!("{line}\n")).collect();
-    Stored { stdin, stdout: first }
+    let first: String = lines(&pair, &mut Seen::default()).lines().take(1).map(|line| format!("{line}\n")).collect();
+    Stored { stdin, stdout: first.into_bytes() }
 }
 
 /// What the stored pairs exercise.
@@ -176,7 +176,8 @@ fn full_host(random: &mut Random, gaps: bool) -> Host {
     let mut host = Host::default();
     for _ in 0..LAYOUT.most_nodes {
         let mut atoms = vec![random.below(40) as i32];
-        atoms.extend((0..random.below(4)).map(|_| random.between(0, 5) as i32 - 2));
+        let more = if random.chance(25) { LAYOUT.atoms } else { 4 };
+        atoms.extend((0..random.below(more)).map(|_| random.between(0, 5) as i32 - 2));
         let node = Node {
             mark: random.pick(&[mark::NONE, mark::RED, mark::GREEN, mark::BLUE, mark::GREY]),
             root: random.chance(4),
@@ -187,7 +188,8 @@ fn full_host(random: &mut Random, gaps: bool) -> Host {
     for _ in 0..LAYOUT.most_edges {
         let source = random.below(LAYOUT.most_nodes);
         let target = (source + random.below(5)) % LAYOUT.most_nodes;
-        let atoms: Vec<i32> = (0..random.below(3)).map(|_| random.between(0, 5) as i32 - 2).collect();
+        let most = if random.chance(15) { LAYOUT.atoms + 1 } else { 3 };
+        let atoms: Vec<i32> = (0..random.below(most)).map(|_| random.between(0, 5) as i32 - 2).collect();
         let (source, target) = if random.chance(50) { (source, target) } else { (target, source) };
         let ends_live = host.node(source).is_some() && host.node(target).is_some();
         let edge = Edge {

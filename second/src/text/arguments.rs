@@ -32,7 +32,9 @@ gp2 renew OLD -o NEW
     Rewrites an image of the old form, in which if (0x52) and try (0x53) are commands
     of their own, to today's, in which either is a guarded command (0x59). Each takes
     one byte more; an image without them stays as it is. OLD is a program image or a
-    runner image.
+    runner image. Tables of a runner image that keep the old layout, with labels of at
+    most four atoms, are widened to eight, slot numbers kept; others stay as they are.
+    What was done with them is said on the standard error.
 
 gp2 --help
     Prints this page.

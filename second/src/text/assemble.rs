@@ -2,6 +2,7 @@
 
 use super::complaint::{Complaint, Place, Problem};
 use super::host_graph::{host_graph, HostGraph};
+use super::image::grouped;
 use super::keeping::{no_numbers, numbers, Numbers, Procedures};
 use super::lower_commands::{commands, Obstacle};
 use super::parse_host;
@@ -10,6 +11,7 @@ use super::scopes::Scopes;
 use super::sizes::{Sizes, USUAL_FUEL, USUAL_RECORDS};
 use super::syntax::{HostText, ProgramText};
 use crate::encode::{self, RunnerInput};
+use crate::listing::INPUT_BYTES;
 use crate::tree::{limit, Program};
 use crate::{decode, depth, placement, references};
 
@@ -60,13 +62,21 @@ pub fn runner_input(
 ) -> Result<RunnerInput, String> {
     let (node_slots, edge_slots) = sizes.slots(graph);
     let (nodes, edges) = graph.tables(node_slots, edge_slots)?;
-    Ok(RunnerInput {
+    let input = RunnerInput {
         nodes,
         edges,
         records: sizes.records.unwrap_or(USUAL_RECORDS),
         fuel: sizes.fuel.unwrap_or(USUAL_FUEL),
         program: encode::program(program),
-    })
+    };
+    match encode::runner_input(&input).len() {
+        0..=INPUT_BYTES => Ok(input),
+        bytes => Err(format!(
+            "the runner's input takes {} bytes, expected at most {}: fewer slots, or a shorter program",
+            grouped(bytes),
+            grouped(INPUT_BYTES)
+        )),
+    }
 }
 
 fn assembly(source: &str, procedures: Procedures) -> Result<Assembly, Problem> {

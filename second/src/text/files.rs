@@ -68,6 +68,11 @@ pub fn write_bytes(file: &str, bytes: &[u8]) -> Result<(), String> {
     })
 }
 
+/// Says one line on the standard error.
+pub fn say(message: &str) {
+    eprintln!("{message}");
+}
+
 fn write_output(bytes: &[u8]) -> io::Result<()> {
     let mut out = io::stdout().lock();
     out.write_all(bytes)?;

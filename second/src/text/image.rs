@@ -6,6 +6,7 @@ use crate::answer;
 use crate::calls::MOST_FUEL;
 use crate::encode::RunnerInput;
 use crate::host::Host;
+use crate::layout::Layout;
 use crate::listing::INPUT_BYTES;
 use crate::tree::{self, Command, Program};
 use crate::{decode, depth, old_form, placement, references};
@@ -25,15 +26,18 @@ pub struct Fault {
 
 impl fmt::Display for Fault {
     fn fmt(&self, out: &mut fmt::Formatter) -> fmt::Result {
-        write!(
-            out,
-            "offset {}, {}: {}; ",
-            self.at, self.field, self.expected
-        )?;
+        write!(out, "{}; ", self.place_and_reason())?;
         match self.answer {
             Some(number) => write!(out, "a run answers {number}"),
             None => write!(out, "the runner prints `input refused`"),
         }
+    }
+}
+
+impl Fault {
+    /// Where and why, without what a run does then.
+    pub fn place_and_reason(&self) -> String {
+        format!("offset {}, {}: {}", self.at, self.field, self.expected)
     }
 }
 
@@ -152,7 +156,8 @@ impl<'a> Fields<'a> {
 impl RunnerImage {
     /// Host and program, or the fault with the lowest number.
     pub fn contents(&self) -> Result<(Host, Program), Fault> {
-        self.check_table_lengths()?;
+        let lengths = self.check_table_lengths(LAYOUT);
+        lengths.map_err(|fault| self.of_old_layout(fault))?;
         if self.input.fuel > MOST_FUEL {
             let expected = format!("expected at most {MOST_FUEL}, found {}", self.input.fuel);
             return Err(fault(self.fuel_at, "fuel", expected, answer::FUEL));
@@ -164,36 +169,64 @@ impl RunnerImage {
 
     /// The host graph of the tables, whatever the program holds.
     pub fn host(&self) -> Result<Host, Fault> {
-        self.check_table_lengths()?;
+        let host = self.host_at(LAYOUT);
+        host.map_err(|fault| self.of_old_layout(fault))
+    }
+
+    /// The host graph of the tables read at a layout.
+    pub fn host_at(&self, layout: &Layout) -> Result<Host, Fault> {
+        self.check_table_lengths(layout)?;
         let (nodes, edges) = (&self.input.nodes, &self.input.edges);
-        for (number, slot) in nodes.chunks(LAYOUT.node_length()).enumerate() {
+        for (number, slot) in nodes.chunks(layout.node_length()).enumerate() {
             let at = self.nodes_at + number * slot.len();
-            Host::read(LAYOUT, slot, &[]).map_err(|reason| layout(at, "node", number, &reason))?;
+            Host::read(layout, slot, &[])
+                .map_err(|reason| broken_slot(at, "node", number, &reason))?;
         }
-        for (number, slot) in edges.chunks(LAYOUT.edge_length()).enumerate() {
+        for (number, slot) in edges.chunks(layout.edge_length()).enumerate() {
             let at = self.edges_at + number * slot.len();
-            Host::read(LAYOUT, nodes, slot)
-                .map_err(|reason| layout(at, "edge", number, &reason))?;
+            Host::read(layout, nodes, slot)
+                .map_err(|reason| broken_slot(at, "edge", number, &reason))?;
         }
-        Host::read(LAYOUT, nodes, edges)
+        Host::read(layout, nodes, edges)
             .map_err(|reason| fault(self.nodes_at, "host tables", reason, answer::LAYOUT))
     }
 
-    fn check_table_lengths(&self) -> Result<(), Fault> {
+    fn check_table_lengths(&self, layout: &Layout) -> Result<(), Fault> {
         let (nodes, edges) = (self.input.nodes.len(), self.input.edges.len());
-        if !LAYOUT.is_node_table(nodes) {
-            let expected = expected_slots(LAYOUT.most_nodes, LAYOUT.node_length(), nodes);
+        if !layout.is_node_table(nodes) {
+            let expected = expected_slots(layout.most_nodes, layout.node_length(), nodes);
             let number = answer::NODE_TABLE;
             return Err(fault(self.nodes_at, "node table", expected, number));
         }
-        if !LAYOUT.is_edge_table(edges) {
-            let expected = expected_slots(LAYOUT.most_edges, LAYOUT.edge_length(), edges);
+        if !layout.is_edge_table(edges) {
+            let expected = expected_slots(layout.most_edges, layout.edge_length(), edges);
             let number = answer::EDGE_TABLE;
             return Err(fault(self.edges_at, "edge table", expected, number));
         }
         Ok(())
     }
+
+    /// Whether both tables keep the old layout.
+    pub fn keeps_old_layout(&self) -> bool {
+        self.host_at(&Layout::FOUR).is_ok()
+    }
+
+    /// The fault of a host, with the remedy where it keeps the old layout.
+    fn of_old_layout(&self, fault: Fault) -> Fault {
+        match self.keeps_old_layout() {
+            true => Fault {
+                expected: IN_OLD_LAYOUT.to_string(),
+                ..fault
+            },
+            false => fault,
+        }
+    }
 }
+
+/// What is said of tables that can be carried over.
+pub const IN_OLD_LAYOUT: &str = "\
+    tables of the old layout, in which labels have at most four atoms; \
+    `gp2 renew OLD -o NEW` carries them over";
 
 fn expected_slots(most: usize, length: usize, found: usize) -> String {
     let most = grouped(most);
@@ -210,7 +243,7 @@ fn fault(at: usize, field: &str, expected: impl Into<String>, answer: u32) -> Fa
 }
 
 /// The fault of one slot, whose reason was found with the slot alone in its table.
-fn layout(at: usize, kind: &str, number: usize, reason: &str) -> Fault {
+fn broken_slot(at: usize, kind: &str, number: usize, reason: &str) -> Fault {
     let reason = reason.split_once(": ").map_or(reason, |(_, reason)| reason);
     fault(at, &format!("{kind} slot {number}"), reason, answer::LAYOUT)
 }

@@ -48,7 +48,7 @@ pub use image::{grouped, Fault};
 pub use keeping::Procedures;
 pub use print_host::host_graph_text;
 pub use print_program::program_text;
-pub use renew::renew;
+pub use renew::{renew, HostRenewal, Renewed};
 pub use sizes::Sizes;
 pub use tools::{disassemble, draw, draw_after, image_graph, perform};
 

@@ -3,8 +3,10 @@
 use super::arguments::{AssembleTask, Task, HELP};
 use super::assemble::{assemble_as, read_graph, runner_input, HostSection};
 use super::dot::drawing;
-use super::files::{read_bytes, read_text, write_bytes};
-use super::image::{is_runner_image, program, runner_image, RunnerImage, IN_OLD_FORM};
+use super::files::{read_bytes, read_text, say, write_bytes};
+use super::image::{
+    is_runner_image, program, runner_image, RunnerImage, IN_OLD_FORM, IN_OLD_LAYOUT,
+};
 use super::print_host::{host_graph_text, host_section_text};
 use super::print_program::program_text;
 use super::renew::renew;
@@ -33,7 +35,7 @@ pub fn perform(task: &Task) -> Result<(), String> {
             image,
             after: false,
         } => print(image, draw),
-        Task::Renew { old, new } => write_bytes(new, &made(old, renew)?),
+        Task::Renew { old, new } => renew_file(old, new),
         Task::Help => write_bytes("-", HELP.as_bytes()),
     }
 }
@@ -45,6 +47,16 @@ fn print(image: &str, tool: fn(&[u8]) -> Result<String, String>) -> Result<(), S
 
 fn made<T>(image: &str, tool: fn(&[u8]) -> Result<T, String>) -> Result<T, String> {
     tool(&read_bytes(image)?).map_err(|reason| format!("{image}: {reason}"))
+}
+
+/// Renews an image, and says what was done with its host.
+fn renew_file(old: &str, new: &str) -> Result<(), String> {
+    let renewed = made(old, renew)?;
+    write_bytes(new, &renewed.image)?;
+    if let Some(host) = renewed.host {
+        say(&format!("{old}: {host}"));
+    }
+    Ok(())
 }
 
 /// The bytes of the image that a program, and a host graph if there is one, make.
@@ -130,6 +142,9 @@ pub fn draw_after(bytes: &[u8]) -> Result<String, String> {
         }
         answer::FORM if old_form::program(&image.input.program).is_ok() => {
             Err(IN_OLD_FORM.to_string())
+        }
+        answer::NODE_TABLE | answer::EDGE_TABLE | answer::LAYOUT if image.keeps_old_layout() => {
+            Err(IN_OLD_LAYOUT.to_string())
         }
         number => Err(format!(
             "the run answers {number}, expected a result (0) to draw"

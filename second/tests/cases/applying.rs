@@ -32,7 +32,7 @@ fn new_items_take_the_lowest_free_slots_and_records_have_their_order() {
     let nodes = [FREE, grey, RED, PLAIN, FREE];
     let edges = [
         edge_slot(mark::NONE, 2, 2, &[]),
-        [0; 24],
+        FREE_EDGE,
         edge_slot(mark::NONE, 3, 1, &[]),
     ];
     let outcome = applied(exchange(), &nodes, &edges);
@@ -54,8 +54,8 @@ fn new_items_take_the_lowest_free_slots_and_records_have_their_order() {
         node_record(3, &PLAIN),
         node_record(0, &FREE),
         node_record(3, &FREE),
-        edge_record(1, &[0; 24]),
-        edge_record(2, &[0; 24]),
+        edge_record(1, &FREE_EDGE),
+        edge_record(2, &FREE_EDGE),
     ];
     expect(
         &outcome,
@@ -81,10 +81,10 @@ fn the_checks_before_a_change_come_in_the_order_6_3_4_5() {
     };
     let answer = |number: i32, nodes: usize, edges: usize, records: usize| {
         let program = image(&[add(number)], call(0));
-        let journal = vec![0; records * 28];
+        let journal = vec![0; records * RECORD];
         run(
-            &vec![0; nodes * 20],
-            &vec![0; edges * 24],
+            &vec![0; nodes * NODE],
+            &vec![0; edges * EDGE],
             &journal,
             &program,
             1,
@@ -110,5 +110,5 @@ fn an_edges_label_that_cant_be_held_answers_6() {
         (sides(), vec![edge(0, 0, 0, &[overflow])]),
         1,
     );
-    assert_eq!(applied(add, &[PLAIN], &[[0; 24]]).answer, 6);
+    assert_eq!(applied(add, &[PLAIN], &[FREE_EDGE]).answer, 6);
 }

@@ -31,9 +31,22 @@ pub const M: [u8; 29] = [
     0x15, 0, 0,
 ];
 
-pub const PLAIN: [u8; 20] = [1, 0, 0, 0, 0, 0, 0, 0, 0, 0, 0, 0, 0, 0, 0, 0, 0, 0, 0, 0];
-pub const RED: [u8; 20] = [1, 1, 0, 0, 0, 0, 0, 0, 0, 0, 0, 0, 0, 0, 0, 0, 0, 0, 0, 0];
-pub const FREE: [u8; 20] = [0; 20];
+/// The bytes of a node slot, of an edge slot and of a record.
+pub const NODE: usize = 36;
+pub const EDGE: usize = 40;
+pub const RECORD: usize = 44;
+
+pub const PLAIN: [u8; NODE] = unlabelled(0, 0);
+pub const RED: [u8; NODE] = unlabelled(1, 0);
+pub const FREE: [u8; NODE] = [0; NODE];
+pub const FREE_EDGE: [u8; EDGE] = [0; EDGE];
+
+/// A live node slot of this mark and root flag, without a label.
+pub const fn unlabelled(mark: u8, root: u8) -> [u8; NODE] {
+    let mut slot = [0; NODE];
+    (slot[0], slot[1], slot[2]) = (1, mark, root);
+    slot
+}
 
 pub const AMPLE_FUEL: u32 = 1_000;
 pub const AMPLE_RECORDS: usize = 16;
@@ -44,22 +57,22 @@ pub fn field(tag: u8, payload: &[&[u8]]) -> Vec<u8> {
 
 /// A run with ample journal, all bytes of which hold something beforehand.
 pub fn run_on(nodes: &[u8], edges: &[u8], program: &[&[u8]], fuel: u32) -> Outcome {
-    let journal = vec![0xEE; AMPLE_RECORDS * 28];
+    let journal = vec![0xEE; AMPLE_RECORDS * RECORD];
     run(nodes, edges, &journal, &program.concat(), fuel, &[0xEE; 8])
 }
 
 /// The journal that holds these records and zeros behind them.
 pub fn journal(records: &[Vec<u8>]) -> Vec<u8> {
     let mut bytes = records.concat();
-    bytes.resize(AMPLE_RECORDS * 28, 0);
+    bytes.resize(AMPLE_RECORDS * RECORD, 0);
     bytes
 }
 
-pub fn node_record(slot: u8, before: &[u8; 20]) -> Vec<u8> {
+pub fn node_record(slot: u8, before: &[u8; NODE]) -> Vec<u8> {
     [&[1, 0, 0, slot], &before[..], &[0; 4]].concat()
 }
 
-pub fn edge_record(slot: u8, before: &[u8; 24]) -> Vec<u8> {
+pub fn edge_record(slot: u8, before: &[u8; EDGE]) -> Vec<u8> {
     [&[2, 0, 0, slot], &before[..]].concat()
 }
 

@@ -88,11 +88,11 @@ fn records_of_a_successful_body_serve_an_outer_rollback() {
 fn undoing_frees_journal_records() {
     let main = if_command(call(0), call(0), Command::Fail);
     let program = image(&[mark_red()], main);
-    let outcome = run(&PLAIN, &[], &[0; 28], &program, 3, &[0; 8]);
+    let outcome = run(&PLAIN, &[], &[0; RECORD], &program, 3, &[0; 8]);
     assert_eq!(numbers(&outcome), (0, 3, 1));
     assert_eq!(outcome.nodes, RED);
     let twice = image(&[mark_red()], Command::Sequence(vec![call(0), call(0)]));
-    let outcome = run(&[PLAIN, PLAIN].concat(), &[], &[0; 28], &twice, 3, &[0; 8]);
+    let outcome = run(&[PLAIN, PLAIN].concat(), &[], &[0; RECORD], &twice, 3, &[0; 8]);
     assert_eq!(numbers(&outcome), (5, 3, 0));
 }
 
@@ -166,7 +166,7 @@ fn commands_run_in_document_01s_order() {
         let program = image(&[mark_red()], main.clone());
         let outcome = run_on(&[PLAIN, PLAIN].concat(), &[], &[&program], 50);
         assert_eq!(numbers(&outcome), expected, "{main:?}");
-        let red = outcome.nodes.chunks(20).filter(|slot| *slot == RED).count();
+        let red = outcome.nodes.chunks(NODE).filter(|slot| *slot == RED).count();
         assert_eq!(red as u32, expected.2, "{main:?}");
     }
 }
@@ -211,7 +211,7 @@ fn a_loop_may_take_all_the_fuel_there_is() {
     let outcome = run(
         &nodes,
         &edges,
-        &[0; 28 * 1024],
+        &[0; RECORD * 1024],
         &program,
         1_000_000,
         &[0; 8],

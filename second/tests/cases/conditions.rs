@@ -6,7 +6,7 @@ use second::encode::{edge_slot, node_slot};
 use second::tree::*;
 
 /// Whether the test holds between nodes 0 and 1 of a host.
-fn holds(negated: bool, kind: TestKind, edges: &[[u8; 24]]) -> bool {
+fn holds(negated: bool, kind: TestKind, edges: &[[u8; EDGE]]) -> bool {
     let pair = [node(mark::NONE, &[]), node(mark::GREY, &[])];
     let rule = node_rule(&pair, &pair, 2);
     let nodes = [PLAIN, node_slot(mark::GREY, false, &[]), RED];

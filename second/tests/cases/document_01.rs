@@ -168,7 +168,7 @@ fn case_p() {
     let edge = edge_slot(0, 0, 1, &[]);
     let command = field(0x54, &[&RULE_0]);
     let nodes = [five, seven].concat();
-    let given = vec![0xEE; 8 * 28];
+    let given = vec![0xEE; 8 * RECORD];
     let program = [&P[..], &command].concat();
     let outcome = run(&nodes, &edge, &given, &program, 10, &[0xEE; 8]);
     let after = [node_slot(1, false, &[5]), node_slot(3, false, &[12])].concat();
@@ -176,10 +176,10 @@ fn case_p() {
         edge_record(0, &edge),
         node_record(0, &five),
         node_record(1, &seven),
-        edge_record(0, &[0; 24]),
+        edge_record(0, &FREE_EDGE),
     ];
     let mut journal = records.concat();
-    journal.resize(8 * 28, 0);
+    journal.resize(8 * RECORD, 0);
     assert_eq!(numbers(&outcome), (0, 3, 4));
     assert_eq!(outcome.nodes, after);
     assert_eq!(outcome.edges, edge_slot(0, 1, 0, &[]));

@@ -37,7 +37,8 @@ fn a_list_variable_takes_what_the_other_elements_leave() {
     assert_eq!(swap(&[9]), Err(1));
     assert_eq!(swap(&[]), Err(1));
     assert_eq!(swap(&[8, 1, 2]), Err(1));
-    for atoms in [&[][..], &[1], &[1, 2], &[1, 2, 3], &[1, 2, 3, 4]] {
+    let longest = [1, 2, 3, 4, 5, 6, 7, 8];
+    for atoms in (0..=8).map(|length| &longest[..length]) {
         assert_eq!(relabelled(&types, &[list], &[list], atoms), label(atoms));
     }
 }
@@ -91,11 +92,17 @@ fn sums_differences_and_the_length_of_a_label() {
     assert_eq!(to(&[Sum(int, number(-1))], &[i32::MIN]), Err(6));
     assert_eq!(to(&[Difference(int, number(1))], &[i32::MIN]), Err(6));
     assert_eq!(to(&[Difference(number(0), int)], &[i32::MIN]), Err(6));
+    let longest = [1, 2, 3, 4, 5, 6, 7, 8];
     assert_eq!(
-        to(&[list, Constant(7)], &[1, 2, 3, 4]),
-        label(&[2, 3, 4, 7])
+        to(&[list, Constant(7)], &longest),
+        label(&[2, 3, 4, 5, 6, 7, 8, 7])
     );
-    assert_eq!(to(&[list, x, Constant(7)], &[1, 2, 3, 4]), Err(6));
-    assert_eq!(to(&[list, list], &[1, 2, 3]), label(&[2, 3, 2, 3]));
-    assert_eq!(to(&[list, list], &[1, 2, 3, 4]), Err(6));
+    assert_eq!(to(&[list, x, Constant(7)], &longest), Err(6));
+    assert_eq!(
+        to(&[list, list], &longest[..5]),
+        label(&[2, 3, 4, 5, 2, 3, 4, 5])
+    );
+    assert_eq!(to(&[list, list], &longest[..6]), Err(6));
+    assert_eq!(to(&[list, list, list], &longest[..4]), Err(6));
+    assert_eq!(to(&[x; 8], &[3]), label(&[3; 8]));
 }

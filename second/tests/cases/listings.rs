@@ -48,12 +48,12 @@ fn the_program_prints_the_listing_of_case_p() {
 fn listing_of_free_slots_roots_and_labels() {
     let input = RunnerInput {
         nodes: [
-            [0; 20],
+            FREE,
             node_slot(mark::GREEN, true, &[-1, 0, i32::MAX, i32::MIN]),
             node_slot(mark::NONE, false, &[]),
         ]
         .concat(),
-        edges: [[0; 24], edge_slot(mark::DASHED, 1, 2, &[3, -3])].concat(),
+        edges: [FREE_EDGE, edge_slot(mark::DASHED, 1, 2, &[3, -3])].concat(),
         records: 0,
         fuel: 1,
         program: SKIP.to_vec(),

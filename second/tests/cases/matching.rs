@@ -77,7 +77,7 @@ fn each_matching_rule_is_broken_by_itself() {
 fn matched(
     left_edges: Vec<RuleEdge>,
     nodes: usize,
-    edges: &[[u8; 24]],
+    edges: &[[u8; EDGE]],
 ) -> (Vec<usize>, Vec<usize>) {
     let blue = left_edges
         .iter()
@@ -95,11 +95,11 @@ fn matched(
     let outcome = applied(rule, &vec![PLAIN; nodes], edges);
     let slot_of = |number: i32| {
         let red = node_slot(mark::RED, false, &[number]);
-        outcome.nodes.chunks(20).position(|slot| slot == red)
+        outcome.nodes.chunks(NODE).position(|slot| slot == red)
     };
     let blue_edges = outcome
         .edges
-        .chunks(24)
+        .chunks(EDGE)
         .enumerate()
         .filter(|(_, slot)| slot[1] == mark::BLUE);
     let found = [0, 1].into_iter().filter_map(slot_of).collect();
@@ -131,7 +131,7 @@ fn any_agrees_with_every_mark_and_keeps_it() {
         let left = (sides(), vec![edge(mark::ANY, 0, 0, &[])]);
         let delete_loop = rule(left, (sides(), vec![]), 1);
         let outcome = applied(delete_loop, &[PLAIN], &[edge_slot(number, 0, 0, &[])]);
-        assert_eq!((outcome.answer, outcome.edges), (0, vec![0; 24]));
+        assert_eq!((outcome.answer, outcome.edges), (0, FREE_EDGE.to_vec()));
     }
 }
 
@@ -159,7 +159,7 @@ fn the_dangling_condition_looks_at_edges_outside_the_match() {
     };
     let nodes = [node_slot(mark::GREY, false, &[]), PLAIN, RED];
     let matched = edge_slot(mark::NONE, 0, 1, &[]);
-    let answer = |edges: &[[u8; 24]]| applied(delete_second.clone(), &nodes, edges).answer;
+    let answer = |edges: &[[u8; EDGE]]| applied(delete_second.clone(), &nodes, edges).answer;
     assert_eq!(answer(&[matched]), 0);
     assert_eq!(answer(&[matched, edge_slot(mark::NONE, 0, 2, &[])]), 0);
     assert_eq!(answer(&[matched, matched]), 1);
@@ -179,7 +179,7 @@ fn a_loop_edge_counts_once() {
     let delete = rule(with_loop(), (vec![], vec![]), 0);
     let outcome = applied(delete.clone(), &[PLAIN], &[edge_slot(0, 0, 0, &[])]);
     assert_eq!(numbers(&outcome), (0, 1, 2));
-    assert_eq!((outcome.nodes, outcome.edges), (vec![0; 20], vec![0; 24]));
+    assert_eq!((outcome.nodes, outcome.edges), (FREE.to_vec(), FREE_EDGE.to_vec()));
     let two_loops = [edge_slot(0, 0, 0, &[]); 2];
     assert_eq!(applied(delete, &[PLAIN], &two_loops).answer, 1);
 }

@@ -5,8 +5,8 @@ use super::rules::*;
 use second::encode::node_slot;
 use second::tree::*;
 
-const ROOT: [u8; 20] = [1, 0, 1, 0, 0, 0, 0, 0, 0, 0, 0, 0, 0, 0, 0, 0, 0, 0, 0, 0];
-const RED_ROOT: [u8; 20] = [1, 1, 1, 0, 0, 0, 0, 0, 0, 0, 0, 0, 0, 0, 0, 0, 0, 0, 0, 0];
+const ROOT: [u8; NODE] = unlabelled(0, 1);
+const RED_ROOT: [u8; NODE] = unlabelled(1, 1);
 
 /// M with a sixth field of this byte.
 fn m_with(mode: u8) -> Vec<u8> {
@@ -17,7 +17,7 @@ fn m_with(mode: u8) -> Vec<u8> {
 
 #[test]
 fn case_15_in_each_mode() {
-    let on = |host: &[u8; 20], rule: &[u8]| run_on(host, &[], &[rule, &RULE_0], AMPLE_FUEL);
+    let on = |host: &[u8; NODE], rule: &[u8]| run_on(host, &[], &[rule, &RULE_0], AMPLE_FUEL);
     for rule in [M.as_slice(), &m_with(0)] {
         expect(&on(&ROOT, rule), (1, 1, 0), &ROOT, &[], &[]);
         let records = [node_record(0, &PLAIN)];

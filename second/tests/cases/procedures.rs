@@ -106,7 +106,7 @@ fn no_guard_around_a_call_catches_what_ends_a_run() {
 fn refused(parts: &[&[u8]]) -> u32 {
     let outcome = run_on(&PLAIN, &[], parts, AMPLE_FUEL);
     assert_eq!(outcome.nodes, PLAIN);
-    assert_eq!(outcome.journal, [0xEE; AMPLE_RECORDS * 28]);
+    assert_eq!(outcome.journal, [0xEE; AMPLE_RECORDS * RECORD]);
     assert_eq!(outcome.report, [0; 8]);
     outcome.answer
 }

@@ -1,6 +1,6 @@
 //! Rules that several cases use, and the run of one rule.
 
-use super::bytes::run_on;
+use super::bytes::{run_on, EDGE, NODE};
 pub use second::build::*;
 use second::calls::Outcome;
 use second::encode;
@@ -41,7 +41,7 @@ pub fn image(rules: &[Rule], main: Command) -> Vec<u8> {
 }
 
 /// A run of one rule by itself.
-pub fn applied(rule: Rule, nodes: &[[u8; 20]], edges: &[[u8; 24]]) -> Outcome {
+pub fn applied(rule: Rule, nodes: &[[u8; NODE]], edges: &[[u8; EDGE]]) -> Outcome {
     run_on(
         &nodes.concat(),
         &edges.concat(),

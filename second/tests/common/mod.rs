@@ -59,7 +59,7 @@ impl Sample {
         let call = RunCall {
             nodes: self.nodes.clone(),
             edges: self.edges.clone(),
-            journal: vec![0xEE; self.records * 28],
+            journal: vec![0xEE; self.records * Layout::BASE.record_length()],
             program: self.image.clone(),
             fuel: self.fuel,
             report: vec![0xEE; 8],
@@ -153,7 +153,7 @@ fn host_edge(random: &mut Random, live: &[usize]) -> Edge {
 }
 
 fn host_label(random: &mut Random) -> Label {
-    let length = random.weighted(&[50, 25, 10, 10, 5]);
+    let length = random.weighted(&[48, 24, 9, 8, 4, 2, 1, 1, 3]);
     let atoms: Vec<i32> = (0..length).map(|_| atom(random)).collect();
     Label::of(&atoms)
 }
@@ -338,7 +338,7 @@ impl Sampling<'_> {
         if self.random.chance(40) {
             return left.to_vec();
         }
-        let length = self.random.weighted(&[35, 35, 20, 8, 2]);
+        let length = self.random.weighted(&[34, 34, 18, 7, 2, 1, 1, 1, 2]);
         (0..length).map(|_| self.right_element()).collect()
     }
 

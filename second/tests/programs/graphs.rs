@@ -3,6 +3,7 @@
 use std::collections::{BTreeMap, BTreeSet, VecDeque};
 
 use second::families::{Edge, Node};
+use second::layout::Layout;
 
 #[derive(Clone, Debug, PartialEq, Eq)]
 pub struct Graph {
@@ -23,8 +24,8 @@ impl Graph {
         };
         let live = |slot: &(usize, &[u8])| slot.1[0] == 1;
         Graph {
-            nodes: nodes.chunks(20).enumerate().filter(live).map(|(n, slot)| (n, node(slot))).collect(),
-            edges: edges.chunks(24).enumerate().filter(live).map(|(n, slot)| (n, edge(slot))).collect(),
+            nodes: nodes.chunks(Layout::BASE.node_length()).enumerate().filter(live).map(|(n, slot)| (n, node(slot))).collect(),
+            edges: edges.chunks(Layout::BASE.edge_length()).enumerate().filter(live).map(|(n, slot)| (n, edge(slot))).collect(),
         }
     }
 

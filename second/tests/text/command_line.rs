@@ -1,6 +1,6 @@
 //! The program `gp2` as it is called: files, standard streams, options and exit status.
 
-use super::helpers::CASE_P;
+use super::helpers::{CASE_P, EDGE, NODE};
 use second::encode;
 use second::listing::listing;
 use std::fs;
@@ -27,12 +27,12 @@ const CASE_P_SIZES: [&str; 8] = [
 ];
 
 /// An own directory for a test, with case P in it.
-struct Place {
+pub struct Place {
     directory: PathBuf,
 }
 
 impl Place {
-    fn new(name: &str) -> Place {
+    pub fn new(name: &str) -> Place {
         let directory = PathBuf::from(env!("CARGO_TARGET_TMPDIR")).join(format!("text-{name}"));
         let _ = fs::remove_dir_all(&directory);
         fs::create_dir_all(&directory).expect("a directory");
@@ -42,15 +42,15 @@ impl Place {
         place
     }
 
-    fn write(&self, file: &str, bytes: &[u8]) {
+    pub fn write(&self, file: &str, bytes: &[u8]) {
         fs::write(self.directory.join(file), bytes).expect("written");
     }
 
-    fn read(&self, file: &str) -> Vec<u8> {
+    pub fn read(&self, file: &str) -> Vec<u8> {
         fs::read(self.directory.join(file)).expect("read")
     }
 
-    fn files(&self) -> Vec<String> {
+    pub fn files(&self) -> Vec<String> {
         let entries = fs::read_dir(&self.directory).expect("a directory");
         let names = entries.map(|entry| entry.expect("an entry").file_name());
         let mut names: Vec<String> = names
@@ -60,7 +60,7 @@ impl Place {
         names
     }
 
-    fn gp2(&self, arguments: &[&str]) -> Output {
+    pub fn gp2(&self, arguments: &[&str]) -> Output {
         self.gp2_with_input(arguments, b"")
     }
 
@@ -70,7 +70,7 @@ impl Place {
         assert_done(&self.gp2(&[&files[..], &CASE_P_SIZES].concat()));
     }
 
-    fn gp2_with_input(&self, arguments: &[&str], input: &[u8]) -> Output {
+    pub fn gp2_with_input(&self, arguments: &[&str], input: &[u8]) -> Output {
         let mut child = Command::new(env!("CARGO_BIN_EXE_gp2"))
             .args(arguments)
             .current_dir(&self.directory)
@@ -85,15 +85,15 @@ impl Place {
     }
 }
 
-fn out(output: &Output) -> String {
+pub fn out(output: &Output) -> String {
     String::from_utf8(output.stdout.clone()).expect("text")
 }
 
-fn err(output: &Output) -> String {
+pub fn err(output: &Output) -> String {
     String::from_utf8(output.stderr.clone()).expect("text")
 }
 
-fn assert_done(output: &Output) {
+pub fn assert_done(output: &Output) {
     assert_eq!((output.status.code(), err(output).as_str()), (Some(0), ""));
 }
 
@@ -103,7 +103,7 @@ fn assert_refused_by_system(output: &Output, start: &str) {
     assert!(err(output).starts_with(start), "{}", err(output));
 }
 
-fn assert_refused(output: &Output, status: i32, message: &str) {
+pub fn assert_refused(output: &Output, status: i32, message: &str) {
     assert_eq!(output.status.code(), Some(status), "{}", err(output));
     assert_eq!(err(output), format!("{message}\n"));
     assert_eq!(out(output), "");
@@ -189,7 +189,7 @@ fn options_go_before_the_numbers_of_a_host_section() {
     assert_done(&place.gp2(&["asm", "both.gp2", "--fuel", "3", "-o", "both.run"]));
     let input = second::listing::read_input(&place.read("both.run")).expect("a runner image");
     assert_eq!((input.fuel, input.records), (3, 8));
-    assert_eq!((input.nodes.len(), input.edges.len()), (18 * 20, 17 * 24));
+    assert_eq!((input.nodes.len(), input.edges.len()), (18 * NODE, 17 * EDGE));
 }
 
 #[test]
@@ -408,51 +408,6 @@ fn dis_and_dot_refuse_damaged_images_with_status_1() {
         &output,
         1,
         "bad.image: offset 0: no host graph, expected a runner image (tag 0x01)",
-    );
-}
-
-/// `if skip then skip else skip` in the old form and in today's.
-const OLD: [u8; 12] = [0x52, 0, 9, 0x55, 0, 0, 0x55, 0, 0, 0x55, 0, 0];
-const TODAY: [u8; 13] = [0x59, 0, 10, 0, 0x55, 0, 0, 0x55, 0, 0, 0x55, 0, 0];
-
-#[test]
-fn renew_rewrites_an_image_of_the_old_form() {
-    let place = Place::new("renew");
-    place.write("old.image", &OLD);
-    let refused = place.gp2(&["dis", "old.image"]);
-    let what =
-        "an image of the old form, in which if (0x52) and try (0x53) are commands of their own";
-    let remedy = "`gp2 renew OLD -o NEW` rewrites it; a run answers 16";
-    let message = format!("old.image: offset 0, program: {what}; {remedy}");
-    assert_refused(&refused, 1, &message);
-    assert_done(&place.gp2(&["renew", "old.image", "-o", "new.image"]));
-    assert_eq!(place.read("new.image"), TODAY);
-    assert_eq!(place.read("old.image"), OLD);
-    assert_eq!(
-        out(&place.gp2(&["dis", "new.image"])),
-        "Main = if skip then skip else skip\n"
-    );
-    let streams = place.gp2_with_input(&["renew", "-", "-o", "-"], &OLD);
-    assert_done(&streams);
-    assert_eq!(streams.stdout, TODAY);
-    assert_done(&place.gp2(&["renew", "old.image", "-o", "old.image"]));
-    assert_eq!(place.read("old.image"), TODAY);
-}
-
-#[test]
-fn what_cannot_be_renewed_leaves_the_new_image_alone() {
-    let place = Place::new("not-renewed");
-    place.write("today.image", &TODAY);
-    place.write("new.image", b"old");
-    let message = "today.image: an image of today's form already, with guarded commands (0x59)";
-    for new in ["new.image", "none.image"] {
-        let refused = place.gp2(&["renew", "today.image", "-o", new]);
-        assert_refused(&refused, 1, message);
-    }
-    assert_eq!(place.read("new.image"), b"old");
-    assert_eq!(
-        place.files(),
-        ["new.image", "p.gp2", "p.host", "today.image"]
     );
 }
 

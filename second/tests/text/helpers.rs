@@ -1,8 +1,13 @@
 //! Short ways to assemble a text and to build what it should give.
 
 pub use second::build::{call, edge, if_command, looped, node, try_command};
+use second::layout::Layout;
 use second::text::{assemble_as, assemble_program, Procedures};
 use second::tree::*;
+
+/// The bytes of a node slot and of an edge slot.
+pub const NODE: usize = Layout::BASE.node_length();
+pub const EDGE: usize = Layout::BASE.edge_length();
 
 /// Declarations of rules a, b and c, which do nothing, so that commands have something to call.
 pub const THREE_RULES: &str = "

@@ -1,6 +1,6 @@
 //! Host graphs, alone and behind a program, and the tables that they fill.
 
-use super::helpers::THREE_RULES;
+use super::helpers::{EDGE, NODE, THREE_RULES};
 use second::encode;
 use second::text::{assemble, read_graph, runner_input, HostGraph, Sizes};
 use second::tree::{mark, Command, Program};
@@ -45,9 +45,9 @@ fn tables_have_the_asked_slots_with_free_ones_behind() {
         encode::node_slot(0, false, &[5]),
         encode::node_slot(1, true, &[]),
     ];
-    assert_eq!(nodes, [live_nodes.concat(), vec![0; 20]].concat());
+    assert_eq!(nodes, [live_nodes.concat(), vec![0; NODE]].concat());
     let live_edge = encode::edge_slot(mark::DASHED, 1, 0, &[-1]);
-    assert_eq!(edges, [live_edge.to_vec(), vec![0; 24]].concat());
+    assert_eq!(edges, [live_edge.to_vec(), vec![0; EDGE]].concat());
 }
 
 #[test]
@@ -58,10 +58,10 @@ fn an_empty_pair_of_parentheses_keeps_a_slot_free() {
         [1, 3]
     );
     let (nodes, edges) = graph.tables(4, 2).expect("enough slots");
-    assert_eq!(nodes[..20], [0; 20]);
-    assert_eq!(nodes[20..40], encode::node_slot(0, false, &[5]));
-    assert_eq!(nodes[60..], encode::node_slot(0, false, &[6]));
-    assert_eq!(edges[24..], encode::edge_slot(0, 3, 1, &[]));
+    assert_eq!(nodes[..NODE], [0; NODE]);
+    assert_eq!(nodes[NODE..2 * NODE], encode::node_slot(0, false, &[5]));
+    assert_eq!(nodes[3 * NODE..], encode::node_slot(0, false, &[6]));
+    assert_eq!(edges[EDGE..], encode::edge_slot(0, 3, 1, &[]));
 }
 
 #[test]
@@ -94,8 +94,30 @@ fn a_runner_input_takes_its_usual_numbers() {
     let graph = graph("[ (1, 5) (2, 6) | (1, 1, 2, empty) ]");
     let input = runner_input(&program, &graph, &Sizes::default()).expect("legal");
     assert_eq!((input.fuel, input.records), (100_000, 1024));
-    assert_eq!(input.nodes.len(), (2 + 16) * 20);
-    assert_eq!(input.edges.len(), (1 + 16) * 24);
+    assert_eq!(input.nodes.len(), (2 + 16) * NODE);
+    assert_eq!(input.edges.len(), (1 + 16) * EDGE);
+}
+
+/// Tables of the greatest size leave 6,123 bytes to a program.
+#[test]
+fn a_runner_input_over_the_runners_limit_is_refused() {
+    let graph = graph("[ (1, 5) | ]");
+    let sizes = Sizes {
+        nodes: Some(512),
+        edges: Some(1024),
+        ..Sizes::default()
+    };
+    let row = Command::Sequence(vec![Command::RuleSet(vec![0; 8]); 16]);
+    let program = |rows: usize| {
+        let rows = [16, 16, rows].map(|count| Command::Sequence(vec![row.clone(); count]));
+        Program::without_procedures(vec![], Command::Sequence(rows.to_vec()))
+    };
+    assert_eq!(encode::program(&program(2)).len(), 6_098);
+    assert!(runner_input(&program(2), &graph, &sizes).is_ok());
+    assert_eq!(
+        runner_input(&program(3), &graph, &sizes),
+        Err("the runner's input takes 65,690 bytes, expected at most 65,536: fewer slots, or a shorter program".to_string())
+    );
 }
 
 #[test]
@@ -251,8 +273,8 @@ const REFUSED_GRAPHS: &[(&str, &str)] = &[
         "1:7: -2147483649 can't be held, expected a number from -2147483648",
     ),
     (
-        "[ (1, 1:2:3:4:5) | ]",
-        "1:15: an atom too many, expected at most 4",
+        "[ (1, 1:2:3:4:5:6:7:8:9) | ]",
+        "1:23: an atom too many, expected at most 8",
     ),
     (
         "[ (1, 1+1) | ]",

@@ -6,6 +6,7 @@ use second::build::{call, if_command, looped, node, node_rule};
 use second::calls;
 use second::corpus;
 use second::encode::{self, RunnerInput};
+use second::layout::Layout;
 use second::listing::{read_input, run_input};
 use second::random::Random;
 use second::text::{assemble_program, disassemble, draw, draw_after, image_graph};
@@ -118,19 +119,19 @@ fn runner_images_are_refused_with_the_runs_answer() {
     let changes: [(fn(&mut RunnerInput), &str); 7] = [
         (
             |input| input.nodes.push(0),
-            "offset 3, node table: expected 0 to 512 slots of 20 bytes, found 21 bytes; a run answers 10",
+            "offset 3, node table: expected 0 to 512 slots of 36 bytes, found 37 bytes; a run answers 10",
         ),
         (
-            |input| input.edges = vec![0; 24 * 1025],
-            "offset 26, edge table: expected 0 to 1,024 slots of 24 bytes, found 24600 bytes; a run answers 11",
+            |input| input.edges = vec![0; 40 * 1025],
+            "offset 42, edge table: expected 0 to 1,024 slots of 40 bytes, found 41000 bytes; a run answers 11",
         ),
         (
             |input| input.fuel = 1_000_001,
-            "offset 58, fuel: expected at most 1000000, found 1000001; a run answers 13",
+            "offset 90, fuel: expected at most 1000000, found 1000001; a run answers 13",
         ),
         (
             |input| input.program = vec![0x55; 8193],
-            "offset 8257, program: expected at most 8192 bytes, found 8193; a run answers 14",
+            "offset 8289, program: expected at most 8192 bytes, found 8193; a run answers 14",
         ),
         (
             |input| input.nodes[2] = 2,
@@ -138,11 +139,11 @@ fn runner_images_are_refused_with_the_runs_answer() {
         ),
         (
             |input| input.edges[7] = 1,
-            "offset 26, edge slot 0: its target 1 is no live node slot; a run answers 15",
+            "offset 42, edge slot 0: its target 1 is no live node slot; a run answers 15",
         ),
         (
             |input| input.program[2] = 1,
-            "offset 68, skip: expected a payload of 1 bytes; a run answers 16",
+            "offset 100, skip: expected a payload of 1 bytes; a run answers 16",
         ),
     ];
     for (change, expected) in changes {
@@ -171,16 +172,16 @@ fn damaged_inputs() -> [(Vec<u8>, &'static str); 6] {
     let legal = encode::runner_input(&runner(image(vec![], Command::Skip)));
     [
         (
-            with_byte(&legal, 23, 3),
-            "offset 23, edge table: expected a field with tag 0x02",
+            with_byte(&legal, 39, 3),
+            "offset 39, edge table: expected a field with tag 0x02",
         ),
         (
             with_byte(&legal, 1, 9),
-            "offset 3, node table: expected a payload of 2324 bytes, found 65",
+            "offset 3, node table: expected a payload of 2340 bytes, found 97",
         ),
         (
-            with_byte(&legal, 53, 4),
-            "offset 53, journal records: expected at most 1,024 records",
+            with_byte(&legal, 85, 4),
+            "offset 85, journal records: expected at most 1,024 records",
         ),
         (
             legal[..2].to_vec(),
@@ -188,7 +189,7 @@ fn damaged_inputs() -> [(Vec<u8>, &'static str); 6] {
         ),
         (
             [&legal[..], &[0]].concat(),
-            "offset 68, runner image: expected nothing behind the program",
+            "offset 100, runner image: expected nothing behind the program",
         ),
         (
             vec![1; 65_537],
@@ -325,7 +326,7 @@ fn every_shortened_image_is_refused() {
 fn drawn() -> RunnerInput {
     let nodes = [
         encode::node_slot(0, true, &[5, -7]),
-        [0; 20],
+        [0; Layout::BASE.node_length()],
         encode::node_slot(mark::RED, false, &[]),
         encode::node_slot(mark::GREEN, false, &[1]),
         encode::node_slot(mark::BLUE, false, &[2]),

@@ -167,7 +167,7 @@ fn an_image_of_the_old_form_keeps_its_modes() {
         let rule = by_hand(more)[..19 + more.len()].to_vec();
         let old = [&rule[..], &[0x53, 0, 9], &skips].concat();
         let today = [&rule[..], &[0x59, 0, 10, 1], &skips].concat();
-        assert_eq!(renew(&old), Ok(today));
+        assert_eq!(renew(&old).map(|renewed| renewed.image), Ok(today));
     }
     let damaged = [&by_hand(&[0x16, 0, 1, 2])[..], &[]].concat();
     assert_eq!(

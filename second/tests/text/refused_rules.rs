@@ -128,7 +128,7 @@ fn labels_on_the_left() {
         ("r(i: int) [ (1, i+1) | ] => [ | ] interface = {}", "2:17: a sum or difference on the left can't be held, expected an integer or a variable"),
         ("r(x: list) [ (1, x:1:x) | ] => [ | ] interface = {}", "2:22: a second list variable in one left label, expected at most one"),
         ("r(x, y: list) [ (1, x) | (e, 1, 1, x:y) ] => [ | ] interface = {}", "2:38: a second list variable in one left label"),
-        ("r() [ (1, 1:2:3:4:5) | ] => [ | ] interface = {}", "2:19: a label element too many, expected at most 4"),
+        ("r() [ (1, 1:2:3:4:5:6:7:8:9) | ] => [ | ] interface = {}", "2:27: a label element too many, expected at most 8"),
         ("r() [ (1, indeg(1)) | ] => [ | ] interface = {}", "2:11: a degree in a label can't be held, expected an integer or a variable"),
         ("r() [ (1, 2147483648) | ] => [ | ] interface = {}", "2:11: 2147483648 can't be held, expected a number from -2147483648 to 2147483647"),
         ("r() [ (1, -2147483649) | ] => [ | ] interface = {}", "2:11: -2147483649 can't be held"),
@@ -155,8 +155,8 @@ const RIGHT_LABELS: &[(&str, &str)] = &[
     ),
     ("free-1", "3:1: the variable `free` has no value here"),
     (
-        "1:2:3:4:i+j",
-        "3:9: a label element too many, expected at most 4",
+        "1:2:3:4:5:6:7:8:i+j",
+        "3:17: a label element too many, expected at most 8",
     ),
     (
         "i+j+1",

@@ -5,11 +5,17 @@ use super::legal_programs;
 use super::round_trips::random_runner_input;
 use second::build::*;
 use second::calls;
+use second::carrying::{carried, Way};
 use second::corpus;
 use second::encode::{self, RunnerInput};
 use second::random::Random;
-use second::text::{assemble_as, disassemble, draw, draw_after, renew, Procedures};
+use second::text::{assemble_as, disassemble, draw, draw_after, Procedures};
 use second::tree::*;
+
+/// What a renewed image is, whatever became of its host.
+fn renew(image: &[u8]) -> Result<Vec<u8>, String> {
+    second::text::renew(image).map(|renewed| renewed.image)
+}
 
 /// The image of a program without procedures in the old form, whose rules are those of today's.
 fn old_image(program: &Program) -> Vec<u8> {
@@ -163,7 +169,7 @@ fn an_image_without_if_and_try_stays_as_it_is() {
 }
 
 #[test]
-fn a_runner_image_is_renewed_in_its_program_alone() {
+fn a_runner_image_of_eight_atoms_is_renewed_in_its_program_alone() {
     let mut random = Random::new(33);
     let mut renewed = 0;
     for _ in 0..500 {
@@ -172,17 +178,25 @@ fn a_runner_image_is_renewed_in_its_program_alone() {
         if !program.procedures.is_empty() {
             continue;
         }
-        renewed += 1;
         let old = RunnerInput {
             program: old_image(&program),
             ..today.clone()
         };
+        if keeps_old_layout(&today) {
+            continue;
+        }
+        renewed += 1;
         assert_eq!(
             renew(&encode::runner_input(&old)),
             Ok(encode::runner_input(&today))
         );
     }
     assert!(renewed >= 200, "{renewed}");
+}
+
+/// Whether both tables could be old ones.
+fn keeps_old_layout(input: &RunnerInput) -> bool {
+    carried(Way::Widen, &input.nodes, &input.edges).is_ok()
 }
 
 /// 512 guarded commands, every second of which keeps, in so many bytes of today's form, from 7,987 on.
@@ -229,36 +243,22 @@ fn the_longest_images_just_fit() {
     );
 }
 
-/// A runner image of so many bytes around a program of the old form, with a node table of zeros. It has 21 bytes beside
-/// table and program.
-fn runner_of_bytes(bytes: usize, program: Vec<u8>) -> Vec<u8> {
+/// A runner image of one node, which tables of eight atoms hold, around a program. The program starts at byte 57.
+fn runner_around(program: &[u8]) -> Vec<u8> {
     encode::runner_input(&RunnerInput {
-        nodes: vec![0; bytes - 21 - program.len()],
+        nodes: encode::node_slot(mark::RED, false, &[1, 2, 3, 4, 5]).to_vec(),
         edges: vec![],
         records: 8,
         fuel: 10,
-        program,
+        program: program.to_vec(),
     })
 }
 
 #[test]
-fn a_renewed_input_of_the_runner_keeps_its_limit() {
-    let program = old_image(&of_command(if_command(
-        Command::Skip,
-        Command::Skip,
-        Command::Skip,
-    )));
-    let renewed = renew(&runner_of_bytes(65_535, program.clone())).expect("an input");
-    assert_eq!(renewed.len(), 65_536);
-    assert_eq!(
-        renew(&runner_of_bytes(65_536, program)),
-        Err("renewed, the runner's input would have 65,537 bytes, over the limit of 65,536: it has to be made smaller by 1 byte"
-            .to_string())
-    );
-    assert_eq!(
-        renew(&runner_of_bytes(10_000, old_image(&full(8193)))),
-        renew(&old_image(&full(8193)))
-    );
+fn a_program_that_gets_too_long_is_refused_with_a_host_too() {
+    let refused = renew(&runner_around(&old_image(&full(8193))));
+    assert!(refused.is_err());
+    assert_eq!(refused, renew(&old_image(&full(8193))));
 }
 
 /// Images that are not of the old form, and what is said of each.
@@ -270,7 +270,7 @@ fn not_old() -> Vec<(Vec<u8>, &'static str)> {
     vec![
         (today.clone(), "an image of today's form already, with guarded commands (0x59)"),
         (
-            runner_of_bytes(100, today),
+            runner_around(&today),
             "an image of today's form already, with guarded commands (0x59)",
         ),
         (
@@ -294,12 +294,12 @@ fn not_old() -> Vec<(Vec<u8>, &'static str)> {
             "offset 6, variable types: expected a payload of 9 bytes; this is no image of the old form",
         ),
         (
-            runner_of_bytes(100, vec![0xff]),
-            "offset 99, program: expected a command of the old form: tag 0x50 to 0x57; this is no image of the old form",
+            runner_around(&[0xff]),
+            "offset 57, program: expected a command of the old form: tag 0x50 to 0x57; this is no image of the old form",
         ),
         (
-            runner_of_bytes(100, old(3))[..99].to_vec(),
-            "offset 88, program: expected a payload of 12 bytes, found 11; the runner prints `input refused`",
+            runner_around(&old(3))[..57 + 11].to_vec(),
+            "offset 57, program: expected a payload of 12 bytes, found 11; the runner prints `input refused`",
         ),
     ]
 }
@@ -324,19 +324,18 @@ fn dis_says_of_an_old_image_what_it_is() {
             "offset 11, sequence: {IN_OLD_FORM}; a run answers 16"
         ))
     );
-    let runner = runner_of_bytes(21 + old.len(), old.to_vec());
+    let runner = runner_around(old);
     assert_eq!(
         disassemble(&runner),
         Err(format!(
-            "offset 32, sequence: {IN_OLD_FORM}; a run answers 16"
+            "offset 68, sequence: {IN_OLD_FORM}; a run answers 16"
         ))
     );
 }
 
 #[test]
 fn the_graph_of_an_old_image_is_drawn_before_the_run_alone() {
-    let [old, today] =
-        BY_HAND.map(|program| runner_of_bytes(21 + program.len() + 20, program.to_vec()));
+    let [old, today] = BY_HAND.map(runner_around);
     assert_eq!(draw(&old), draw(&today));
     assert!(draw(&old).is_ok());
     assert_eq!(draw_after(&old), Err(IN_OLD_FORM.to_string()));

@@ -3,6 +3,7 @@
 use super::legal_programs;
 use second::build::*;
 use second::encode::{self, RunnerInput};
+use second::layout::Layout;
 use second::random::Random;
 use second::text::{assemble, assemble_program, disassemble, runner_input};
 use second::tree::*;
@@ -137,7 +138,7 @@ pub fn random_runner_input(random: &mut Random) -> RunnerInput {
     let mut nodes = Vec::new();
     for slot in 0..node_slots {
         if random.chance(30) {
-            nodes.extend([0; 20]);
+            nodes.extend([0; Layout::BASE.node_length()]);
             continue;
         }
         live.push(slot as u16);
@@ -150,7 +151,7 @@ pub fn random_runner_input(random: &mut Random) -> RunnerInput {
     let mut edges = Vec::new();
     for _ in 0..edge_slots {
         if live.is_empty() || random.chance(30) {
-            edges.extend([0; 24]);
+            edges.extend([0; Layout::BASE.edge_length()]);
             continue;
         }
         let (source, target) = (random.pick(&live), random.pick(&live));
@@ -175,7 +176,8 @@ fn atoms(random: &mut Random) -> Vec<i32> {
         0 => random.pick(&[0, -1, i32::MIN, i32::MAX]),
         _ => random.next() as i32,
     };
-    (0..random.below(5)).map(|_| number(random)).collect()
+    let length = random.below(Layout::BASE.atoms + 1);
+    (0..length).map(|_| number(random)).collect()
 }
 
 #[test]
@@ -190,10 +192,10 @@ fn random_runner_images_come_back() {
 #[test]
 fn full_tables_come_back() {
     let nodes: Vec<u8> = (0..512)
-        .flat_map(|number| encode::node_slot(4, true, &[number; 4]))
+        .flat_map(|number| encode::node_slot(4, true, &[number; Layout::BASE.atoms]))
         .collect();
     let edges: Vec<u8> = (0..1024)
-        .flat_map(|number| encode::edge_slot(5, number / 2, 511, &[-1; 4]))
+        .flat_map(|number| encode::edge_slot(5, number / 2, 511, &[-1; Layout::BASE.atoms]))
         .collect();
     let program = encode::program(&of_command(Command::Skip));
     let input = RunnerInput {

@@ -1,0 +1,199 @@
+//! Stored cases of the calls widen and narrow, and of the programs of these names.
+
+use std::fmt::Write;
+
+use crate::answer;
+use crate::carrying::{self, CarryCall, Way};
+use crate::corpus;
+use crate::host::{Edge, Host, Label, Node};
+use crate::layout::Layout;
+use crate::listing;
+use crate::random::Random;
+use crate::refusals::{self, Carrying};
+use crate::tree::mark;
+
+use super::{case, hexadecimal, Stored, MOST_BYTES};
+
+/// Drawn hosts that are looked at, and how many slots one may have.
+const DRAWN: u64 = 600;
+const MOST_SLOTS: usize = 14;
+
+/// The seed of the drawn hosts.
+const SEED: u64 = 6;
+
+/// Carryings: a byte that says which way (0 widen, 1 narrow), both tables, and both tables that the host is carried to. The line of a
+/// case has the number and what these two hold then.
+pub fn carry_cases() -> Stored {
+    let mut stdin = Vec::new();
+    let mut stdout = String::new();
+    for carrying in carry_calls() {
+        let case = carry_case(&carrying);
+        if stdin.len() + case.len() > MOST_BYTES {
+            break;
+        }
+        stdin.extend(case);
+        let left = carrying.call.outcome(carrying.way);
+        let (nodes, edges) = (hexadecimal(&left.nodes), hexadecimal(&left.edges));
+        writeln!(stdout, "{} {nodes} {edges}", left.answer).expect("a string takes all");
+    }
+    Stored { stdin, stdout: stdout.into_bytes() }
+}
+
+fn carry_case(carrying: &Carrying) -> Vec<u8> {
+    let way = match carrying.way {
+        Way::Widen => 0,
+        Way::Narrow => 1,
+    };
+    let call = &carrying.call;
+    case(&[&[way], &call.nodes, &call.edges, &call.to_nodes, &call.to_edges])
+}
+
+/// Every refusal with its accepted twin, refusals for several numbers, telling hosts, then drawn ones; each once.
+pub fn carry_calls() -> Vec<Carrying> {
+    let mut calls: Vec<Carrying> = Vec::new();
+    for refusal in refusals::of_carrying() {
+        calls.extend([refusal.accepted, refusal.refused]);
+    }
+    calls.extend(refused_for_several());
+    for way in Way::BOTH {
+        let hosts = [every_kind(), Host::default(), without_edges(), many_edges()];
+        calls.extend(hosts.iter().map(|host| Carrying::of(way, host)));
+    }
+    calls.push(Carrying::of(Way::Narrow, &long_label_behind()));
+    calls.extend(drawn());
+    let mut once: Vec<Carrying> = Vec::new();
+    for call in calls {
+        if !once.contains(&call) {
+            once.push(call);
+        }
+    }
+    once
+}
+
+/// Carryings to which two numbers apply, or more.
+fn refused_for_several() -> Vec<Carrying> {
+    let mut calls = Vec::new();
+    for (way, numbers) in [(Way::Widen, &[10, 11, 15][..]), (Way::Narrow, &[10, 11, 15, 26])] {
+        for set in 1u32..1 << numbers.len() {
+            let given = numbers.iter().enumerate().filter(|(bit, _)| set >> bit & 1 == 1);
+            let given: Vec<u32> = given.map(|(_, number)| *number).collect();
+            calls.push(refusals::carrying_refused_for(way, &given));
+        }
+    }
+    calls
+}
+
+fn node(mark: u8, root: bool, atoms: &[i32]) -> Option<Node> {
+    Some(Node { mark, root, label: Label::of(atoms) })
+}
+
+fn edge(mark: u8, source: u16, target: u16, atoms: &[i32]) -> Option<Edge> {
+    Some(Edge { mark, source, target, label: Label::of(atoms) })
+}
+
+/// Every mark, roots, labels of each length that both layouts hold, loops, parallel edges, and free slots between the others.
+fn every_kind() -> Host {
+    Host {
+        nodes: vec![
+            node(mark::NONE, false, &[]),
+            None,
+            node(mark::RED, true, &[1]),
+            node(mark::GREEN, false, &[-2, 2]),
+            node(mark::BLUE, true, &[i32::MAX, i32::MIN, 0]),
+            None,
+            node(mark::GREY, false, &[1, 2, 3, 4]),
+        ],
+        edges: vec![
+            edge(mark::DASHED, 0, 2, &[]),
+            None,
+            edge(mark::NONE, 6, 6, &[9]),
+            edge(mark::RED, 3, 4, &[258, -1]),
+            edge(mark::GREEN, 3, 4, &[258, -1, 0]),
+            edge(mark::BLUE, 4, 3, &[-1, -2, -3, -4]),
+            None,
+        ],
+    }
+}
+
+fn without_edges() -> Host {
+    Host { edges: Vec::new(), ..every_kind() }
+}
+
+/// The longest label that the old layout can't hold, in the last slot of a long table.
+fn long_label_behind() -> Host {
+    let mut nodes = vec![None; 20];
+    nodes.push(node(mark::NONE, true, &[0; Layout::BASE.atoms]));
+    Host { nodes, edges: Vec::new() }
+}
+
+/// More edge slots than one byte counts, every seventh of them free.
+fn many_edges() -> Host {
+    let atoms = [i32::MIN, -1, 1, 256];
+    let one = |slot: u16| (slot % 7 != 3).then(|| edge(mark::DASHED, slot % 2, 1, &atoms[..slot as usize % 5])).flatten();
+    Host { nodes: vec![node(mark::NONE, false, &[]); 2], edges: (0..260).map(one).collect() }
+}
+
+/// Hosts of drawn images carried each way where their tables are read, and back; some with a byte changed.
+fn drawn() -> Vec<Carrying> {
+    let mut calls = Vec::new();
+    for index in 0..DRAWN {
+        let image = corpus::image(SEED, corpus::fixed_count() + index);
+        let random = &mut Random::of_index(SEED, index);
+        calls.extend(listing::read_input(&image).into_iter().flat_map(|input| of_tables(random, input.nodes, input.edges)));
+    }
+    calls
+}
+
+/// Narrow of these tables, and widen of what it leaves.
+fn of_tables(random: &mut Random, nodes: Vec<u8>, edges: Vec<u8>) -> Vec<Carrying> {
+    let (from, to) = (Way::Narrow.from(), Way::Narrow.to());
+    let slots = [nodes.len() / from.node_length(), edges.len() / from.edge_length()];
+    if slots.iter().sum::<usize>() > MOST_SLOTS {
+        return Vec::new();
+    }
+    let [to_nodes, to_edges] = [slots[0] * to.node_length(), slots[1] * to.edge_length()].map(|bytes| filled(random, bytes));
+    let narrow = Carrying { way: Way::Narrow, call: CarryCall { nodes, edges, to_nodes, to_edges } };
+    let left = narrow.call.outcome(narrow.way);
+    let mut calls = vec![narrow.clone()];
+    if left.answer == answer::RESULT {
+        let [to_nodes, to_edges] = [narrow.call.nodes.len(), narrow.call.edges.len()].map(|bytes| filled(random, bytes));
+        let call = CarryCall { nodes: left.nodes, edges: left.edges, to_nodes, to_edges };
+        calls.push(Carrying { way: Way::Widen, call });
+    }
+    let changed = calls.iter().filter(|_| random.chance(20)).cloned().collect::<Vec<Carrying>>();
+    calls.extend(changed.into_iter().filter_map(|carrying| with_a_byte_changed(random, carrying)));
+    calls
+}
+
+/// Bytes that aren't zero.
+fn filled(random: &mut Random, bytes: usize) -> Vec<u8> {
+    (0..bytes).map(|_| random.byte() | 1).collect()
+}
+
+fn with_a_byte_changed(random: &mut Random, mut carrying: Carrying) -> Option<Carrying> {
+    let of_nodes = random.chance(50);
+    let table = if of_nodes { &mut carrying.call.nodes } else { &mut carrying.call.edges };
+    if table.is_empty() {
+        return None;
+    }
+    let at = random.below(table.len());
+    table[at] ^= 1 << random.below(8);
+    Some(carrying)
+}
+
+/// One host with every kind of label that the old layout has.
+pub fn widen() -> Stored {
+    let host = every_kind();
+    stored(Way::Widen, carrying::tables(&host.node_table(&Layout::FOUR), &host.edge_table(&Layout::FOUR)))
+}
+
+/// The same host the other way.
+pub fn narrow() -> Stored {
+    let host = every_kind();
+    stored(Way::Narrow, carrying::tables(&host.node_table(&Layout::BASE), &host.edge_table(&Layout::BASE)))
+}
+
+fn stored(way: Way, stdin: Vec<u8>) -> Stored {
+    let stdout = carrying::output(way, &stdin);
+    Stored { stdin, stdout }
+}
