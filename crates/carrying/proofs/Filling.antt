@@ -1,8 +1,8 @@
 -- A table that is filled slot by slot from the front. Rests on specs/Tables, Labels and Slots.
-use mathlib.Core.Path.{_≡_, refl, sym, _∙_, ap}
+use mathlib.Core.Path.{_≡_, sym, _∙_, ap}
 use mathlib.Core.Bool.{true}
 use mathlib.Core.List.{List, [], _∷_, _++_, map, append-nil, map-append}
-use Prim.Native.Nat.{ℕ, zero, suc, _+_, _-_, _*_, _/_, _<_, _≤_}
+use Prim.Native.Nat.{ℕ, suc, _+_, _*_, _/_, _<_, _≤_}
 use native.Mathlib.Nat.{suc-mul, zero-mul, mul-div-cancel, mul-le-mul-right}
 use native.Mathlib.Numerals.{add-one}
 use native.Mathlib.Omega.{arith}
@@ -16,7 +16,7 @@ use Rattle.meaning.specs.declared.Table.{Table}
 use Rattle.meaning.specs.declared.Table.the-variants.{Nodes, Edges}
 use Rattle.host.specs.Tables.{slotLength}
 use Rattle.graph.specs.Graph.{slotsIn}
-use Rattle.carrying.specs.Tables.{labelIn, labelsFitIn, slotCarried, tableCarried}
+use Rattle.carrying.specs.Tables.{labelsFitIn, slotCarried, tableCarried}
 use Rattle.carrying.proofs.Labels.{fit-at}
 use Rattle.carrying.proofs.Slots.{node-length, edge-length}
 

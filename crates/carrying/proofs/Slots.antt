@@ -1,5 +1,5 @@
 -- One slot: what a live one holds, what is written of a free one, and how many bytes are written of either. Rests on the laws' Layout.
-use mathlib.Core.Path.{_≡_, refl, sym, ap}
+use mathlib.Core.Path.{_≡_, sym, ap}
 use mathlib.Core.Bool.{true, false}
 use mathlib.Core.List.{List, []}
 use Prim.Native.Nat.{ℕ, _≤_}
