@@ -4,6 +4,7 @@ ghost use mathlib.Core.Path.{_≡_};
 ghost use mathlib.Core.List.{[], _∷_};
 ghost use Prim.Native.Nat.{_+_, _*_, _<_, _≤_};
 ghost use lib.ListN.{length, replicate};
+ghost use Rattle.meaning.specs.Layout.{base, four};
 ghost use Rattle.meaning.specs.Carrying.{lendingTables, carry};
 ghost use Rattle.meaning.specs.ProvedSet.{fieldBytes};
 ghost use Rattle.run_input.specs.Input.{mostInput};
@@ -121,7 +122,7 @@ fn carry_parts(from: Layout, to: Layout, nodes: &[u8], edges: &[u8], out: &mut [
 }
 
 // Carries the tables of an input, and says how long what is printed is.
-pub fn carry_input(from: Layout, to: Layout, input: &[u8], out: &mut [u8]) -> usize
+fn carry_input(from: Layout, to: Layout, input: &[u8], out: &mut [u8]) -> usize
     requires { ⌜ Between from to ⌝ }
     requires { ⌜ mostInput ≤ length (now out) ⌝ }
     ensures { λ r. ⌜ Lists (carriedInput from to (now (input .entry))) (now (out .entry)) (now (out .exit)) r ⌝ }
@@ -142,4 +143,20 @@ pub fn carry_input(from: Layout, to: Layout, input: &[u8], out: &mut [u8]) -> us
     let nodes = run_input::payload(input, 0, middle);
     let edges = run_input::payload(input, middle, end);
     carry_parts(from, to, nodes, edges, out)
+}
+
+// The same of old tables, which come to have room for eight atoms in a label.
+pub fn widen_input(input: &[u8], out: &mut [u8]) -> usize
+    requires { ⌜ mostInput ≤ length (now out) ⌝ }
+    ensures { λ r. ⌜ Lists (carriedInput four base (now (input .entry))) (now (out .entry)) (now (out .exit)) r ⌝ }
+{
+    carry_input(Layout::four(), Layout::base(), input, out)
+}
+
+// The same of today's tables, which come to be old ones.
+pub fn narrow_input(input: &[u8], out: &mut [u8]) -> usize
+    requires { ⌜ mostInput ≤ length (now out) ⌝ }
+    ensures { λ r. ⌜ Lists (carriedInput base four (now (input .entry))) (now (out .entry)) (now (out .exit)) r ⌝ }
+{
+    carry_input(Layout::base(), Layout::four(), input, out)
 }

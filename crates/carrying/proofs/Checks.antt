@@ -1,11 +1,9 @@
 -- What is refused, check by check, and what a carrying that is not refused may rest on. Rests on specs/Tables and the laws' Carrying.
-use mathlib.Core.Path.{_≡_, refl, sym, _∙_}
+use mathlib.Core.Path.{_≡_, refl, sym, _∙_, ap}
 use mathlib.Core.Bool.{Bool, true, false}
 use mathlib.Core.Option.{some, none}
 use mathlib.Core.List.{List}
 use Prim.Native.Nat.{ℕ, _*_, _/_, _≤_}
-use native.Mathlib.Nat.{div-add-mod'}
-use native.Mathlib.Omega.{arith}
 use lib.Dec.{eqb}
 use lib.ListN.{length}
 use Rattle.meaning.specs.Basics.{choose, both, clauses, firstFailing}
@@ -13,7 +11,7 @@ use Rattle.meaning.specs.Layout.{Sized, mostAtoms, nodeLength, edgeLength, fits
 use Rattle.meaning.specs.Calls.{answerNumber}
 use Rattle.meaning.specs.Carrying.{LentTables, lendingTables, Carries, asManySlots, labelsFit, carryRefusal, carryOn, carry}
 use Rattle.meaning.specs.Laws.Tests.{both-true}
-use Rattle.laws.specs.Pieces.{fits-length, length-read}
+use Rattle.laws.specs.Pieces.{fits-whole, length-read}
 use Rattle.meaning.specs.declared.Layout.{Layout}
 use Rattle.meaning.specs.declared.Refusal.{Refusal}
 use Rattle.meaning.specs.declared.Refusal.the-variants.{NodeTableLength, EdgeTableLength, BadHost, LabelDoesNotFit}
@@ -123,14 +121,10 @@ module _ (L M : Layout) (nodes edges toNodes toEdges : List ℕ) where
 
     pub nodes-size : length toNodes ≡ slotsIn L nodes edges Nodes * nodeLength M
     nodes-size =
-        let d = div-add-mod' (length toNodes) (nodeLength M) in
-        let z = fits-length (nodeLength M) (M .nodes) toNodes (its .nodes .into) in
-        let n : length toNodes / nodeLength M ≡ slotsIn L nodes edges Nodes = sym (its .nodes .slots) ∙ sym (length-read (nodeLength L) readNode nodes) in
-        rw (← n) (omega (arith, d, z .0))
+        sym (fits-whole (nodeLength M) (M .nodes) toNodes (its .nodes .into))
+        ∙ ap (λ (n : ℕ). n * nodeLength M) (sym (its .nodes .slots) ∙ sym (length-read (nodeLength L) readNode nodes))
 
     pub edges-size : length toEdges ≡ slotsIn L nodes edges Edges * edgeLength M
     edges-size =
-        let d = div-add-mod' (length toEdges) (edgeLength M) in
-        let z = fits-length (edgeLength M) (M .edges) toEdges (its .edges .into) in
-        let n : length toEdges / edgeLength M ≡ slotsIn L nodes edges Edges = sym (its .edges .slots) ∙ sym (length-read (edgeLength L) (readEdge L) edges) in
-        rw (← n) (omega (arith, d, z .0))
+        sym (fits-whole (edgeLength M) (M .edges) toEdges (its .edges .into))
+        ∙ ap (λ (n : ℕ). n * edgeLength M) (sym (its .edges .slots) ∙ sym (length-read (edgeLength L) (readEdge L) edges))

@@ -84,7 +84,7 @@ module _ (L M : Layout) (nodes edges to : List ℕ) where
         at Edges s = filled-all (edgeLength M) (writeEdge M) (readEdges L edges) to s
 
     module _ (fit : labelsFitIn L nodes edges t (M .atoms) ≡ true) where
-      pub so-far-length : (x : ℕ) → x ≤ slotsIn L nodes edges t → length (soFar t x) ≡ length to
+      so-far-length : (x : ℕ) → x ≤ slotsIn L nodes edges t → length (soFar t x) ≡ length to
       so-far-length x h = at t size fit h ∙ sym size
         where
           at : (t : Table) → length to ≡ slotsIn L nodes edges t * slotLength M t → labelsFitIn L nodes edges t (M .atoms) ≡ true
@@ -93,13 +93,20 @@ module _ (L M : Layout) (nodes edges to : List ℕ) where
           at Edges s f k = filled-length _ _ _ to (λ i j. edge-length M _ (fit-at L nodes edges (M .atoms) Edges f i j)) x k s
 
       module _ (x : ℕ) (h : x < slotsIn L nodes edges t) where
-        pub so-far-next : stored (slotLength M t) x (slotCarried L M nodes edges t x) (soFar t x) ≡ soFar t (x + 1)
+        so-far-next : stored (slotLength M t) x (slotCarried L M nodes edges t x) (soFar t x) ≡ soFar t (x + 1)
         so-far-next = rw (add-one x) (at t fit h)
           where
             at : (t : Table) → labelsFitIn L nodes edges t (M .atoms) ≡ true → x < slotsIn L nodes edges t
                 → stored (slotLength M t) x (slotCarried L M nodes edges t x) (soFar t x) ≡ soFar t (suc x)
             at Nodes f k = filled-next _ _ _ to (λ i j. node-length M _ (fit-at L nodes edges (M .atoms) Nodes f i j)) x k
             at Edges f k = filled-next _ _ _ to (λ i j. edge-length M _ (fit-at L nodes edges (M .atoms) Edges f i j)) x k
+
+        -- one slot more, stored in what was so far
+        pub so-far-more : (out out′ : List ℕ) → out ≡ soFar t x → out′ ≡ stored (slotLength M t) x (slotCarried L M nodes edges t x) out
+            → (length out′ ≡ length to) × (out′ ≡ soFar t (x + 1))
+        so-far-more out out′ e q =
+            let i : out′ ≡ soFar t (x + 1) = q ∙ ap (stored (slotLength M t) x (slotCarried L M nodes edges t x)) e ∙ so-far-next in
+            (ap length i ∙ so-far-length (x + 1) (omega arith), i)
 
         -- the table has the slot
         pub so-far-room : x < length to / slotLength M t

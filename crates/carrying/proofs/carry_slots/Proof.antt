@@ -1,14 +1,11 @@
 -- `carry_slots` meets its contract. The loop's invariant: x slots are carried, the others are as they were lent.
 use mathlib.Core.Path.{_≡_, refl, sym, _∙_, ap}
-use Prim.Native.Nat.{_+_, _-_, _<_, _≤_}
+use Prim.Native.Nat.{_-_, _<_, _≤_}
 use borrow.Author.Needs.{needs}
 use native.Mathlib.Omega.{arith}
 use lib.ListN.{length}
-use Rattle.laws.specs.Pieces.{stored}
-use Rattle.host.specs.Tables.{slotLength}
 use Rattle.graph.specs.Graph.{slotsIn}
-use Rattle.carrying.proofs.Filling.{soFar, so-far-none, so-far-all, so-far-length, so-far-next, so-far-room}
-use Rattle.carrying.specs.Tables.{slotCarried}
+use Rattle.carrying.proofs.Filling.{soFar, so-far-none, so-far-all, so-far-more, so-far-room}
 use Rattle.carrying.proofs.Labels.{fit-at}
 use Rattle.carrying.proofs.carry_slots.Statement.{statement}
 use Rattle.carrying.proofs.carry_slots.Tie as tie
@@ -43,7 +40,9 @@ loop-again : tie.Need-loop-again Inv-loop μ-loop
 loop-again c =
     let s = c .before .before .before .before .before .before .before .before .before .before in
     let a = s .args in
-    let h : c .before .before .before .before .before .loop .x < slotsIn (a .from) (a .nodes .now) (a .edges .now) (a .which) = omega (arith, c .before .before .before .before .before .before .slots-in .ensures, c .before .before .before .before .loop-test .taken) in let e = c .before .before .carry-slot .ensures ∙ ap (stored (slotLength (a .to) (a .which)) (c .before .before .before .before .before .loop .x) (slotCarried (a .from) (a .to) (a .nodes .now) (a .edges .now) (a .which) (c .before .before .before .before .before .loop .x))) (c .before .before .before .before .before .loop .inv .1 .1) ∙ so-far-next (a .from) (a .to) (a .nodes .now) (a .edges .now) (a .out .now) (a .which) (s .pre .1 .1 .0) (s .pre .1 .1 .1) (c .before .before .before .before .before .loop .x) h in (omega arith, (ap length e ∙ so-far-length (a .from) (a .to) (a .nodes .now) (a .edges .now) (a .out .now) (a .which) (s .pre .1 .1 .0) (s .pre .1 .1 .1) (c .before .before .before .before .before .loop .x + 1) (omega arith), e))
+    let loop = c .before .before .before .before .before .loop in
+    let h : loop .x < slotsIn (a .from) (a .nodes .now) (a .edges .now) (a .which) = omega (arith, c .before .before .before .before .before .before .slots-in .ensures, c .before .before .before .before .loop-test .taken) in
+    (omega arith, so-far-more (a .from) (a .to) (a .nodes .now) (a .edges .now) (a .out .now) (a .which) (s .pre .1 .1 .0) (s .pre .1 .1 .1) (loop .x) h _ _ (loop .inv .1 .1) (c .before .before .carry-slot .ensures))
 
 same-length : tie.Need-same-length Inv-loop μ-loop
 same-length c = search needs
