@@ -14,6 +14,7 @@ mod placement;
 mod programs;
 mod references;
 mod runner;
+mod slots;
 mod tables;
 mod undo;
 

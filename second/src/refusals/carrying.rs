@@ -1,9 +1,10 @@
 //! The refusals of the calls widen and narrow.
 
+use super::slots::{damages, Damage, Zeros};
 use super::{refusal, Refusal, UNTOUCHED};
 use crate::carrying::{CarryCall, Way};
 use crate::host::{Edge, Host, Label, Node};
-use crate::layout::{place, Layout, ATOM_BYTES};
+use crate::layout::{place, Layout};
 use crate::tree::mark;
 
 /// A carrying and its way.
@@ -52,9 +53,7 @@ pub fn of_carrying() -> Vec<Refusal<Carrying>> {
     for way in Way::BOTH {
         refusals.extend(tables(way).iter().flat_map(|table| lengths(way, table)));
         refusals.push(too_many_nodes(way));
-        refusals.extend(layout_of_nodes(way));
-        refusals.extend(layout_of_edges(way));
-        refusals.extend(layout_of_ends(way));
+        refusals.extend(layout(way));
     }
     refusals.extend(labels());
     refusals
@@ -142,82 +141,16 @@ fn broken(way: Way, name: &str, edit: impl Fn(&mut CarryCall)) -> Refusal<Carryi
     refusal(&format!("{way:?}, {name}"), 15, accepted(way), accepted(way).with(edit))
 }
 
-/// The bytes of a slot, whose atoms start at this place, at which a byte that must be zero is tried: the last of each atom, and those
-/// at the front.
-fn tried_bytes(layout: &Layout, atoms: usize) -> (Vec<usize>, Vec<usize>) {
-    let front = (1..=place::LABEL_LENGTH).collect();
-    let lasts = (1..=layout.atoms).map(|atom| atoms + atom * ATOM_BYTES - 1).collect();
-    (front, lasts)
-}
-
-/// Slot 0 has an empty label, slot 1 is free, slot 2 has a label of two atoms.
-fn layout_of_nodes(way: Way) -> Vec<Refusal<Carrying>> {
-    let layout = way.from();
-    let (length, first_atom) = (layout.node_length(), layout.node_atoms());
-    let byte = |name: String, at: usize, value: u8| broken(way, &name, |call| call.nodes[at] = value);
-    let too_long = layout.atoms as u8 + 1;
-    let mut list: Vec<Refusal<Carrying>> = [
-        ("node state 2", place::STATE, 2),
-        ("node state 255", place::STATE, 255),
-        ("node state 0 on a live slot", 2 * length + place::STATE, 0),
-        ("dashed node", place::MARK, mark::DASHED),
-        ("node of mark any", place::MARK, mark::ANY),
-        ("node root 2", place::ROOT, 2),
-        ("node label of an atom too many", place::LABEL_LENGTH, too_long),
-        ("node label of 255 atoms", place::LABEL_LENGTH, 255),
-        ("node label of two atoms with a third", 2 * length + first_atom + 2 * ATOM_BYTES, 1),
-        ("node label cut by an atom", 2 * length + place::LABEL_LENGTH, 1),
-    ]
-    .map(|(name, at, value)| byte(name.to_string(), at, value))
-    .into();
-    let (front, lasts) = tried_bytes(layout, first_atom);
-    list.extend(lasts.iter().map(|at| byte(format!("empty node label with byte {at} not zero"), *at, 1)));
-    let of_free = front.iter().chain(&lasts);
-    list.extend(of_free.map(|at| byte(format!("free node slot with byte {at} not zero"), length + at, 1)));
+/// The number 15: the damages at the layout that the host is carried from, and no node slots on either side. With every byte of the
+/// atoms the stored cases would have no room for drawn hosts.
+fn layout(way: Way) -> Vec<Refusal<Carrying>> {
+    let broken_by = |damage: &Damage| broken(way, &damage.name, |call| damage.apply(&mut call.nodes, &mut call.edges));
+    let mut list: Vec<Refusal<Carrying>> = damages(way.from(), Zeros::OneOfAnAtom).iter().map(broken_by).collect();
+    list.push(broken(way, "live edges and no node slots", |call| {
+        call.nodes.clear();
+        call.to_nodes.clear();
+    }));
     list
-}
-
-/// Slot 0 has an empty label, slot 1 is free, slot 2 has a label of three atoms.
-fn layout_of_edges(way: Way) -> Vec<Refusal<Carrying>> {
-    let layout = way.from();
-    let (length, first_atom) = (layout.edge_length(), layout.edge_atoms());
-    let byte = |name: String, at: usize, value: u8| broken(way, &name, |call| call.edges[at] = value);
-    let too_long = layout.atoms as u8 + 1;
-    let mut list: Vec<Refusal<Carrying>> = [
-        ("edge state 2", place::STATE, 2),
-        ("edge state 0 on a live slot", 2 * length + place::STATE, 0),
-        ("grey edge", place::MARK, mark::GREY),
-        ("edge of mark any", place::MARK, mark::ANY),
-        ("edge mark 255", place::MARK, 255),
-        ("edge with third byte 1", place::ZERO, 1),
-        ("edge label of an atom too many", place::LABEL_LENGTH, too_long),
-        ("edge label of 255 atoms", place::LABEL_LENGTH, 255),
-        ("edge label of three atoms with a fourth", 2 * length + first_atom + 3 * ATOM_BYTES, 1),
-        ("edge label cut by an atom", 2 * length + place::LABEL_LENGTH, 2),
-    ]
-    .map(|(name, at, value)| byte(name.to_string(), at, value))
-    .into();
-    let (front, lasts) = tried_bytes(layout, first_atom);
-    list.extend(lasts.iter().map(|at| byte(format!("empty edge label with byte {at} not zero"), *at, 1)));
-    let of_free = front.iter().chain(&lasts);
-    list.extend(of_free.map(|at| byte(format!("free edge slot with byte {at} not zero"), length + at, 1)));
-    list
-}
-
-/// Edge 0 runs from node 0 to node 2; node slot 1 is free, and there are three.
-fn layout_of_ends(way: Way) -> Vec<Refusal<Carrying>> {
-    let layout = way.from();
-    let (source, target) = (layout.edge_source(), layout.edge_target());
-    let byte = |name: &str, at: usize, value: u8| broken(way, name, |call| call.edges[at] = value);
-    vec![
-        byte("source in a free slot", source.end - 1, 1),
-        byte("target in a free slot", target.end - 1, 1),
-        byte("source behind the table", source.end - 1, 3),
-        byte("target behind the table", target.end - 1, 3),
-        byte("source 256", source.start, 1),
-        byte("target 258", target.start, 1),
-        broken(way, "ends in a slot that became free", |call| call.nodes[2 * layout.node_length()..].fill(0)),
-    ]
 }
 
 /// The number 26: labels of 5 to 8 atoms, in the first and the last slot of either table, beside labels of four.
