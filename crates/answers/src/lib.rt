@@ -84,6 +84,7 @@ fn refusal_number(why: Refusal) -> u32
         Refusal::BadDepth => 19,
         Refusal::BadRecords => 20,
         Refusal::LabelDoesNotFit => 26,
+        Refusal::HostDoesNotFit => 29,
     }
 }
 

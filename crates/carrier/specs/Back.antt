@@ -17,7 +17,7 @@ use Rattle.laws.specs.Numbers.{Bytes}
 use Rattle.laws.specs.Pieces.{fits-length, fits-whole}
 use Rattle.laws.specs.Carrying.{AsManySlots, Taken, taken}
 use Rattle.laws.specs.Undoing.{base-numbered, four-numbered}
-use Rattle.widening.specs.Carried.{arriving, result-taken, Kept, carry-kept, carry-back}
+use Rattle.layouts.specs.Carried.{arriving, result-taken, Kept, carry-kept, carry-back}
 use Rattle.carrier.specs.Carried.{tablesIn, tableFields, lengthFor, carriedText, carriedTables, printed, carriedInput}
 use Rattle.carrier.specs.Rooms.{InputOf, Between}
 use Rattle.carrier.specs.Laws.{widening, narrowing, tables-again}

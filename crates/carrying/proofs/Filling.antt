@@ -10,12 +10,13 @@ use lib.ListN.{length, getD, take, drop, length-take, length-append, length-drop
 use lib.Seq.{take-suc, take-at, drop-at, drop-drop, take-length, getD-take}
 use Rattle.meaning.specs.Basics.{concat}
 use Rattle.meaning.specs.Layout.{Slot, free, writeNode, writeEdge, readNodes, readEdges, nodeLength, edgeLength}
+use Rattle.meaning.specs.Carrying.{resized}
 use Rattle.laws.specs.Pieces.{concat-append, stored, length-write}
+use Rattle.laws.specs.Resized.{length-resized, resized-at}
 use Rattle.meaning.specs.declared.Layout.{Layout}
 use Rattle.meaning.specs.declared.Table.{Table}
 use Rattle.meaning.specs.declared.Table.the-variants.{Nodes, Edges}
 use Rattle.host.specs.Tables.{slotLength}
-use Rattle.graph.specs.Graph.{slotsIn}
 use Rattle.carrying.specs.Tables.{labelsFitIn, slotCarried, tableCarried}
 use Rattle.carrying.proofs.Labels.{fit-at}
 use Rattle.carrying.proofs.Slots.{node-length, edge-length}
@@ -65,41 +66,62 @@ module _ {A : Type 0} (w : ℕ) (write : Slot A → List ℕ) (l : List (Slot A)
         let m : i * w ≤ length l * w = mul-le-mul-right w h in
         simp (length-append, length-drop) (omega (arith, n, m, size))
 
-module _ (L M : Layout) (nodes edges to : List ℕ) where
-  -- so many slots of a table are carried
+module _ (L M : Layout) (nodes edges : List ℕ) (n : ℕ) (to : List ℕ) where
+  -- so many slots of a table are carried, of n
   abbrev pub soFar : Table → ℕ → List ℕ
-  soFar Nodes = filled (nodeLength M) (writeNode M) (readNodes L nodes) to
-  soFar Edges = filled (edgeLength M) (writeEdge M) (readEdges L edges) to
+  soFar Nodes = filled (nodeLength M) (writeNode M) (resized n (readNodes L nodes)) to
+  soFar Edges = filled (edgeLength M) (writeEdge M) (resized n (readEdges L edges)) to
 
   pub so-far-none : (t : Table) → soFar t 0 ≡ to
-  so-far-none Nodes = filled-none (nodeLength M) (writeNode M) (readNodes L nodes) to
-  so-far-none Edges = filled-none (edgeLength M) (writeEdge M) (readEdges L edges) to
+  so-far-none Nodes = filled-none (nodeLength M) (writeNode M) (resized n (readNodes L nodes)) to
+  so-far-none Edges = filled-none (edgeLength M) (writeEdge M) (resized n (readEdges L edges)) to
 
-  module _ (t : Table) (size : length to ≡ slotsIn L nodes edges t * slotLength M t) where
-    pub so-far-all : soFar t (slotsIn L nodes edges t) ≡ tableCarried L M nodes edges t
+  module _ (t : Table) (size : length to ≡ n * slotLength M t) where
+    pub so-far-all : soFar t n ≡ tableCarried L M nodes edges t n
     so-far-all = at t size
       where
-        at : (t : Table) → length to ≡ slotsIn L nodes edges t * slotLength M t → soFar t (slotsIn L nodes edges t) ≡ tableCarried L M nodes edges t
-        at Nodes s = filled-all (nodeLength M) (writeNode M) (readNodes L nodes) to s
-        at Edges s = filled-all (edgeLength M) (writeEdge M) (readEdges L edges) to s
+        all : {A : Type 0} (w : ℕ) (write : Slot A → List ℕ) (l : List (Slot A)) → length to ≡ n * w
+            → filled w write (resized n l) to n ≡ concat (map write (resized n l))
+        all w write l s =
+            let e = length-resized n l in
+            ap (filled w write (resized n l) to) (sym e) ∙ filled-all w write (resized n l) to (s ∙ ap (λ (m : ℕ). m * w) (sym e))
+
+        at : (t : Table) → length to ≡ n * slotLength M t → soFar t n ≡ tableCarried L M nodes edges t n
+        at Nodes s = all (nodeLength M) (writeNode M) (readNodes L nodes) s
+        at Edges s = all (edgeLength M) (writeEdge M) (readEdges L edges) s
 
     module _ (fit : labelsFitIn L nodes edges t (M .atoms) ≡ true) where
-      so-far-length : (x : ℕ) → x ≤ slotsIn L nodes edges t → length (soFar t x) ≡ length to
-      so-far-length x h = at t size fit h ∙ sym size
+      so-far-length : (x : ℕ) → x ≤ n → length (soFar t x) ≡ length to
+      so-far-length x h = at t size fit ∙ sym size
         where
-          at : (t : Table) → length to ≡ slotsIn L nodes edges t * slotLength M t → labelsFitIn L nodes edges t (M .atoms) ≡ true
-              → x ≤ slotsIn L nodes edges t → length (soFar t x) ≡ slotsIn L nodes edges t * slotLength M t
-          at Nodes s f k = filled-length _ _ _ to (λ i j. node-length M _ (fit-at L nodes edges (M .atoms) Nodes f i j)) x k s
-          at Edges s f k = filled-length _ _ _ to (λ i j. edge-length M _ (fit-at L nodes edges (M .atoms) Edges f i j)) x k s
+          long : {A : Type 0} (w : ℕ) (write : Slot A → List ℕ) (l : List (Slot A)) → length to ≡ n * w
+              → ((i : ℕ) → length (write (getD l i free)) ≡ w) → length (filled w write (resized n l) to x) ≡ n * w
+          long w write l s k =
+              let e = length-resized n l in
+              filled-length w write (resized n l) to (λ i j. rw (resized-at n l i (omega (arith, e))) (k i)) x (omega (arith, e))
+              (s ∙ ap (λ (m : ℕ). m * w) (sym e))
+              ∙ ap (λ (m : ℕ). m * w) e
 
-      module _ (x : ℕ) (h : x < slotsIn L nodes edges t) where
+          at : (t : Table) → length to ≡ n * slotLength M t → labelsFitIn L nodes edges t (M .atoms) ≡ true
+              → length (soFar t x) ≡ n * slotLength M t
+          at Nodes s f = long _ _ (readNodes L nodes) s (λ i. node-length M _ (fit-at L nodes edges (M .atoms) Nodes f i))
+          at Edges s f = long _ _ (readEdges L edges) s (λ i. edge-length M _ (fit-at L nodes edges (M .atoms) Edges f i))
+
+      module _ (x : ℕ) (h : x < n) where
         so-far-next : stored (slotLength M t) x (slotCarried L M nodes edges t x) (soFar t x) ≡ soFar t (x + 1)
-        so-far-next = rw (add-one x) (at t fit h)
+        so-far-next = rw (add-one x) (at t fit)
           where
-            at : (t : Table) → labelsFitIn L nodes edges t (M .atoms) ≡ true → x < slotsIn L nodes edges t
+            next : {A : Type 0} (w : ℕ) (write : Slot A → List ℕ) (l : List (Slot A)) → ((i : ℕ) → length (write (getD l i free)) ≡ w)
+                → stored w x (write (getD l x free)) (filled w write (resized n l) to x) ≡ filled w write (resized n l) to (suc x)
+            next {A} w write l k =
+                let e = length-resized n l in
+                ap (λ (s : Slot A). stored w x (write s) (filled w write (resized n l) to x)) (sym (resized-at n l x h))
+                ∙ filled-next w write (resized n l) to (λ i j. rw (resized-at n l i (omega (arith, e))) (k i)) x (omega (arith, e))
+
+            at : (t : Table) → labelsFitIn L nodes edges t (M .atoms) ≡ true
                 → stored (slotLength M t) x (slotCarried L M nodes edges t x) (soFar t x) ≡ soFar t (suc x)
-            at Nodes f k = filled-next _ _ _ to (λ i j. node-length M _ (fit-at L nodes edges (M .atoms) Nodes f i j)) x k
-            at Edges f k = filled-next _ _ _ to (λ i j. edge-length M _ (fit-at L nodes edges (M .atoms) Edges f i j)) x k
+            at Nodes f = next _ _ (readNodes L nodes) (λ i. node-length M _ (fit-at L nodes edges (M .atoms) Nodes f i))
+            at Edges f = next _ _ (readEdges L edges) (λ i. edge-length M _ (fit-at L nodes edges (M .atoms) Edges f i))
 
         -- one slot more, stored in what was so far
         pub so-far-more : (out out′ : List ℕ) → out ≡ soFar t x → out′ ≡ stored (slotLength M t) x (slotCarried L M nodes edges t x) out
@@ -110,11 +132,11 @@ module _ (L M : Layout) (nodes edges to : List ℕ) where
 
         -- the table has the slot
         pub so-far-room : x < length to / slotLength M t
-        so-far-room = at t size h
+        so-far-room = at t size
           where
-            room : (n w : ℕ) → 0 < w → x < n → length to ≡ n * w → x < length to / w
-            room n w p k e = rw (e, mul-div-cancel n p) k
+            room : (w : ℕ) → 0 < w → length to ≡ n * w → x < length to / w
+            room w p e = rw (e, mul-div-cancel n p) h
 
-            at : (t : Table) → length to ≡ slotsIn L nodes edges t * slotLength M t → x < slotsIn L nodes edges t → x < length to / slotLength M t
-            at Nodes s k = room _ (nodeLength M) (omega arith) k s
-            at Edges s k = room _ (edgeLength M) (omega arith) k s
+            at : (t : Table) → length to ≡ n * slotLength M t → x < length to / slotLength M t
+            at Nodes s = room (nodeLength M) (omega arith) s
+            at Edges s = room (edgeLength M) (omega arith) s

@@ -39,10 +39,10 @@ edge-fits most free = sym (le-leb 0 most (omega arith))
 edge-fits most (live e) = refl
 
 module _ (L : Layout) (nodes edges : List ℕ) (most : ℕ) where
-  pub fit-at : (t : Table) → labelsFitIn L nodes edges t most ≡ true → (x : ℕ) → x < slotsIn L nodes edges t
-      → length (labelIn L nodes edges t x) ≤ most
-  fit-at Nodes e x h = leb-true _ _ (sym (node-fits most _) ∙ every-true _ (readNodes L nodes) free e x h)
-  fit-at Edges e x h = leb-true _ _ (sym (edge-fits most _) ∙ every-true _ (readEdges L edges) free e x h)
+  pub fit-at : (t : Table) → labelsFitIn L nodes edges t most ≡ true → (x : ℕ) → length (labelIn L nodes edges t x) ≤ most
+  unfolding labelFits
+  fit-at Nodes e x = leb-true _ _ (sym (node-fits most _) ∙ Every-at _ free refl (readNodes L nodes) (Every-true _ _ (λ s q. q) (readNodes L nodes) e) x)
+  fit-at Edges e x = leb-true _ _ (sym (edge-fits most _) ∙ Every-at _ free refl (readEdges L edges) (Every-true _ _ (λ s q. q) (readEdges L edges) e) x)
 
   pub fit-of : (t : Table) → ((x : ℕ) → x < slotsIn L nodes edges t → length (labelIn L nodes edges t x) ≤ most)
       → labelsFitIn L nodes edges t most ≡ true
@@ -54,5 +54,5 @@ module _ (L : Layout) (nodes edges : List ℕ) (most : ℕ) where
   fit-not t x h k = at (labelsFitIn L nodes edges t most) refl
     where
       at : (b : Bool) → labelsFitIn L nodes edges t most ≡ b → false ≡ b
-      at true e = absurd (omega (arith, fit-at t e x h))
+      at true e = absurd (omega (arith, fit-at t e x))
       at false e = refl

@@ -13,7 +13,7 @@ use lib.ListN.{length, getD, take, drop, length-append, length-take, length-drop
 use lib.Seq.{take-add, drop-drop}
 use Rattle.meaning.specs.Basics.{choose, clauses, zeros, concat, padded}
 use Rattle.meaning.specs.Numbers.{number, bytes, whole}
-use Rattle.meaning.specs.Layout.{Sized, base, four, Slot, free, live, isLive, Node, Edge, liveAt, isNodeMark, isEdgeMark, nodeLength, edgeLength, pieces, cut, readAtoms, readNode, readEdge, readNodes, readEdges, atomBytes, nodeBytes, edgeBytes, writeNode, writeEdge, writeNodes, writeEdges, keepsNode, keepsEdge, keepsLayout}
+use Rattle.meaning.specs.Layout.{Sized, base, four, small, Slot, free, live, isLive, Node, Edge, liveAt, isNodeMark, isEdgeMark, nodeLength, edgeLength, pieces, cut, readAtoms, readNode, readEdge, readNodes, readEdges, atomBytes, nodeBytes, edgeBytes, writeNode, writeEdge, writeNodes, writeEdges, keepsNode, keepsEdge, keepsLayout}
 use Rattle.meaning.specs.declared.Layout.{Layout}
 use Rattle.meaning.specs.Laws.Tests.{both-true, both-of, choose-eq, choose-ne, every-true, zeros-true, zeros-of, clauses-true}
 use Rattle.laws.specs.Numbers.{Bytes, Bytes-drop, length-bytes, number-bytes, number-take-lt, bytes-number, bytes-number-take}
@@ -295,10 +295,13 @@ module _ (L : Layout) (nodes edges : List ℕ) (k : keepsLayout L nodes edges �
       write-read (edgeLength L) (readEdge L) (writeEdge L) edges e
       (λ i j. write-read-edge L _ _ (Bytes-pieces _ _ edges i h j) (length-slot _ edges i j) (kept-edge i j))
 
--- Document 01's layout is sized, and so is that of old tables.
+-- Document 01's layout is sized, and so are those of old tables and of the small core.
 
 pub base-sized : Sized base
 base-sized = record { node = refl; edge = refl; change = refl; atoms = omega arith; narrow = omega arith; wide = omega arith }
 
 pub four-sized : Sized four
 four-sized = record { node = refl; edge = refl; change = refl; atoms = omega arith; narrow = omega arith; wide = omega arith }
+
+pub small-sized : Sized small
+small-sized = record { node = refl; edge = refl; change = refl; atoms = omega arith; narrow = omega arith; wide = omega arith }

@@ -3,6 +3,7 @@ pub mod Numbers
 pub mod Pieces
 pub mod Layout
 pub mod Hosts
+pub mod Resized
 pub mod Carrying
 pub mod Records
 pub mod Search

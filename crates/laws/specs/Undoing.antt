@@ -13,7 +13,7 @@ use lib.ListN.{length, drop, replicate, replicate-append-replicate}
 use lib.Seq.{drop-at}
 use Rattle.meaning.specs.Basics.{choose, concat, padded, firstFailing}
 use Rattle.meaning.specs.Numbers.{number, bytes, whole}
-use Rattle.meaning.specs.Layout.{Slot, Node, Edge, Host, Change, base, four, nodeLength, edgeLength, recordLength, fitsTable, readNode, readEdge, hostOf, writeNode, writeEdge, writeNodes, writeEdges, writeRecord, keepsLayout}
+use Rattle.meaning.specs.Layout.{Slot, Node, Edge, Host, Change, base, four, small, layoutOf, nodeLength, edgeLength, recordLength, fitsTable, readNode, readEdge, hostOf, writeNode, writeEdge, writeNodes, writeEdges, writeRecord, keepsLayout}
 use Rattle.meaning.specs.Procedures.{Program, program}
 use Rattle.meaning.specs.Commands.{State, Out, beginning, exec}
 use Rattle.meaning.specs.Calls.{Returned, reportOf, refused, runRefusal, journalRoom, finished, started, runOn, run, keepsRecords, undoRefusal, tablesUndone, undoOn, undo, lending, lendingUndo}
@@ -30,6 +30,8 @@ use Rattle.laws.specs.Legality.{LegalLedger}
 use Rattle.laws.specs.LegalCommands.{LegalRules, exec-legal}
 use Rattle.laws.specs.Calls.{Accepted, accepted, accepted-legal}
 use Rattle.meaning.specs.declared.Layout.{Layout}
+use Rattle.meaning.specs.declared.Core.{Core}
+use Rattle.meaning.specs.declared.Core.the-variants.{Wide, Small}
 use Rattle.meaning.specs.declared.Refusal.{Refusal}
 use Rattle.meaning.specs.declared.Answer.the-variants.{Result}
 use Rattle.meaning.specs.declared.End.{End}
@@ -47,6 +49,13 @@ base-numbered = record { narrow = omega arith; nodes = omega arith; edges = omeg
 
 pub four-numbered : Numbered four
 four-numbered = record { narrow = omega arith; nodes = omega arith; edges = omega arith; records = omega arith }
+
+pub small-numbered : Numbered small
+small-numbered = record { narrow = omega arith; nodes = omega arith; edges = omega arith; records = omega arith }
+
+pub core-numbered : (c : Core) → Numbered (layoutOf c)
+core-numbered Wide = base-numbered
+core-numbered Small = small-numbered
 
 -- The journal that a run writes.
 

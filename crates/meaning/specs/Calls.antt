@@ -1,6 +1,7 @@
 -- The two calls, each a function from all its inputs to all its outputs, refusals in their order included.
 -- Rests on Basics, Numbers, Layout, Image, References, Placement, Procedures and Commands, and on the code's Layout, Stop, Refusal, Answer and
--- End. At document 01's layout (`base`) a node has 36 bytes, an edge 40, a record 44; tables have at most 512, 1,024 and 1,024.
+-- End. At document 01's layout (`base`) a node has 36 bytes, an edge 40, a record 44; tables have at most 512, 1,024 and 1,024. At the
+-- small core's (`small`) they have 8, 10 and 12; tables have at most 128, 255 and 255.
 use mathlib.Core.Path.{_≡_}
 use mathlib.Core.Bool.{Bool, false}
 use mathlib.Core.Option.{Option, some, none}
@@ -10,7 +11,7 @@ use lib.ListN.{length, drop, replicate}
 use lib.Dec.{eqb, leb}
 use Rattle.meaning.specs.Basics.{choose, both, every, concat, padded, isSome, firstFailing, _>>=_}
 use Rattle.meaning.specs.Numbers.{number, bytes}
-use Rattle.meaning.specs.Layout.{base, Tables, undone, nodeLength, edgeLength, recordLength, fitsTable, pieces, cut, hostOf, writeNodes, writeEdges, writeRecord, keepsLayout, readRecord, keepsRecord}
+use Rattle.meaning.specs.Layout.{Tables, undone, nodeLength, edgeLength, recordLength, fitsTable, pieces, cut, hostOf, writeNodes, writeEdges, writeRecord, keepsLayout, readRecord, keepsRecord}
 use Rattle.meaning.specs.Image.{RawProgram, limits, rawProgram}
 use Rattle.meaning.specs.References.{references}
 use Rattle.meaning.specs.Placement.{placement}
@@ -20,7 +21,7 @@ use Rattle.meaning.specs.declared.Layout.{Layout}
 use Rattle.meaning.specs.declared.Stop.{Stop}
 use Rattle.meaning.specs.declared.Stop.the-variants.{OutOfFuel, NoNodeRoom, NoEdgeRoom, NoRecordRoom, LabelTooLarge}
 use Rattle.meaning.specs.declared.Refusal.{Refusal}
-use Rattle.meaning.specs.declared.Refusal.the-variants.{ReportLength, NodeTableLength, EdgeTableLength, JournalLength, TooMuchFuel, ImageTooLong, BadHost, BadForm, BadReferences, BadPlacement, BadDepth, BadRecords, LabelDoesNotFit}
+use Rattle.meaning.specs.declared.Refusal.the-variants.{ReportLength, NodeTableLength, EdgeTableLength, JournalLength, TooMuchFuel, ImageTooLong, BadHost, BadForm, BadReferences, BadPlacement, BadDepth, BadRecords, LabelDoesNotFit, HostDoesNotFit}
 use Rattle.meaning.specs.declared.Answer.{Answer}
 use Rattle.meaning.specs.declared.Answer.the-variants.{Result, Fail, Stopped as stoppedBy, Refused}
 use Rattle.meaning.specs.declared.End.{End}
@@ -49,6 +50,7 @@ refusalNumber BadPlacement = 18
 refusalNumber BadDepth = 19
 refusalNumber BadRecords = 20
 refusalNumber LabelDoesNotFit = 26
+refusalNumber HostDoesNotFit = 29
 
 unfoldable pub answerNumber : Answer → ℕ
 answerNumber Result = 0
@@ -227,10 +229,10 @@ module _ (L : Layout) where
   unfoldable pub undo : LentUndo → Returned
   undo y = undoOn (undoRefusal y) y
 
--- What the exported calls promise, with document 01's layout: the number that is answered, and what lies in every buffer then.
+  -- What the exported calls promise, each with its layout: the number that is answered, and what lies in every buffer then.
 
-abbrev pub RunPromise : Lent → ℕ → List ℕ → List ℕ → List ℕ → List ℕ → Type 0
-RunPromise x number nodes edges journal report = Yields (run base x) number nodes edges journal report
+  abbrev pub RunPromise : Lent → ℕ → List ℕ → List ℕ → List ℕ → List ℕ → Type 0
+  RunPromise x number nodes edges journal report = Yields (run x) number nodes edges journal report
 
-abbrev pub UndoPromise : LentUndo → ℕ → List ℕ → List ℕ → List ℕ → List ℕ → Type 0
-UndoPromise y number nodes edges journal report = Yields (undo base y) number nodes edges journal report
+  abbrev pub UndoPromise : LentUndo → ℕ → List ℕ → List ℕ → List ℕ → List ℕ → Type 0
+  UndoPromise y number nodes edges journal report = Yields (undo y) number nodes edges journal report

@@ -1,6 +1,6 @@
 -- Host tables and journal: slots and records, the bytes that they are laid out in, and the test that a host keeps the layout.
 -- Nothing outside this file knows the size of a slot in bytes. Rests on Basics, Numbers and, for marks, Tags, and on the code's
--- struct Layout. Where a definition goes by a layout L, a comment that begins `base:` gives the places of document 01's layout.
+-- struct Layout and enum Core. Where a definition goes by a layout L, a comment that begins `base:` gives the places of document 01's layout.
 use mathlib.Core.Bool.{Bool, true, false}
 use mathlib.Core.List.{List, [], _∷_, _++_, map}
 use mathlib.Core.Path.{_≡_}
@@ -11,6 +11,8 @@ use Rattle.meaning.specs.Basics.{choose, both, either, clauses, every, z
 use Rattle.meaning.specs.Numbers.{number, bytes}
 use Rattle.meaning.specs.Tags.{blueMark, greyMark, dashedMark}
 use Rattle.meaning.specs.declared.Layout.{Layout}
+use Rattle.meaning.specs.declared.Core.{Core}
+use Rattle.meaning.specs.declared.Core.the-variants.{Wide, Small}
 
 -- Slots. An atom is its 32-bit word, a label a list of atoms.
 
@@ -108,6 +110,15 @@ base = record { atoms = 8; width = 2; node = 36; edge = 40; change = 44; nodes =
 -- the layout of old tables, which are carried to base and back: four atoms
 abbrev pub four : Layout
 four = record { atoms = 4; width = 2; node = 20; edge = 24; change = 28; nodes = 512; edges = 1024; records = 1024 }
+
+-- the layout of the small core: one atom, one byte to a slot number
+abbrev pub small : Layout
+small = record { atoms = 1; width = 1; node = 8; edge = 10; change = 12; nodes = 128; edges = 255; records = 255 }
+
+-- the layout of a core
+abbrev pub layoutOf : Core → Layout
+layoutOf Wide = base
+layoutOf Small = small
 
 module _ (L : Layout) where
   -- where an edge's source, its target and its atoms begin; base: 4, 6, 8

@@ -1,6 +1,6 @@
 // The types that code and definitions share, and the numbers that belong to a kind of table. What they mean is in specs/.
 ghost use mathlib.Core.Path.{_≡_};
-ghost use Rattle.meaning.specs.Layout.{base, four};
+ghost use Rattle.meaning.specs.Layout.{base, four, small, layoutOf};
 
 pub mod tags;
 
@@ -56,6 +56,7 @@ pub enum Refusal {
     BadDepth,
     BadRecords,
     LabelDoesNotFit,
+    HostDoesNotFit,
 }
 
 // The answer of a call.
@@ -116,6 +117,12 @@ pub enum Table {
     Edges,
 }
 
+// How a host is carried to other tables: to as many slots, or to any number of slots that its live ones fit in.
+pub enum Manner {
+    Exact,
+    Packing,
+}
+
 // The kinds of table: the bytes of a slot and the most slots.
 pub struct NodeTable {}
 
@@ -139,6 +146,12 @@ impl JournalTable {
     pub const SLOT: usize = 44;
 
     pub const MOST: usize = 1024;
+}
+
+// The cores that programs run on.
+pub enum Core {
+    Wide,
+    Small,
 }
 
 // How tables and journal are laid out: the atoms that a label holds at most, the bytes of a slot number, the bytes of a
@@ -184,6 +197,31 @@ impl Layout {
             nodes: NodeTable::MOST,
             edges: EdgeTable::MOST,
             records: JournalTable::MOST,
+        }
+    }
+
+    // The layout of the small core: one atom, one byte to a slot number.
+    pub fn small() -> Self
+        ensures { λ r. ⌜ r ≡ small ⌝ }
+    {
+        Layout {
+            atoms: 1,
+            width: 1,
+            node: 8,
+            edge: 10,
+            change: 12,
+            nodes: 128,
+            edges: 255,
+            records: 255,
+        }
+    }
+
+    pub fn of(core: Core) -> Self
+        ensures { λ r. ⌜ r ≡ layoutOf core ⌝ }
+    {
+        match core {
+            Core::Wide => Layout::base(),
+            Core::Small => Layout::small(),
         }
     }
 }

@@ -13,9 +13,9 @@ use Rattle.laws.specs.Numbers.{Bytes}
 use Rattle.laws.specs.Undoing.{base-numbered, four-numbered}
 use Rattle.demands.specs.Demands.{Lendable, Interpreter, In, Demand1, Demand2}
 use Rattle.meaning.specs.declared.Answer.the-variants.{Result}
-use Rattle.widening.specs.Carried.{arriving, carry-answers, larger-answers, Kept, carry-kept, carry-back}
-use Rattle.widening.specs.LargerRuns.{RunsAs}
-use Rattle.widening.specs.CarriedRuns.{CarriedLent, CarriedRun, run-carried}
+use Rattle.layouts.specs.Carried.{arriving, carry-answers, larger-answers, Kept, carry-kept, carry-back}
+use Rattle.layouts.specs.LargerRuns.{RunsAs}
+use Rattle.layouts.specs.CarriedRuns.{CarriedLent, CarriedRun, run-carried}
 
 -- What is answered.
 

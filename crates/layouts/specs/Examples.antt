@@ -24,11 +24,11 @@ use Rattle.meaning.specs.declared.Layout.{Layout}
 use Rattle.meaning.specs.declared.Refusal.{Refusal}
 use Rattle.meaning.specs.declared.Refusal.the-variants.{NodeTableLength, EdgeTableLength, BadHost, LabelDoesNotFit}
 use Rattle.meaning.specs.declared.Answer.the-variants.{Refused}
-use Rattle.widening.specs.Carried.{arriving}
-use Rattle.widening.specs.LargerRuns.{RunsAs}
-use Rattle.widening.specs.CarriedRuns.{CarriedLent, CarriedRun}
+use Rattle.layouts.specs.Carried.{arriving}
+use Rattle.layouts.specs.LargerRuns.{RunsAs}
+use Rattle.layouts.specs.CarriedRuns.{CarriedLent, CarriedRun}
 use Rattle.laws.specs.Undoing.{four-numbered}
-use Rattle.widening.specs.Widening.{widened-run}
+use Rattle.layouts.specs.Widening.{widened-run}
 
 -- Slots: a live node of a mark and a label, a blue loop at slot 0 of a label, and slots full of sevens, which are no slots of a host.
 

@@ -17,8 +17,8 @@ use Rattle.demands.specs.Larger.{Larger}
 use Rattle.demands.specs.Laws.Further.{roomier}
 use Rattle.meaning.specs.declared.Layout.{Layout}
 use Rattle.meaning.specs.declared.Answer.the-variants.{Result}
-use Rattle.widening.specs.Carried.{legal-fits, arriving, carry-taken, result-taken, as-many-same, Kept, carry-kept}
-use Rattle.widening.specs.LargerRuns.{SameRun, RunsAs, run-larger}
+use Rattle.layouts.specs.Carried.{legal-fits, arriving, carry-taken, result-taken, as-many-same, Kept, carry-kept}
+use Rattle.layouts.specs.LargerRuns.{SameRun, RunsAs, run-larger}
 
 -- y is x with its tables carried from L to M and room for as many records or more; the program is the same, and the fuel any
 pub record CarriedLent (L M : Layout) (x y : Lent) : Type 0 where
