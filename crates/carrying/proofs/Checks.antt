@@ -41,6 +41,16 @@ module _ (k : Manner) (w most : ℕ) (table : List ℕ) (v most′ : ℕ) (to : 
         at true = refl
         at false = refl
 
+-- What fits.
+
+pub fits-so : (a b : Bool) → a ≡ true → b ≡ both a b
+unfolding both
+fits-so a b e = rw e
+
+pub fits-not : (a b : Bool) → a ≡ false → false ≡ both a b
+unfolding both
+fits-not a b e = rw e
+
 -- The checks in their order.
 
 module _ (k : Manner) (L M : Layout) (nodes edges toNodes toEdges : List ℕ) where

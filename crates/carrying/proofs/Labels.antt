@@ -11,7 +11,8 @@ use lib.ListN.{length}
 use Rattle.meaning.specs.Layout.{Slot, free, live, Node, Edge, readNodes, readEdges}
 use Rattle.meaning.specs.Matching.{nodeIn, edgeIn}
 use Rattle.meaning.specs.Carrying.{labelFits}
-use Rattle.meaning.specs.Laws.Tests.{every-true, every-of}
+use Rattle.meaning.specs.Laws.Tests.{every-of}
+use Rattle.meaning.specs.Laws.Every.{Every-true, Every-at}
 use Rattle.meaning.specs.declared.Layout.{Layout}
 use Rattle.meaning.specs.declared.Table.{Table}
 use Rattle.meaning.specs.declared.Table.the-variants.{Nodes, Edges}

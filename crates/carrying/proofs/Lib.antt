@@ -1,4 +1,5 @@
 mod Checks
 mod Labels
 mod Slots
+mod Free
 mod Filling

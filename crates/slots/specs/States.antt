@@ -67,6 +67,9 @@ module _ (L : Layout) where
   pub live-nodes : (bs : List ℕ) (i : ℕ) → liveAt (readNodes L bs) i ≡ liveAt (states (nodeLength L) bs) i
   live-nodes bs = live-same readNode stateOf state-node (cut (nodeLength L) bs)
 
+  pub live-edges : (bs : List ℕ) (i : ℕ) → liveAt (readEdges L bs) i ≡ liveAt (states (edgeLength L) bs) i
+  live-edges bs = live-same (readEdge L) stateOf state-edge (cut (edgeLength L) bs)
+
   pub lowest-nodes : (bs : List ℕ) → lowestFree (readNodes L bs) ≡ lowestFree (states (nodeLength L) bs)
   lowest-nodes bs = lowest-same readNode stateOf state-node (cut (nodeLength L) bs)
 
