@@ -18,12 +18,13 @@ use Rattle.meaning.specs.ProvedSet.{Expected, Case, given, cases, proved-set, p
 use Rattle.demands.specs.Demands.{Outcome, Interpreter, In, Buffer, Lendable, LendableUndo, start, Demand2, Demand3}
 use Rattle.demands.specs.Ours.{outcome, ours}
 use Rattle.demands.specs.First.{run-settled}
-use Rattle.laws.specs.Undoing.{base-numbered}
+use Rattle.laws.specs.Undoing.{Numbered, base-numbered}
 use Rattle.demands.specs.Second.{one-outcome}
 use Rattle.demands.specs.Third.{one-count}
 use Rattle.meaning.specs.Laws.Tests.{both-true}
 use Rattle.meaning.specs.Laws.Every.{Every, Every-true}
 use Rattle.laws.specs.Numbers.{bytes-by}
+use Rattle.meaning.specs.declared.Layout.{Layout}
 use Rattle.meaning.specs.declared.Refusal.{Refusal}
 use Rattle.meaning.specs.declared.Refusal.the-variants.{BadForm}
 
@@ -118,19 +119,19 @@ by f =
     (λ x.
     runsOn f (runRefusal base x) (program (x .image)) x)
 
--- Breaking demand 2: another outcome than ours where ours starts.
+-- Breaking a demand where ours starts.
 
-pub breaks2 : (I : Interpreter) (x : Lent) → canBeLent x ≡ true → ours base .run x .answer ≤ 6 → (I .run x ≡ ours base .run x → ⊥)
-    → Demand2 base I → ⊥
-breaks2 I x b l n d = n (one-outcome base base-numbered I d x (lendable x b) (run-settled base x l))
+module _ (L : Layout) (numbered : Numbered L) (I : Interpreter) (x : Lent) (b : canBeLent x ≡ true) (l : ours L .run x .answer ≤ 6) where
+  -- demand 2, by another outcome than ours
+  pub breaks2 : (I .run x ≡ ours L .run x → ⊥) → Demand2 L I → ⊥
+  breaks2 n d = n (one-outcome L numbered I d x (lendable x b) (run-settled L x l))
 
+  -- demand 3, by other steps than ours
+  pub breaks3 : In (I .run x .answer) (0 ∷ 1 ∷ 6 ∷ []) → (take 4 (I .run x .report) ≡ take 4 (ours L .run x .report) → ⊥) → Demand3 L I → ⊥
+  breaks3 a n d = n (one-count L numbered x (lendable x b) (run-settled L x l) I d a)
+
+-- demand 2 at a case of the proved set, whose tables have document 01's layout
 pub atCase : (n : ℕ) → canBeLent (lent (caseAt n)) ≡ true → caseAt n .expected .answer ≤ 6 → (I : Interpreter)
     → (I .run (lent (caseAt n)) ≡ expects (caseAt n .expected) → ⊥) → Demand2 base I → ⊥
 atCase n b l I h =
-    breaks2 I (lent (caseAt n)) b (subst (λ (o : Outcome). o .answer ≤ 6) (sym (proved n)) l) (λ e. h (e ∙ proved n))
-
--- Breaking demand 3: other steps than ours where ours starts.
-
-pub breaks3 : (I : Interpreter) (x : Lent) → canBeLent x ≡ true → ours base .run x .answer ≤ 6 → In (I .run x .answer) (0 ∷ 1 ∷ 6 ∷ [])
-    → (take 4 (I .run x .report) ≡ take 4 (ours base .run x .report) → ⊥) → Demand3 base I → ⊥
-breaks3 I x b l a n d = n (one-count base base-numbered x (lendable x b) (run-settled base x l) I d a)
+    breaks2 base base-numbered I (lent (caseAt n)) b (subst (λ (o : Outcome). o .answer ≤ 6) (sym (proved n)) l) (λ e. h (e ∙ proved n))

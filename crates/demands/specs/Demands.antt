@@ -3,9 +3,10 @@
 -- interpreter works is left open. Rests on the meaning's Basics, Numbers, Layout, Image, References, Placement and Procedures, on
 -- Commands for its states and on Calls for what is lent and what is checked, on laws' Numbers (for `Bytes` alone), on Inference, and on
 -- the code's Layout, Stop and End.
--- At document 01's layout a node has 36 bytes, an edge 40, a record 44. Elsewhere in this crate: ours meets all three (Met), and so
--- does all that keeps the contracts of the exported calls (Exported); demands 1 and 2 leave one outcome of each call (OneOutcome);
--- and who does not meet which (Worthless, WorthlessUndo).
+-- The demands take the layout of the tables. At document 01's (`base`) a node has 36 bytes, an edge 40, a record 44; at the small
+-- core's (`small`) 8, 10 and 12. Elsewhere in this crate: ours meets all three (Met), and so does all that keeps the contracts of the
+-- exported calls (Exported); demands 1 and 2 leave one outcome of each call (OneOutcome); and who does not meet which (Worthless,
+-- WorthlessUndo).
 use mathlib.Core.Path.{_≡_}
 use mathlib.Core.Bool.{Bool, true, false}
 use mathlib.Core.Option.{Option, some, none}

@@ -98,7 +98,7 @@ callOfSkip = onPlainNode 100 (fieldBytes procedureTag skipField ++ fieldBytes ca
 pub calling-freely : Demand2 base callsFreely → ⊥
 unfolding computing runsOn written allWritten
 calling-freely =
-    breaks2 callsFreely (lent callOfSkip) refl (omega arith)
+    breaks2 base base-numbered callsFreely (lent callOfSkip) refl (omega arith)
     (λ e. let z = ap (λ (o : Outcome). getD (o .report) 3 0) e in omega arith)
 
 -- One that answers 0 with what it had when the fuel ran out breaks demand 2 at case 2.
@@ -184,7 +184,7 @@ failedTry =
 pub keeping-marks : Demand2 base keepsMarks → ⊥
 unfolding computing runsOn carelessly allCarelessly afterGuard withMark withMarks
 keeping-marks =
-    breaks2 keepsMarks (lent failedTry) refl (omega arith)
+    breaks2 base base-numbered keepsMarks (lent failedTry) refl (omega arith)
     (λ e. let z = ap (λ (o : Outcome). getD (o .nodes) 1 0) e in omega arith)
 
 -- One that invents a step breaks demand 3 at case 1.
@@ -205,7 +205,7 @@ inventsSteps =
 pub inventing-steps : Demand3 base inventsSteps → ⊥
 unfolding computing
 inventing-steps =
-    breaks3 inventsSteps (lent (caseAt 0)) refl (omega arith) refl
+    breaks3 base base-numbered inventsSteps (lent (caseAt 0)) refl (omega arith) refl
     (λ e. let z = ap (λ (l : List ℕ). getD l 3 0) e in omega arith)
 
 -- So does one that takes two fuel for a command and counts two steps, with as much fuel as it needs.
@@ -228,7 +228,7 @@ countsTwice =
 pub counting-twice : Demand3 base countsTwice → ⊥
 unfolding computing
 counting-twice =
-    breaks3 countsTwice (lent (onPlainNode 2 skipField (results 1 0 plainNode [] []))) refl (omega arith) refl
+    breaks3 base base-numbered countsTwice (lent (onPlainNode 2 skipField (results 1 0 plainNode [] []))) refl (omega arith) refl
     (λ e. let z = ap (λ (l : List ℕ). getD l 3 0) e in omega arith)
 
 -- One that answers 0 with what it had when the fuel ran out breaks demand 3 too: case 2 is case 1 with less fuel.
