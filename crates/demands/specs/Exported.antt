@@ -141,10 +141,11 @@ module _ (L : Layout) (numbered : Numbered L) (few : L .atoms < 256) where
 
 -- Both cores.
 
-core-few : (c : Core) → layoutOf c .atoms < 256
+-- a label's length is a byte
+pub core-few : (c : Core) → layoutOf c .atoms < 256
 core-few Wide = omega arith
 core-few Small = omega arith
 
-pub cores-exported : (c : Core) (I : Interpreter) → Exported (layoutOf c) I
+pub cores-exported-met : (c : Core) (I : Interpreter) → Exported (layoutOf c) I
     → Demand1 (layoutOf c) I × Demand2 (layoutOf c) I × Demand3 (layoutOf c) I
-cores-exported c = exported-met (layoutOf c) (core-numbered c) (core-few c)
+cores-exported-met c = exported-met (layoutOf c) (core-numbered c) (core-few c)

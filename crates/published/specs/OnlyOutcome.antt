@@ -1,14 +1,13 @@
--- What the exported call `run` answers is all that its program can come to by the published semantics: where the rule sets that the
--- program calls are steady relative to an invariant that the graph which came in has (Steady), or where the program is known to come
--- to one thing in another way. Before that: on isomorphic host graphs a program of an image comes to isomorphic outcomes.
--- Rests on Steady, Answers, Conformance and demands' Exported.
+-- What an exported call of `run` answers, on either core, is all that its program can come to by the published semantics: where the
+-- rule sets that the program calls are steady relative to an invariant that the graph which came in has (Steady), or where the program
+-- is known to come to one thing in another way. Before that: on isomorphic host graphs a program of an image comes to isomorphic
+-- outcomes. Rests on Steady, Answers, Conformance and demands' Exported.
 use mathlib.Core.Path.{_≡_, sym, _∙_, ap}
 use mathlib.Core.Bool.{true, false}
 use mathlib.Core.Option.{some}
 use mathlib.Core.List.{List, [], _∷_, map}
 use Prim.Native.Nat.{ℕ, _≤_}
 use native.Mathlib.Omega.{arith}
-use Rattle.meaning.specs.Layout.{base}
 use Rattle.meaning.specs.Image.{Rule}
 use Rattle.meaning.specs.Procedures
 use Rattle.meaning.specs.Procedures.{Command, Commands, Program, program}
@@ -21,6 +20,8 @@ use Rattle.demands.specs.Exported.{Exported, exported-run}
 use Rattle.meaning.specs.Laws.Tests.{some-inj}
 use Rattle.laws.specs.LegalCommands.{LegalRules, legal-rule}
 use Rattle.laws.specs.Calls.{accepted-legal}
+use Rattle.laws.specs.Undoing.{Numbered}
+use Rattle.meaning.specs.declared.Layout.{Layout}
 use Rattle.published.specs.Graphs.{Graph, HostGraph}
 use Rattle.published.specs.RuleApplication.{Applied}
 use Rattle.published.specs.Semantics.{ComSeq, Outcome, graph, fails, ⟦_⟧, comSeq, inOrder, followed}
@@ -65,52 +66,56 @@ module _ (rules : List Rule) (legal : LegalRules rules) where
       alike-outcomes (comSeq rules c) (legal-calls c) G G′ i X p
 
 -- An exported run, on a program that can come to one thing only on the graph that came in.
-module _ (I : Interpreter) (exported : Exported I) (x : Lent) (b : Lendable x) (p : Program) (form : program (x .image) ≡ some p) where
-  abbrev P : ComSeq
-  P = comSeq (p .rules) (p .main)
+module _ (L : Layout) (numbered : Numbered L) (I : Interpreter) (exported : Exported L I) (x : Lent) (b : Lendable x)
+    (p : Program) (form : program (x .image) ≡ some p)
+  where
+    abbrev P : ComSeq
+    P = comSeq (p .rules) (p .main)
 
-  abbrev G : Graph
-  G = held (x .nodes) (x .edges)
+    abbrev G : Graph
+    G = held L (x .nodes) (x .edges)
 
-  abbrev left : Graph
-  left = held (I .run x .nodes) (I .run x .edges)
+    abbrev left : Graph
+    left = held L (I .run x .nodes) (I .run x .edges)
 
-  abbrev Comes : Outcome Graph → Type 0
-  Comes X = ⟦_⟧ Graph Applied P G X
+    abbrev Comes : Outcome Graph → Type 0
+    Comes X = ⟦_⟧ Graph Applied P G X
 
-  legal : I .run x .answer ≤ 6 → Calls LegalRules P
-  legal k =
-      let q = ap (λ (o : Answered). o .answer) (exported-run I exported x b) in
-      let a = good base x (run-settled base x (omega arith)) in
-      let e : a .tree ≡ p = some-inj (a .tree) p (sym (a .form) ∙ form) in
-      legal-calls (p .rules) (rw e at (accepted-legal base x (b .image .bytewise) a)) (p .main)
+    legal : I .run x .answer ≤ 6 → Calls LegalRules P
+    legal k =
+        let q = ap (λ (o : Answered). o .answer) (exported-run L I exported x b) in
+        let a = good L x (run-settled L x (omega arith)) in
+        let e : a .tree ≡ p = some-inj (a .tree) p (sym (a .form) ∙ form) in
+        legal-calls (p .rules) (rw e at (accepted-legal L x (b .image .bytewise) a)) (p .main)
 
-  comes : (X : Outcome Graph) → CanComeTo (x .nodes) (x .edges) (x .image) X → Comes X
-  comes X c = let e : c .tree ≡ p = some-inj (c .tree) p (sym (c .form) ∙ form) in rw e at (c .outcome)
+    comes : (X : Outcome Graph) → CanComeTo L (x .nodes) (x .edges) (x .image) X → Comes X
+    comes X c = let e : c .tree ≡ p = some-inj (c .tree) p (sym (c .form) ∙ form) in rw e at (c .outcome)
 
-  module _ (decided : HostGraph G → Calls LegalRules P → Decided P G Alike) where
-    pub run-decided : I .run x .answer ≡ 0 → (X : Outcome Graph) → Comes X → SameOutcome (graph left) X
-    run-decided z = let c = run-result I exported x b z in decided (c .came) (legal (omega arith)) .result _ (comes _ c)
+    module _ (decided : HostGraph G → Calls LegalRules P → Decided P G Alike) where
+      pub run-decided : I .run x .answer ≡ 0 → (X : Outcome Graph) → Comes X → SameOutcome (graph left) X
+      run-decided z = let c = run-result L numbered I exported x b z in decided (c .came) (legal (omega arith)) .result _ (comes _ c)
 
-    pub run-fail-decided : I .run x .answer ≡ 1 → (X : Outcome Graph) → Comes X → SameOutcome fails X
-    run-fail-decided z = let c = run-fail I exported x b z in decided (c .came) (legal (omega arith)) .fail (comes _ c)
+      pub run-fail-decided : I .run x .answer ≡ 1 → (X : Outcome Graph) → Comes X → SameOutcome fails X
+      run-fail-decided z = let c = run-fail L numbered I exported x b z in decided (c .came) (legal (omega arith)) .fail (comes _ c)
 
-  -- so it is where the rule sets are steady and the graph has their invariant
-  module _ (Inv : Graph → Type 0) (inv : Inv G) (steady : Calls (Steady Inv) P) where
-    pub run-only : I .run x .answer ≡ 0 → (X : Outcome Graph) → Comes X → SameOutcome (graph left) X
-    run-only = run-decided (λ host u. steady-decided Inv P u steady _ host inv)
+    -- so it is where the rule sets are steady and the graph has their invariant
+    module _ (Inv : Graph → Type 0) (inv : Inv G) (steady : Calls (Steady Inv) P) where
+      pub run-only : I .run x .answer ≡ 0 → (X : Outcome Graph) → Comes X → SameOutcome (graph left) X
+      run-only = run-decided (λ host u. steady-decided Inv P u steady _ host inv)
 
-    pub run-fail-only : I .run x .answer ≡ 1 → (X : Outcome Graph) → Comes X → SameOutcome fails X
-    run-fail-only = run-fail-decided (λ host u. steady-decided Inv P u steady _ host inv)
+      pub run-fail-only : I .run x .answer ≡ 1 → (X : Outcome Graph) → Comes X → SameOutcome fails X
+      run-fail-only = run-fail-decided (λ host u. steady-decided Inv P u steady _ host inv)
 
--- The same of an image: on all that can be lent with it where the tables hold a graph with the invariant. X is what its program can
--- come to there.
+-- The same of an image, over every layout: on all that can be lent with it where the tables hold a graph with the invariant. X is what
+-- its program can come to there.
 pub record OneOutcome (image : List ℕ) (p : Program) (Inv : Graph → Type 0) : Type 0 where
-  pub result : (I : Interpreter) → Exported I → (x : Lent) → Lendable x → x .image ≡ image → Inv (held (x .nodes) (x .edges))
-      → I .run x .answer ≡ 0 → (X : Outcome Graph) → ⟦_⟧ Graph Applied (comSeq (p .rules) (p .main)) (held (x .nodes) (x .edges)) X
-      → SameOutcome (graph (held (I .run x .nodes) (I .run x .edges))) X
-  pub fail : (I : Interpreter) → Exported I → (x : Lent) → Lendable x → x .image ≡ image → Inv (held (x .nodes) (x .edges))
-      → I .run x .answer ≡ 1 → (X : Outcome Graph) → ⟦_⟧ Graph Applied (comSeq (p .rules) (p .main)) (held (x .nodes) (x .edges)) X
+  pub result : (L : Layout) → Numbered L → (I : Interpreter) → Exported L I → (x : Lent) → Lendable x → x .image ≡ image
+      → Inv (held L (x .nodes) (x .edges)) → I .run x .answer ≡ 0
+      → (X : Outcome Graph) → ⟦_⟧ Graph Applied (comSeq (p .rules) (p .main)) (held L (x .nodes) (x .edges)) X
+      → SameOutcome (graph (held L (I .run x .nodes) (I .run x .edges))) X
+  pub fail : (L : Layout) → Numbered L → (I : Interpreter) → Exported L I → (x : Lent) → Lendable x → x .image ≡ image
+      → Inv (held L (x .nodes) (x .edges)) → I .run x .answer ≡ 1
+      → (X : Outcome Graph) → ⟦_⟧ Graph Applied (comSeq (p .rules) (p .main)) (held L (x .nodes) (x .edges)) X
       → SameOutcome fails X
 
 module _ (image : List ℕ) (p : Program) (form : program image ≡ some p) (Inv : Graph → Type 0) where
@@ -119,8 +124,8 @@ module _ (image : List ℕ) (p : Program) (form : program image ≡ some p) (Inv
       → OneOutcome image p Inv
   decided-outcome decided =
       record {
-        result = λ I e x b q inv. run-decided I e x b p (ap program q ∙ form) (λ host u. decided _ host inv u);
-        fail = λ I e x b q inv. run-fail-decided I e x b p (ap program q ∙ form) (λ host u. decided _ host inv u);
+        result = λ L k I e x b q inv. run-decided L k I e x b p (ap program q ∙ form) (λ host u. decided _ host inv u);
+        fail = λ L k I e x b q inv. run-fail-decided L k I e x b p (ap program q ∙ form) (λ host u. decided _ host inv u);
       }
 
   pub one-outcome : Calls (Steady Inv) (comSeq (p .rules) (p .main)) → OneOutcome image p Inv

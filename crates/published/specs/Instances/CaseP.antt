@@ -1,5 +1,5 @@
 -- Case P of document 01 (programs/case-p) on graphs in which at most one edge joins two grey nodes: its rule turns that edge and leaves
--- none. Its own graph is such a graph, so that what document 01 says of case P is all that can come of it.
+-- none. Its own graph is such a graph, so that what document 01 says of case P is all that can come of it, on either core.
 -- Rests on Whence.
 use mathlib.Core.Path.{_≡_, refl, sym, _∙_, ap}
 use mathlib.Core.Logic.{_⊎_, inl, inr}
@@ -8,22 +8,26 @@ use mathlib.Core.Option.{some}
 use mathlib.Core.List.{List, [], _∷_, _++_}
 use Prim.Native.Nat.{ℕ, zero, suc, _*_, _<_}
 use native.Mathlib.Omega.{arith}
-use lib.ListN.{replicate}
-use Rattle.meaning.specs.Layout.{base, recordLength, readEdges}
+use lib.ListN.{length, replicate}
+use Rattle.meaning.specs.Layout.{Slot, live, Node, Edge as EdgeSlot, base, small, layoutOf, recordLength, readEdges, writeNodes, writeEdges}
 use Rattle.meaning.specs.Image.{Rule}
 use Rattle.meaning.specs.Procedures.{Program, program, ruleSet, loop}
 use Rattle.meaning.specs.Calls.{Lent}
 use Rattle.meaning.specs.Computing.{computing}
+use Rattle.laws.specs.Undoing.{base-numbered, small-numbered}
 use Rattle.demands.specs.Ours.{ours}
 use Rattle.demands.specs.Exported.{ours-exported}
 use Rattle.demands.specs.Cases.{lendable}
-use Rattle.meaning.specs.ProvedSet.{fieldBytes, ruleSetField, turns, liveNode, liveEdge}
+use Rattle.meaning.specs.ProvedSet.{fieldBytes, ruleSetField, turns}
 use Rattle.meaning.specs.Tags.{anyMark, blueMark, greyMark, intType, loopTag, noneMark, redMark}
 use Rattle.meaning.specs.Laws.Every.{Every}
 use Rattle.laws.specs.Numbers.{bytes-by}
 use Rattle.meaning.specs.Laws.Slots.{liveAt-lt}
 use Rattle.laws.specs.LegalCommands.{LegalRules}
 use Rattle.laws.specs.LegalImage.{program-legal}
+use Rattle.meaning.specs.declared.Layout.{Layout}
+use Rattle.meaning.specs.declared.Core.{Core}
+use Rattle.meaning.specs.declared.Core.the-variants.{Wide, Small}
 use Rattle.meaning.specs.declared.Operand.the-variants.{Variable as variableOperand}
 use Rattle.meaning.specs.declared.Element.the-variants.{Variable, Sum}
 use Rattle.published.specs.Graphs.{NodeLabel, Graph, Edge, HostGraph}
@@ -156,28 +160,48 @@ steady =
 pub case-p-only : OneOutcome image tree OneGreyEdge
 case-p-only = one-outcome image tree case-p-is OneGreyEdge steady
 
--- Document 01's graph: nodes 0 and 1, grey and labelled 5 and 7, and an edge from 0 to 1.
+-- Document 01's graph, in the tables of either core: nodes 0 and 1, grey and labelled 5 and 7, and an edge from 0 to 1.
 
-abbrev nodes : List ℕ
-nodes = liveNode 4 0 (1 ∷ 0 ∷ 0 ∷ 0 ∷ 5 ∷ []) ++ liveNode 4 0 (1 ∷ 0 ∷ 0 ∷ 0 ∷ 7 ∷ [])
+abbrev node : ℕ → ℕ → Slot Node
+node mark n = live (record { mark = mark; root = 0; label = n ∷ [] })
 
-abbrev edges : List ℕ
-edges = liveEdge 0 1
+abbrev edge : ℕ → ℕ → Slot EdgeSlot
+edge source target = live (record { mark = noneMark; source = source; target = target; label = [] })
 
-one-grey : OneGreyEdge (held nodes edges)
+module _ (L : Layout) where
+  abbrev nodes : List ℕ
+  nodes = writeNodes L (node greyMark 5 ∷ node greyMark 7 ∷ [])
+
+  abbrev edges : List ℕ
+  edges = writeEdges L (edge 0 1 ∷ [])
+
+  abbrev caseP : Lent
+  caseP =
+      record { nodes = nodes; edges = edges; journal = replicate (8 * recordLength L) 1; image = image; fuel = 10; report = replicate 8 7 }
+
+  -- the graph of document 01, and the red 5, the blue 12 and the edge from 1 to 0
+
+  abbrev came : Graph
+  came = held L nodes edges
+
+  abbrev turned : Graph
+  turned = held L (writeNodes L (node redMark 5 ∷ node blueMark 12 ∷ [])) (writeEdges L (edge 1 0 ∷ []))
+
+one-edge : (c : Core) → length (readEdges (layoutOf c) (edges (layoutOf c))) ≡ 1
 unfolding computing
-one-grey e f k l =
-    let g = liveAt-lt (readEdges base edges) e (k .edge) in
-    let h = liveAt-lt (readEdges base edges) f (l .edge) in
-    omega arith
+one-edge Wide = refl
+one-edge Small = refl
 
-abbrev caseP : Lent
-caseP =
-    record { nodes = nodes; edges = edges; journal = replicate (8 * recordLength base) 1; image = image; fuel = 10; report = replicate 8 7 }
+one-grey : (c : Core) → OneGreyEdge (came (layoutOf c))
+one-grey c e f k l =
+    let slots = readEdges (layoutOf c) (edges (layoutOf c)) in
+    omega (arith, one-edge c, liveAt-lt slots e (k .edge), liveAt-lt slots f (l .edge))
 
--- nothing but the red 5, the blue 12 and the edge from 1 to 0 can come of it
-pub case-p-one : (X : Outcome Graph) → ⟦_⟧ Graph Applied (comSeq (tree .rules) (tree .main)) (held nodes edges) X
-    → SameOutcome (graph (held (liveNode 1 0 (1 ∷ 0 ∷ 0 ∷ 0 ∷ 5 ∷ []) ++ liveNode 3 0 (1 ∷ 0 ∷ 0 ∷ 0 ∷ 12 ∷ [])) (liveEdge 1 0))) X
+-- nothing else can come of it
+pub case-p-one : (c : Core) (X : Outcome Graph) → ⟦_⟧ Graph Applied (comSeq (tree .rules) (tree .main)) (came (layoutOf c)) X
+    → SameOutcome (graph (turned (layoutOf c))) X
 unfolding computing
-case-p-one =
-    case-p-only .result (ours base) ours-exported caseP (lendable caseP refl) refl one-grey refl
+case-p-one Wide =
+    case-p-only .result base base-numbered (ours base) (ours-exported base) (caseP base) (lendable (caseP base) refl) refl (one-grey Wide) refl
+case-p-one Small =
+    case-p-only .result small small-numbered (ours small) (ours-exported small) (caseP small) (lendable (caseP small) refl) refl (one-grey Small) refl

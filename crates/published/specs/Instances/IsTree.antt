@@ -15,6 +15,7 @@ use Rattle.meaning.specs.Image.{Rule}
 use Rattle.meaning.specs.Procedures.{Program, program, ruleSet, sequence, guarded, loop, skip, fail, called, noMore, then}
 use Rattle.meaning.specs.Calls.{Lent}
 use Rattle.meaning.specs.Computing.{computing}
+use Rattle.laws.specs.Undoing.{base-numbered}
 use Rattle.demands.specs.Ours.{ours}
 use Rattle.demands.specs.Exported.{ours-exported}
 use Rattle.demands.specs.Cases.{lendable}
@@ -287,19 +288,19 @@ abbrev edges : List ℕ
 edges = liveEdge 0 1
 
 -- the second node is no start
-the-start : (v : ℕ) → v < 2 → Start (held nodes edges) v → v ≡ 0
+the-start : (v : ℕ) → v < 2 → Start (held base nodes edges) v → v ≡ 0
 unfolding computing
 the-start zero k s = refl
 the-start (suc zero) k s = absurd (s .first 0 (refl, refl))
 the-start (suc (suc v)) k s = absurd (omega arith)
 
-no-root : (w : ℕ) → w < 2 → held nodes edges .nodeLabel w .root ≡ 1 → ⊥
+no-root : (w : ℕ) → w < 2 → held base nodes edges .nodeLabel w .root ≡ 1 → ⊥
 unfolding computing
 no-root zero k e = omega arith
 no-root (suc zero) k e = omega arith
 no-root (suc (suc w)) k e = omega arith
 
-chain : Chain (held nodes edges)
+chain : Chain (held base nodes edges)
 unfolding computing
 chain =
     record {
@@ -313,8 +314,8 @@ abbrev twoNodes : Lent
 twoNodes =
     record { nodes = nodes; edges = edges; journal = replicate (32 * recordLength base) 1; image = image; fuel = 100; report = replicate 8 7 }
 
-pub is-tree-one : (X : Outcome Graph) → ⟦_⟧ Graph Applied (comSeq (tree .rules) (tree .main)) (held nodes edges) X
-    → SameOutcome (graph (held (liveNode 3 1 (0 ∷ []) ++ freeNode) (replicate (edgeLength base) 0))) X
+pub is-tree-one : (X : Outcome Graph) → ⟦_⟧ Graph Applied (comSeq (tree .rules) (tree .main)) (held base nodes edges) X
+    → SameOutcome (graph (held base (liveNode 3 1 (0 ∷ []) ++ freeNode) (replicate (edgeLength base) 0))) X
 unfolding computing
 is-tree-one =
-    is-tree-only .result (ours base) ours-exported twoNodes (lendable twoNodes refl) refl chain refl
+    is-tree-only .result base base-numbered (ours base) (ours-exported base) twoNodes (lendable twoNodes refl) refl chain refl

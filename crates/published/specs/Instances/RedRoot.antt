@@ -13,6 +13,7 @@ use Rattle.meaning.specs.Image.{Rule}
 use Rattle.meaning.specs.Procedures.{Program, program, ruleSet, loop}
 use Rattle.meaning.specs.Calls.{Lent}
 use Rattle.meaning.specs.Computing.{computing}
+use Rattle.laws.specs.Undoing.{base-numbered}
 use Rattle.demands.specs.Ours.{ours}
 use Rattle.demands.specs.Exported.{ours-exported}
 use Rattle.demands.specs.Cases.{lendable}
@@ -74,7 +75,7 @@ red-root-only = one-outcome image tree red-root-is OneRoot steady
 abbrev nodes : List ℕ
 nodes = liveNode 0 1 (0 ∷ []) ++ plainNode
 
-one-root : OneRoot (held nodes [])
+one-root : OneRoot (held base nodes [])
 unfolding computing
 one-root = one-root-held (hostIn base nodes []) (omega arith)
 
@@ -82,8 +83,8 @@ abbrev twoNodes : Lent
 twoNodes =
     record { nodes = nodes; edges = []; journal = replicate (8 * recordLength base) 1; image = image; fuel = 10; report = replicate 8 7 }
 
-pub red-root-one : (X : Outcome Graph) → ⟦_⟧ Graph Applied (comSeq (tree .rules) (tree .main)) (held nodes []) X
-    → SameOutcome (graph (held (liveNode 1 1 (0 ∷ []) ++ plainNode) [])) X
+pub red-root-one : (X : Outcome Graph) → ⟦_⟧ Graph Applied (comSeq (tree .rules) (tree .main)) (held base nodes []) X
+    → SameOutcome (graph (held base (liveNode 1 1 (0 ∷ []) ++ plainNode) [])) X
 unfolding computing
 red-root-one =
-    red-root-only .result (ours base) ours-exported twoNodes (lendable twoNodes refl) refl one-root refl
+    red-root-only .result base base-numbered (ours base) (ours-exported base) twoNodes (lendable twoNodes refl) refl one-root refl

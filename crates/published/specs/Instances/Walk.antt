@@ -13,6 +13,7 @@ use Rattle.meaning.specs.Image.{Rule}
 use Rattle.meaning.specs.Procedures.{Program, program, ruleSet, loop}
 use Rattle.meaning.specs.Calls.{Lent}
 use Rattle.meaning.specs.Computing.{computing}
+use Rattle.laws.specs.Undoing.{base-numbered}
 use Rattle.demands.specs.Ours.{ours}
 use Rattle.demands.specs.Exported.{ours-exported}
 use Rattle.demands.specs.Cases.{lendable}
@@ -97,7 +98,7 @@ walk-only = one-outcome image tree walk-is OneWay steady
 abbrev nodes : List ℕ
 nodes = liveNode 0 1 (0 ∷ []) ++ plainNode
 
-one-way : OneWay (held nodes (liveEdge 0 1))
+one-way : OneWay (held base nodes (liveEdge 0 1))
 unfolding computing
 one-way = (one-root-held (hostIn base nodes (liveEdge 0 1)) (omega arith), one-out-held (hostIn base nodes (liveEdge 0 1)) (omega arith))
 
@@ -105,8 +106,8 @@ abbrev twoNodes : Lent
 twoNodes =
     record { nodes = nodes; edges = liveEdge 0 1; journal = replicate (8 * recordLength base) 1; image = image; fuel = 10; report = replicate 8 7 }
 
-pub walk-one : (X : Outcome Graph) → ⟦_⟧ Graph Applied (comSeq (tree .rules) (tree .main)) (held nodes (liveEdge 0 1)) X
-    → SameOutcome (graph (held (redNode ++ liveNode 0 1 (0 ∷ [])) (liveEdge 0 1))) X
+pub walk-one : (X : Outcome Graph) → ⟦_⟧ Graph Applied (comSeq (tree .rules) (tree .main)) (held base nodes (liveEdge 0 1)) X
+    → SameOutcome (graph (held base (redNode ++ liveNode 0 1 (0 ∷ [])) (liveEdge 0 1))) X
 unfolding computing
 walk-one =
-    walk-only .result (ours base) ours-exported twoNodes (lendable twoNodes refl) refl one-way refl
+    walk-only .result base base-numbered (ours base) (ours-exported base) twoNodes (lendable twoNodes refl) refl one-way refl
