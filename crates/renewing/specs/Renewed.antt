@@ -14,7 +14,6 @@ use lib.ListN.{length, take, length-append}
 use lib.Seq.{take-append-seam}
 use Rattle.meaning.specs.Basics.{every, isSome, _>>=_}
 use Rattle.meaning.specs.Numbers.{bytes}
-use Rattle.meaning.specs.Layout.{base}
 use Rattle.meaning.specs.Tags.{ruleTag, procedureTag}
 use Rattle.meaning.specs.Image.{Raw, RawProgram, Read, limits, field, leading, rule, command, oneCommand, rawProgram}
 use Rattle.meaning.specs.Procedures.{Program, depthHolds, putIn}
@@ -182,7 +181,8 @@ module _ (L : Layout) (x : Lent) (new : List ℕ) where
       ∙ ap (λ (w : Option Refusal). runOn L w (oldProgram (x .image) >>= putIn) (withImage new x)) (same-refusal (oldProgram (x .image)) (le-leb _ _ h ∙ sym short))
       ∙ same-on (refusalAs L (oldProgram (x .image)) x) (oldProgram (x .image) >>= putIn)
 
--- so the exported call, given the rewritten image, yields what the old meaning says of the old one
-pub renewed-yields : (x : Lent) (new : List ℕ) → renewed (x .image) ≡ some new → length new ≤ limits .bytes
-    → (number : ℕ) (nodes edges journal report : List ℕ) → RunPromise (withImage new x) number nodes edges journal report → Yields (oldRun base x) number nodes edges journal report
-renewed-yields x new e h number nodes edges journal report y = rw (← (renewed-same base x new e h)) y
+  -- so the exported call at the layout, given the rewritten image, yields what the old meaning says of the old one
+  pub renewed-yields : renewed (x .image) ≡ some new → length new ≤ limits .bytes
+      → (number : ℕ) (nodes edges journal report : List ℕ) → RunPromise L (withImage new x) number nodes edges journal report
+      → Yields (oldRun L x) number nodes edges journal report
+  renewed-yields e h number nodes edges journal report y = rw (← (renewed-same e h)) y
