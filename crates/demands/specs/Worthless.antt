@@ -1,5 +1,6 @@
--- Worthless interpreters, each with the demand that it does not meet and an input that shows it: a case of document 01, or of our
--- own where document 01 names none. Rests on Cases.
+-- Worthless interpreters at document 01's layout, each with the demand that it does not meet and an input that shows it: a case of
+-- document 01, or of our own where document 01 names none. At every layout demands 1 and 2 leave one outcome (OneOutcome).
+-- Rests on Cases.
 use Prim.Native.Nat.{ℕ, _+_, _*_, _/_}
 use mathlib.Core.Path.{refl, ap}
 use mathlib.Core.Bool.{Bool}

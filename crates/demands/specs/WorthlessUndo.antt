@@ -1,6 +1,6 @@
--- Interpreters with a worthless undo, each with the demand that it does not meet: one that empties every buffer where the tables break
--- the layout, which no run leaves; one that stores the records back from first to last; one that leaves the journal.
--- Rests on Cases.
+-- Interpreters with a worthless undo at document 01's layout, each with the demand that it does not meet: one that empties every buffer
+-- where the tables break the layout, which no run leaves; one that stores the records back from first to last; one that leaves the
+-- journal. Rests on Cases.
 use Prim.Native.Nat.{ℕ}
 use mathlib.Core.Path.{refl, ap}
 use mathlib.Core.Bool.{not}

@@ -15,7 +15,7 @@ use Rattle.meaning.specs.Calls.{Lent, lending, reportOf}
 use Rattle.meaning.specs.Computing.{computing}
 use Rattle.meaning.specs.ProvedSet.{fieldBytes, ruleSetField, skipField, failField, breakField, marksRed, plainNode, redNode, nodeRecord, results, noResult}
 use Rattle.laws.specs.Undoing.{base-numbered}
-use Rattle.demands.specs.Demands.{Outcome}
+use Rattle.demands.specs.Demands.{Outcome, Demand1, Demand2}
 use Rattle.demands.specs.Ours.{ours}
 use Rattle.demands.specs.Met.{met}
 use Rattle.demands.specs.Cases.{expects, lendable}
@@ -105,6 +105,12 @@ stopping = refl
 
 -- The theorems where P breaks in a loop: all that they ask is met.
 
+first : Demand1 base (ours base)
+first = met base base-numbered .0
+
+second : Demand2 base (ours base)
+second = met base base-numbered .1
+
 starts-left : Starts base (lends 8 left) (treeOf (lends 8 left))
 unfolding computing
 starts-left = record { lendable = lendable (lends 8 left) refl; reads = refl; accepted = refl }
@@ -127,7 +133,7 @@ fuelled-right e = omega arith
 pub left-right-agree : Agree (ours base .run (lends 8 left)) (ours base .run (lends 8 right)) 2 1
 unfolding counting put
 left-right-agree =
-    regrouping base base-numbered (ours base) (met base base-numbered .0) (met base base-numbered .1) _ _ refl (lends 8 left) (lends 8 right) starts-left starts-right same-tables
+    regrouping base base-numbered (ours base) first second _ _ refl (lends 8 left) (lends 8 right) starts-left starts-right same-tables
     fuelled-left fuelled-right (inLoop here) break (ruleSet (0 ∷ [])) fail refl refl
 
 -- That the one is not out of fuel tells how many steps the other takes, and no other number will do: with 100 fuel it takes 3.
@@ -146,7 +152,7 @@ alike-right = record { rules = refl; main = refl }
 
 pub right-needs-three : Needs base (ours base) (lends 8 left) (treeOf (lends 8 right)) 3
 right-needs-three =
-    let n = alike-ends base base-numbered (ours base) (met base base-numbered .0) (met base base-numbered .1) (lends 8 left) (treeOf (lends 8 left)) starts-left fuelled-left _ alike-right in
+    let n = alike-ends base base-numbered (ours base) first second (lends 8 left) (treeOf (lends 8 left)) starts-left fuelled-left _ alike-right in
     subst (Needs base (ours base) (lends 8 left) (treeOf (lends 8 right))) (only-three (n .0) (n .1)) (n .1)
 
 -- Calls written out. One procedure is M, another tries it; that one is called twice. M is done once and then fails: 11 steps with 4 calls
@@ -204,12 +210,12 @@ pub calling-agrees :
     × (stepsIn (ours base .run (lends 8 calling)) ≡ stepsIn (ours base .run (lends 8 uncalled)) + 4)
 unfolding counting
 calling-agrees =
-    written-agree base base-numbered (ours base) (met base base-numbered .0) (met base base-numbered .1) _ _ written-out (lends 8 calling) starts-calling fuelled-calling
+    written-agree base base-numbered (ours base) first second _ _ written-out (lends 8 calling) starts-calling fuelled-calling
     (lends 8 uncalled) starts-uncalled (record { nodes = refl; edges = refl; journal = refl }) fuelled-uncalled
 
 pub uncalled-needs-seven : Needs base (ours base) (lends 8 calling) (treeOf (lends 8 uncalled)) 7
 unfolding counting
 uncalled-needs-seven =
-    let n = written-ends base base-numbered (ours base) (met base base-numbered .0) (met base base-numbered .1) _ _ written-out (lends 8 calling) starts-calling fuelled-calling in
+    let n = written-ends base base-numbered (ours base) first second _ _ written-out (lends 8 calling) starts-calling fuelled-calling in
     let seven : n .0 ≡ 7 = omega (arith, n .2) in
     subst (Needs base (ours base) (lends 8 calling) (treeOf (lends 8 uncalled))) seven (n .1)
