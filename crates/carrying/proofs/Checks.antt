@@ -148,3 +148,9 @@ module _ (k : Manner) (L M : Layout) (nodes edges toNodes toEdges : List ℕ) wh
 
       pub edges-size : length toEdges ≡ length toEdges / M .edge * edgeLength M
       edges-size = rw (t .edge) (sym (fits-whole (edgeLength M) (M .edges) toEdges (its .edges .into)))
+
+      pub nodes-there : writeNodes M (resized (length toNodes / M .node) (readNodes L nodes)) ≡ writeNodes M (resized (length toNodes / nodeLength M) (readNodes L nodes))
+      nodes-there = λ i. writeNodes M (resized (length toNodes / t .node i) (readNodes L nodes))
+
+      pub edges-there : writeEdges M (resized (length toEdges / M .edge) (readEdges L edges)) ≡ writeEdges M (resized (length toEdges / edgeLength M) (readEdges L edges))
+      edges-there = λ i. writeEdges M (resized (length toEdges / t .edge i) (readEdges L edges))
