@@ -2,9 +2,8 @@
 use mathlib.Core.Path.{_≡_, refl, sym, _∙_}
 use mathlib.Core.Bool.{Bool, true, false}
 use mathlib.Core.List.{List}
-use Prim.Native.Nat.{ℕ, _+_, _<_, _≤_}
+use Prim.Native.Nat.{ℕ, _<_, _≤_}
 use native.Mathlib.Omega.{arith}
-use native.Mathlib.Decide.{ℕ-discrete}
 use borrow.Author.Tests.{leb-true, le-leb}
 use lib.Dec.{leb}
 use lib.ListN.{length}
@@ -18,14 +17,6 @@ use Rattle.meaning.specs.declared.Table.{Table}
 use Rattle.meaning.specs.declared.Table.the-variants.{Nodes, Edges}
 use Rattle.graph.specs.Graph.{slotsIn}
 use Rattle.carrying.specs.Tables.{labelIn, labelsFitIn}
-
--- what holds of those below a number, and of it, holds of those below the next
-pub one-more : (P : ℕ → Type 0) (x : ℕ) → ((i : ℕ) → i < x → P i) → P x → (i : ℕ) → i < x + 1 → P i
-one-more P x f p i h = at (ℕ-discrete i x)
-  where
-    at : Dec (i ≡ x) → P i
-    at (yes e) = rw e p
-    at (no e) = f i (omega arith)
 
 -- A free slot has an empty label.
 

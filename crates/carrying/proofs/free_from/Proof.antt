@@ -3,7 +3,6 @@ use Prim.Native.Nat.{ℕ, _-_, _<_, _≤_}
 use mathlib.Core.Path.{_≡_, sym, _∙_}
 use mathlib.Core.Bool.{false}
 use native.Mathlib.Omega.{arith}
-use native.Mathlib.Decide.{ℕ-discrete}
 use Rattle.carrying.specs.Tables.{liveIn}
 use Rattle.carrying.proofs.Free.{one-further, free-of, free-not}
 use borrow.Author.Needs.{needs}

@@ -5,7 +5,8 @@ use borrow.Author.Needs.{needs}
 use native.Mathlib.Omega.{arith}
 use lib.ListN.{length}
 use Rattle.carrying.specs.Tables.{labelIn}
-use Rattle.carrying.proofs.Labels.{one-more, fit-of, fit-not}
+use Rattle.carrying.proofs.Free.{one-further}
+use Rattle.carrying.proofs.Labels.{fit-of, fit-not}
 use Rattle.carrying.proofs.labels_fit.Statement.{statement}
 use Rattle.carrying.proofs.labels_fit.Tie as tie
 
@@ -38,7 +39,7 @@ loop-less c = omega arith
 loop-again : tie.Need-loop-again Inv-loop μ-loop
 loop-again c =
     let a = c .before .before .before .before .before .before .before .args in
-    (omega arith, one-more (λ i. length (labelIn (a .l) (a .nodes .now) (a .edges .now) (a .which) i) ≤ a .most) (c .before .before .before .loop .x) (c .before .before .before .loop .inv .1) (omega (arith, c .before .atoms-in .ensures, c .if1 .left)))
+    (omega arith, λ i h. one-further (λ i. length (labelIn (a .l) (a .nodes .now) (a .edges .now) (a .which) i) ≤ a .most) 0 (c .before .before .before .loop .x) (λ i z. c .before .before .before .loop .inv .1 i) (omega (arith, c .before .atoms-in .ensures, c .if1 .left)) i (omega arith) h)
 
 returns-2 : tie.Need-returns-2 Inv-loop μ-loop
 returns-2 c =
