@@ -1,12 +1,20 @@
 # `make run` runs the main job, `make test` runs everything that is checked. The others: `make library`, `make driver`,
 # `make bench`, `make fuzz`, `make memory`, `make carriers`, `make map`, `make install PREFIX=..`. ARCH=aarch64 or ARCH=x86_64 says for which
-# processor; without it, for this machine's own.
+# processor; without it, for this machine's own. CORE=small says that the library is to have the small core's calls alone, and that
+# `make run` runs on it.
 
 CARGO = cargo --quiet
 SECOND = second/target/release/second
 GP2 = second/target/release/gp2
 ARCH ?= $(shell tools/processor own)
-LIBRARY = target/library/$(ARCH)/libnhiemavut.a
+CORE ?= wide
+NAME_wide = nhiemavut
+NAME_small = nhiemavut_small
+NAME = $(NAME_$(CORE))
+LIBRARY = target/library/$(ARCH)/lib$(NAME).a
+RUNNER_wide = runner
+RUNNER_small = small_runner
+SMALL_CALLS = nhiemavut_small_run nhiemavut_small_undo
 SOURCES = crates.txt $(shell find crates -name '*.rt' -o -name '*.antt')
 
 # What `make run` runs: a runner image, or a program and a host graph in text.
@@ -24,14 +32,14 @@ export ARCH
 
 .PHONY: run test tools runner carriers library driver bench fuzz memory map install clean
 
-# Runs an image by the proved runner, which rt builds as x86-64 code.
+# Runs an image by the proved runner of a core, which rt builds as x86-64 code.
 run: tools runner
 ifdef IMAGE
-	@tools/processor run x86_64 target/bin/runner <$(IMAGE)
+	@tools/processor run x86_64 target/bin/$(RUNNER_$(CORE)) <$(IMAGE)
 else
 	@mkdir -p target
-	@$(GP2) asm $(PROGRAM) --host $(HOST) --fuel $(FUEL) --records $(RECORDS) -o target/run.image
-	@tools/processor run x86_64 target/bin/runner <target/run.image
+	@$(GP2) asm $(PROGRAM) --core $(CORE) --host $(HOST) --fuel $(FUEL) --records $(RECORDS) -o target/run.image
+	@tools/processor run x86_64 target/bin/$(RUNNER_$(CORE)) <target/run.image
 endif
 
 # The second interpreter and its tools, built from the standard library alone.
@@ -41,19 +49,23 @@ tools:
 
 # The runner program and what it rests on: rt builds what it has proved. What is proved already is not proved again.
 runner:
-	@tools/prove check runner
+	@tools/prove check $(RUNNER_$(CORE))
 
 # The programs that carry tables between the old layout and today's: target/bin/widen and target/bin/narrow, x86-64 code.
 carriers:
 	@tools/prove check widen narrow
 
-# The static library for C, built again when a source of it is newer.
+# The static library for C, built again when a source of it is newer: all calls, or the small core's alone.
 library: $(LIBRARY)
 	@:
 
 target/library/%/libnhiemavut.a: target/module/interpreter/module.ll
 	@mkdir -p $(@D)
 	@tools/module library interpreter $* $@
+
+target/library/%/libnhiemavut_small.a: target/module/interpreter/module.ll
+	@mkdir -p $(@D)
+	@tools/module library interpreter $* $@ $(SMALL_CALLS)
 
 # Proved code as the kit's compiler gets it, for either processor.
 .PRECIOUS: target/module/%/module.ll
@@ -85,7 +97,8 @@ install: library
 	mkdir -p $(DESTDIR)$(PREFIX)/include $(DESTDIR)$(LIBDIR)/pkgconfig
 	cp include/nhiemavut.h $(DESTDIR)$(PREFIX)/include/
 	cp $(LIBRARY) $(DESTDIR)$(LIBDIR)/
-	sed -e 's|@PREFIX@|$(PREFIX)|' -e 's|@LIBDIR@|$(patsubst $(PREFIX)/%,$${prefix}/%,$(LIBDIR))|' include/nhiemavut.pc.in >$(DESTDIR)$(LIBDIR)/pkgconfig/nhiemavut.pc
+	sed -e 's|@PREFIX@|$(PREFIX)|' -e 's|@LIBDIR@|$(patsubst $(PREFIX)/%,$${prefix}/%,$(LIBDIR))|' -e 's|@NAME@|$(NAME)|' include/nhiemavut.pc.in \
+		>$(DESTDIR)$(LIBDIR)/pkgconfig/$(NAME).pc
 
 # The second interpreter's own tests, with its check of every stored expected output; the proofs and the programs over stored
 # files, eight checks at a time, since the checks of a layer begin together and end together; what `make run` prints; the stored

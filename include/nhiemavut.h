@@ -13,7 +13,16 @@
  *
  * Numbers are big-endian, atoms signed 32-bit. A table may have no slots. A free slot is all zero.
  *
- * Old tables have room for four atoms in a label: their slots are as these but for the last four atoms, of 20 and 24 bytes.
+ * The small core is the same for displays that are short of room. Its slots hold one atom, and slot numbers have one byte:
+ *
+ *   nodes     8 bytes   128          state, mark, root, label length, one atom
+ *   edges     10 bytes  255          state, mark, zero, label length, source (1), target (1), one atom
+ *   journal   12 bytes  255          kind, slot number (1), the slot's bytes before the change
+ *
+ * nhiemavut_small_run and nhiemavut_small_undo take such tables and such a journal; nhiemavut_pack and nhiemavut_unpack carry a
+ * graph to them and from them. Program images, reports and answers are the same.
+ *
+ * Old tables have room for four atoms in a label: their slots are as the wide ones but for the last four atoms, of 20 and 24 bytes.
  * nhiemavut_widen and nhiemavut_narrow carry a graph from them and to them.
  */
 #ifndef NHIEMAVUT_H
@@ -31,14 +40,21 @@ enum {
     NHIEMAVUT_EDGE_BYTES = 40,
     NHIEMAVUT_RECORD_BYTES = 44,
     NHIEMAVUT_REPORT_BYTES = 8,
+    NHIEMAVUT_SMALL_NODE_BYTES = 8, /* of the small core */
+    NHIEMAVUT_SMALL_EDGE_BYTES = 10,
+    NHIEMAVUT_SMALL_RECORD_BYTES = 12,
     NHIEMAVUT_OLD_NODE_BYTES = 20, /* of old tables */
     NHIEMAVUT_OLD_EDGE_BYTES = 24,
     NHIEMAVUT_MOST_ATOMS = 8,
+    NHIEMAVUT_SMALL_MOST_ATOMS = 1,
     NHIEMAVUT_OLD_MOST_ATOMS = 4,
     NHIEMAVUT_MOST_ELEMENTS = 8, /* of a label in a rule */
     NHIEMAVUT_MOST_NODES = 512,
     NHIEMAVUT_MOST_EDGES = 1024,
     NHIEMAVUT_MOST_RECORDS = 1024,
+    NHIEMAVUT_SMALL_MOST_NODES = 128,
+    NHIEMAVUT_SMALL_MOST_EDGES = 255,
+    NHIEMAVUT_SMALL_MOST_RECORDS = 255,
     NHIEMAVUT_MOST_IMAGE_BYTES = 8192,
     NHIEMAVUT_MOST_FUEL = 1000000
 };
@@ -53,24 +69,29 @@ enum {
     NHIEMAVUT_NO_NODE_ROOM = 3,    /* too few node slots for the nodes that a rule adds */
     NHIEMAVUT_NO_EDGE_ROOM = 4,    /* too few edge slots for the edges that a rule adds */
     NHIEMAVUT_NO_RECORD_ROOM = 5,  /* too few journal slots for the records of a rule */
-    NHIEMAVUT_LABEL_TOO_LARGE = 6, /* a sum or difference leaves 32 bits, or a label has over eight atoms */
+    NHIEMAVUT_LABEL_TOO_LARGE = 6, /* a sum or difference leaves 32 bits, or a label has over eight atoms, on the
+                                      small core over one */
 
     /* a refused call: nothing is run, undone or carried */
     NHIEMAVUT_BAD_REPORT = 9,      /* the report isn't 8 bytes; it is left as it was */
-    NHIEMAVUT_BAD_NODES = 10,      /* the node table's length is no multiple of its slot's, or it has too many slots; widen and
-                                      narrow: this of either node table, or one has more slots than the other */
+    NHIEMAVUT_BAD_NODES = 10,      /* the node table's length is no multiple of its slot's, or it has too many slots; widen,
+                                      narrow, pack and unpack: this of either node table; widen and narrow: or one has more
+                                      slots than the other */
     NHIEMAVUT_BAD_EDGES = 11,      /* the same of the edge table, or of either */
     NHIEMAVUT_BAD_JOURNAL = 12,    /* the same of the journal */
     NHIEMAVUT_TOO_MUCH_FUEL = 13,  /* run: the fuel is over 1,000,000 */
     NHIEMAVUT_IMAGE_TOO_LONG = 14, /* run: the image has over 8,192 bytes */
-    NHIEMAVUT_BAD_HOST = 15,       /* run, widen, narrow: a slot of either table breaks the layout */
+    NHIEMAVUT_BAD_HOST = 15,       /* run, and of what is carried: a slot of either table breaks the layout */
     NHIEMAVUT_BAD_FORM = 16,       /* run: the image isn't a program, or has if and try in the old form (0x52, 0x53) */
     NHIEMAVUT_BAD_REFERENCES = 17, /* run: a rule, a procedure, a variable or a node that it names isn't there or is misused */
     NHIEMAVUT_BAD_PLACEMENT = 18,  /* run: a break isn't in a loop body of its own procedure, or a guard is between them */
     NHIEMAVUT_BAD_DEPTH = 19,      /* run: calls of procedures form a ring, or nest commands over 16 deep */
     NHIEMAVUT_BAD_RECORDS = 20,    /* undo: the count is over the journal's records, or a counted record has a kind
-                                      other than 1 or 2, a second byte other than 0, or a slot outside its table */
-    NHIEMAVUT_LABEL_DOES_NOT_FIT = 26 /* narrow: a label has over four atoms */
+                                      other than 1 or 2, a second byte other than 0 (but on the small core, where that is
+                                      the slot number), or a slot outside its table */
+    NHIEMAVUT_LABEL_DOES_NOT_FIT = 26, /* narrow: a label has over four atoms */
+    NHIEMAVUT_HOST_DOES_NOT_FIT = 29   /* pack: a label has over one atom; pack and unpack: a live slot has a number that the
+                                          table carried to has not */
 };
 
 /*
@@ -120,6 +141,42 @@ uint32_t nhiemavut_widen(const uint8_t *nodes, size_t nodes_length,
  * for, and none of the numbers above applies.
  */
 uint32_t nhiemavut_narrow(const uint8_t *nodes, size_t nodes_length,
+                          const uint8_t *edges, size_t edges_length,
+                          uint8_t *to_nodes, size_t to_nodes_length,
+                          uint8_t *to_edges, size_t to_edges_length);
+
+/*
+ * The calls above on the small core: the same, on small tables and with a small journal.
+ */
+uint32_t nhiemavut_small_run(uint8_t *nodes, size_t nodes_length,
+                             uint8_t *edges, size_t edges_length,
+                             uint8_t *journal, size_t journal_length,
+                             const uint8_t *image, size_t image_length,
+                             uint32_t fuel,
+                             uint8_t *report, size_t report_length);
+
+uint32_t nhiemavut_small_undo(uint8_t *nodes, size_t nodes_length,
+                              uint8_t *edges, size_t edges_length,
+                              uint8_t *journal, size_t journal_length,
+                              uint32_t count,
+                              uint8_t *report, size_t report_length);
+
+/*
+ * Carries the graph in two tables to two small ones. Each slot keeps its number; the tables may have other counts of slots, and those
+ * that the graph leaves become free. What the small tables hold before doesn't matter. Journals are not carried: undo before.
+ *
+ * Answers 0, with the same graph in the small tables; or the lowest of 10, 11, 15 and 29 that applies. A refused call leaves the
+ * small tables as they were.
+ */
+uint32_t nhiemavut_pack(const uint8_t *nodes, size_t nodes_length,
+                        const uint8_t *edges, size_t edges_length,
+                        uint8_t *to_nodes, size_t to_nodes_length,
+                        uint8_t *to_edges, size_t to_edges_length);
+
+/*
+ * The same the other way, from small tables. It never answers 29 where the tables carried to have as many slots or more.
+ */
+uint32_t nhiemavut_unpack(const uint8_t *nodes, size_t nodes_length,
                           const uint8_t *edges, size_t edges_length,
                           uint8_t *to_nodes, size_t to_nodes_length,
                           uint8_t *to_edges, size_t to_edges_length);
