@@ -1,11 +1,10 @@
 -- Computed cases: tables that are widened and narrowed, and that are refused; a program that can't hold a label with four atoms and can
--- with eight; and one for which all that `widened-run` asks is met. Rests on Widening, on the demands' Met and Cases, and on the meaning's
+-- with eight; and one for which all that `widened-run` asks is met. Rests on Widening, on the demands' First, Second and Cases, and on the meaning's
 -- ProvedSet and Computing.
-use mathlib.Core.Path.{_≡_, refl, ap}
+use mathlib.Core.Path.{_≡_, refl}
 use mathlib.Core.List.{List, [], _∷_, _++_}
-use Prim.Native.Nat.{ℕ, _*_, _≤_}
+use Prim.Native.Nat.{ℕ, _*_}
 use native.Mathlib.Omega.{arith}
-use native.Mathlib.Decide.{decLe}
 use borrow.Author.Tests.{leb-true}
 use lib.ListN.{length, replicate}
 use Rattle.meaning.specs.Basics.{padded}
@@ -18,16 +17,16 @@ use Rattle.demands.specs.Demands.{Outcome}
 use Rattle.demands.specs.Ours.{ours}
 use Rattle.demands.specs.First.{demand1}
 use Rattle.demands.specs.Second.{demand2}
-use Rattle.demands.specs.Met.{met}
 use Rattle.demands.specs.Cases.{lendable}
 use Rattle.meaning.specs.declared.Layout.{Layout}
+use Rattle.meaning.specs.declared.Manner.the-variants.{Exact}
 use Rattle.meaning.specs.declared.Refusal.{Refusal}
 use Rattle.meaning.specs.declared.Refusal.the-variants.{NodeTableLength, EdgeTableLength, BadHost, LabelDoesNotFit}
 use Rattle.meaning.specs.declared.Answer.the-variants.{Refused}
 use Rattle.layouts.specs.Carried.{arriving}
-use Rattle.layouts.specs.LargerRuns.{RunsAs}
+use Rattle.layouts.specs.LargerRuns.{RunsAs, same-fuel}
 use Rattle.layouts.specs.CarriedRuns.{CarriedLent, CarriedRun}
-use Rattle.laws.specs.Undoing.{four-numbered}
+use Rattle.laws.specs.Undoing.{base-numbered, four-numbered}
 use Rattle.layouts.specs.Widening.{widened-run}
 
 -- Slots: a live node of a mark and a label, a blue loop at slot 0 of a label, and slots full of sevens, which are no slots of a host.
@@ -123,7 +122,7 @@ y-red : seen (ours base .run y) ≡ (0, node base 1 fourAtoms, reportOf 1 1)
 unfolding computing
 y-red = refl
 
-x-to-y : CarriedLent four base x y
+x-to-y : CarriedLent Exact four base x y
 unfolding computing
 x-to-y =
     record {
@@ -131,6 +130,8 @@ x-to-y =
       toNodes = sevens (nodeLength base);
       toEdges = [];
       carried = refl;
+      nodesMany = tt;
+      edgesMany = tt;
       records = leb-true 8 8 refl;
       journalFits = refl;
       image = refl;
@@ -138,16 +139,11 @@ x-to-y =
       reportFits = refl;
     }
 
-x-runs : RunsAs four (ours four) (ours base) x (CarriedLent four base x)
-    (λ y c. CarriedRun four base x y (ours four .run x) (ours base .run y))
+x-runs : RunsAs four (ours four) (ours base) x (CarriedLent Exact four base x)
+    (λ y c. CarriedRun Exact four base x y (ours four .run x) (ours base .run y))
 unfolding computing
-x-runs = widened-run (ours four) (ours base) (demand1 four) (demand2 four four-numbered) (met .0) (met .1) x (lendable x refl) (omega arith)
+x-runs = widened-run (ours four) (ours base) (demand1 four) (demand2 four four-numbered) (demand1 base) (demand2 base base-numbered) x (lendable x refl) (omega arith)
 
--- fuel 10 is enough, since it does not run out
-pub same-red : CarriedRun four base x y (ours four .run x) (ours base .run y)
-same-red = at (decLe (x-runs .s) 10)
-  where
-    at : Dec (x-runs .s ≤ 10) → CarriedRun four base x y (ours four .run x) (ours base .run y)
-    at (yes h) = x-runs .enough y x-to-y h
-    at (no h) =
-        absurd (omega (arith, x-runs .short y x-to-y (omega arith), ap (λ (t : ℕ × List ℕ × List ℕ). t .0) y-red))
+-- both have fuel 10
+pub same-red : CarriedRun Exact four base x y (ours four .run x) (ours base .run y)
+same-red = same-fuel four (ours four) (ours base) x _ _ x-runs y x-to-y refl

@@ -10,13 +10,14 @@ use lib.ListN.{length, replicate}
 use Rattle.meaning.specs.Basics.{concat, padded}
 use Rattle.meaning.specs.Layout.{Slot, Node, Edge, Host, Change, nodeLength, edgeLength, readNodes, readEdges, hostOf, writeNodes, writeEdges, writeRecord, keepsLayout}
 use Rattle.meaning.specs.Commands.{State, Out}
-use Rattle.meaning.specs.Calls.{Lent}
+use Rattle.meaning.specs.Calls.{Lent, journalRoom}
 use Rattle.laws.specs.Pieces.{fits-length, fits-whole}
 use Rattle.laws.specs.Layout.{write-read-nodes, write-read-edges}
 use Rattle.laws.specs.Hosts.{LegalHost, legal-host, read-write-nodes, read-write-edges, length-writeNodes, length-writeEdges, keepsLayout-write}
 use Rattle.laws.specs.Legality.{LegalLedger}
 use Rattle.laws.specs.Undoing.{Numbered}
-use Rattle.demands.specs.Demands.{Lendable, Outcome, Interpreter, reporting, asItCame, outcomeAt, Entered, Demand1, Demand2}
+use Rattle.laws.specs.Fuel.{exec-counted}
+use Rattle.demands.specs.Demands.{Lendable, Outcome, Interpreter, reporting, start, asItCame, outcomeAt, Entered, Demand1, Demand2}
 use Rattle.demands.specs.Ours.{ours, Good, good}
 use Rattle.demands.specs.First.{stop-answer, run-settled}
 use Rattle.demands.specs.Started.{last, last-legal, last-left, last-stated, last-entered}
@@ -140,14 +141,21 @@ settling L M x Failed t h = (tt, λ q. let z : _≡_ {A = ℕ} 0 1 = cc in omega
 settling L M x Broke t h = (tt, λ q. let z : _≡_ {A = ℕ} 0 1 = cc in omega arith)
 settling L M x (Stopped w) t h = absurd (omega (arith, stop-answer w .1))
 
--- A run of x by I takes s steps. With s fuel or more J's run of each y that is `Given` is the `Same`; with less it is out of fuel.
+-- A run of x by I takes s steps, which are no more than its fuel. With s fuel or more J's run of each y that is `Given` is the `Same`; with
+-- less it is out of fuel.
 pub record RunsAs (L : Layout) (I J : Interpreter) (x : Lent) (Given : Lent → Type 0) (Same : (y : Lent) → Given y → Type 0) : Type 0 where
   pub s : ℕ
   pub records : ℕ
   pub report : I .run x .report ≡ reporting s records
   pub entered : Entered L x s
+  pub within : s ≤ x .fuel
   pub enough : (y : Lent) (given : Given y) → s ≤ y .fuel → Same y given
   pub short : (y : Lent) → Given y → y .fuel < s → J .run y .answer ≡ 2
+
+-- with the fuel of x it is the same, since a run takes no more steps than it has fuel
+pub same-fuel : (L : Layout) (I J : Interpreter) (x : Lent) (Given : Lent → Type 0) (Same : (y : Lent) → Given y → Type 0)
+    → RunsAs L I J x Given Same → (y : Lent) (given : Given y) → y .fuel ≡ x .fuel → Same y given
+same-fuel L I J x Given Same r y given e = r .enough y given (omega (arith, r .within))
 
 module _ (L M : Layout) (kl : Numbered L) (km : Numbered M) (labels : L .atoms ≤ M .atoms) (x : Lent) (b : Lendable x) where
   module _ (h : ours L .run x .answer ≤ 1) where
@@ -174,6 +182,10 @@ module _ (L M : Layout) (kl : Numbered L) (km : Numbered M) (labels : L .atoms �
           (subst (λ (q : Out). LegalLedger M (length (y .nodes) / nodeLength M) (length (y .edges) / edgeLength M) (q .state .ledger)) (t .1)
           (last-legal M km y (more .lendable) startedThere))))
 
+    steps-within : o .state .steps ≤ x .fuel
+    steps-within =
+        omega (arith, exec-counted (L .atoms) (journalRoom L (x .journal)) (started .tree .rules) (started .tree .main) (start L x) .total)
+
     ours-larger : RunsAs L (ours L) (ours M) x (Larger L M x) (λ y more. SameRun L M x y more (ours L .run x) (ours M .run y))
     ours-larger =
         let r = last-stated L kl x b started in
@@ -182,6 +194,7 @@ module _ (L M : Layout) (kl : Numbered L) (km : Numbered M) (labels : L .atoms �
           records = r .0;
           report = r .1;
           entered = last-entered L kl x b started;
+          within = steps-within;
           enough = same;
           short = larger-short L M kl labels x b started ended;
         }
@@ -201,6 +214,7 @@ module _ (L M : Layout) (kl : Numbered L) (km : Numbered M) (labels : L .atoms �
           records = n .records;
           report = ap (λ (o : Outcome). o .report) is-ours ∙ n .report;
           entered = n .entered;
+          within = n .within;
           enough = λ y more l. rw (is-ours, there-ours y more) (n .enough y more l);
           short = λ y more l. ap (λ (o : Outcome). o .answer) (there-ours y more) ∙ n .short y more l;
         }

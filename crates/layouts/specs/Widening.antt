@@ -2,56 +2,64 @@
 -- back what the other was given, that the host is the same, and that a program does on the widened graph what it did.
 -- Rests on Carried and CarriedRuns.
 use Prim.Native.Nat.{ℕ, _≤_}
-use mathlib.Core.Path.{_≡_}
+use mathlib.Core.Path.{_≡_, _∙_}
 use mathlib.Core.List.{List, [], _∷_}
 use native.Mathlib.Omega.{arith}
 use lib.ListN.{length}
 use Rattle.meaning.specs.Layout.{base, four, hostOf}
-use Rattle.meaning.specs.Calls.{Lent, answerNumber}
-use Rattle.meaning.specs.Carrying.{LentTables, lendingTables, widen, narrow}
+use Rattle.meaning.specs.Calls.{Lent, answerNumber, refusalNumber}
+use Rattle.meaning.specs.Carrying.{LentTables, lendingTables, unfit, widen, narrow}
 use Rattle.laws.specs.Numbers.{Bytes}
+use Rattle.laws.specs.Carrying.{taken}
 use Rattle.laws.specs.Undoing.{base-numbered, four-numbered}
-use Rattle.demands.specs.Demands.{Lendable, Interpreter, In, Demand1, Demand2}
+use Rattle.demands.specs.Demands.{Lendable, Outcome, Interpreter, In, Demand1, Demand2}
+use Rattle.meaning.specs.declared.Manner.the-variants.{Exact}
 use Rattle.meaning.specs.declared.Answer.the-variants.{Result}
-use Rattle.layouts.specs.Carried.{arriving, carry-answers, larger-answers, Kept, carry-kept, carry-back}
+use Rattle.layouts.specs.Carried.{arriving, result-taken, carry-answers, larger-answers, Kept, exact-host, carry-kept, carry-back}
 use Rattle.layouts.specs.LargerRuns.{RunsAs}
-use Rattle.layouts.specs.CarriedRuns.{CarriedLent, CarriedRun, run-carried}
+use Rattle.layouts.specs.CarriedRuns.{CarriedLent, CarriedRun, run-carried, exact-run}
 
 -- What is answered.
 
 pub narrow-answers : (x : LentTables) → In (answerNumber (narrow x .answer)) (0 ∷ 10 ∷ 11 ∷ 15 ∷ 26 ∷ [])
-narrow-answers = carry-answers base four
+unfolding refusalNumber unfit
+narrow-answers = carry-answers Exact base four
 
 module _ (x : LentTables) (hn : Bytes (x .nodes)) (he : Bytes (x .edges)) where
   -- 26 never
   pub widen-answers : In (answerNumber (widen x .answer)) (0 ∷ 10 ∷ 11 ∷ 15 ∷ [])
-  widen-answers = larger-answers four base x hn he (omega arith)
+  widen-answers = larger-answers Exact four base x hn he (omega arith) tt tt
 
   -- What is not refused.
 
-  pub widen-kept : widen x .answer ≡ Result → Kept four base x (widen x)
-  widen-kept = carry-kept four base (base-numbered .nodes) x hn he
+  pub widen-kept : widen x .answer ≡ Result → Kept Exact four base x (widen x)
+  widen-kept = carry-kept Exact four base (base-numbered .nodes) x hn he
 
-  pub narrow-kept : narrow x .answer ≡ Result → Kept base four x (narrow x)
-  narrow-kept = carry-kept base four (four-numbered .nodes) x hn he
+  pub narrow-kept : narrow x .answer ≡ Result → Kept Exact base four x (narrow x)
+  narrow-kept = carry-kept Exact base four (four-numbered .nodes) x hn he
 
   -- the same slots, marks, root flags, labels and ends
   pub widened-host : widen x .answer ≡ Result → hostOf base (widen x .nodes) (widen x .edges) ≡ hostOf four (x .nodes) (x .edges)
-  widened-host r = widen-kept r .host
+  widened-host r = widen-kept r .host ∙ exact-host four base x (taken Exact four base x (result-taken Exact four base x r))
 
   module _ (toNodes toEdges : List ℕ) (en : length toNodes ≡ length (x .nodes)) (ee : length toEdges ≡ length (x .edges)) where
     -- narrowing what was widened is not refused, and gives the old bytes
     pub narrow-widen : widen x .answer ≡ Result
         → narrow (lendingTables (widen x .nodes) (widen x .edges) toNodes toEdges) ≡ arriving (x .nodes) (x .edges)
-    narrow-widen r = carry-back four base (base-numbered .nodes) x hn he r toNodes toEdges en ee
+    narrow-widen r = carry-back Exact four base (base-numbered .nodes) x hn he r toNodes toEdges en ee
 
     -- widening what was narrowed is not refused, and gives the wide bytes
     pub widen-narrow : narrow x .answer ≡ Result
         → widen (lendingTables (narrow x .nodes) (narrow x .edges) toNodes toEdges) ≡ arriving (x .nodes) (x .edges)
-    widen-narrow r = carry-back base four (four-numbered .nodes) x hn he r toNodes toEdges en ee
+    widen-narrow r = carry-back Exact base four (four-numbered .nodes) x hn he r toNodes toEdges en ee
 
 -- What a program answers with 0 or 1 on old tables it answers so on the widened ones, by any two interpreters that meet demands 1 and 2:
 -- with as much fuel as it takes steps it leaves the same, widened, and with less it is out of fuel.
 pub widened-run : (I J : Interpreter) → Demand1 four I → Demand2 four I → Demand1 base J → Demand2 base J → (x : Lent) → Lendable x
-    → I .run x .answer ≤ 1 → RunsAs four I J x (CarriedLent four base x) (λ y c. CarriedRun four base x y (I .run x) (J .run y))
-widened-run = run-carried four base four-numbered base-numbered (omega arith)
+    → I .run x .answer ≤ 1 → RunsAs four I J x (CarriedLent Exact four base x) (λ y c. CarriedRun Exact four base x y (I .run x) (J .run y))
+widened-run = run-carried Exact four base four-numbered base-numbered (omega arith)
+
+-- the hosts that the two runs leave are the same
+pub widened-run-host : (x y : Lent) (o q : Outcome) → CarriedRun Exact four base x y o q
+    → hostOf base (q .nodes) (q .edges) ≡ hostOf four (o .nodes) (o .edges)
+widened-run-host = exact-run four base
