@@ -10,7 +10,7 @@ use native.Mathlib.Nat.{le-refl}
 use native.Mathlib.Omega.{arith}
 use lib.ListN.{length}
 use Rattle.meaning.specs.Basics.{both, absent, firstFailing}
-use Rattle.meaning.specs.Layout.{Host, nodeLength, edgeLength, readNode, readEdge, readNodes, readEdges, hostOf, writeNodes, writeEdges, keepsLayout}
+use Rattle.meaning.specs.Layout.{Host, nodeLength, edgeLength, readNode, readEdge, hostOf, writeNodes, writeEdges, keepsLayout}
 use Rattle.meaning.specs.Calls.{answerNumber, refusalNumber}
 use Rattle.meaning.specs.Carrying.{LentTables, lendingTables, Carried, countsAgree, lengthsAgree, hostFits, unfit, resized, carryRefusal, carryOn, carry}
 use Rattle.meaning.specs.Laws.Checks.{first-yes, first-none, behind-fine, behind-refused, firstFailing-none, failing-of}

@@ -5,4 +5,5 @@ pub mod Carried
 pub mod LargerRuns
 pub mod CarriedRuns
 pub mod Widening
+pub mod Packing
 pub mod Examples

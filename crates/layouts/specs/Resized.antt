@@ -10,7 +10,6 @@ use native.Mathlib.Decide.{decLt}
 use borrow.Author.Tests.{leb-true, le-leb}
 use lib.ListN.{length, getD, drop, replicate, List·getD-eq-default}
 use lib.Seq.{take-all, getD-drop, ext-getD}
-use Rattle.meaning.specs.Basics.{every}
 use Rattle.meaning.specs.Layout.{Slot, free, live, isLive, liveAt, Node, Edge, Host}
 use Rattle.meaning.specs.Carrying.{labelFits, slotsFit, hostFits, resized}
 use Rattle.meaning.specs.Laws.Tests.{both-true, both-of, every-of}
