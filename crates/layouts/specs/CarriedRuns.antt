@@ -24,7 +24,7 @@ use Rattle.meaning.specs.declared.Manner.the-variants.{Exact}
 use Rattle.meaning.specs.declared.Answer.the-variants.{Result}
 use Rattle.layouts.specs.Resized.{resizedHost, resized-further, host-fits-of, legal-fits}
 use Rattle.layouts.specs.Carried.{nodeSlots, edgeSlots, arrived, arriving, carry-taken, result-taken, AsManySlots, as-many, lengths-same, Kept, carry-kept, exact-host}
-use Rattle.layouts.specs.LargerRuns.{SameRun, RunsAs, run-larger}
+use Rattle.layouts.specs.LargerRuns.{SameRun, RunsAs, run-larger, out-larger}
 
 -- y is x with its tables carried from L to M, as many slots or more, and room for as many records or more; the program is the same, and the
 -- fuel any
@@ -185,21 +185,27 @@ module _ (k : Manner) (L M : Layout) (numberedThere : Numbered M) (x : Lent) (b 
           recordedThere = same .recordedThere;
         }
 
-pub run-carried : (k : Manner) (L M : Layout) → Numbered L → Numbered M → L .atoms ≤ M .atoms → (I J : Interpreter) → Demand1 L I
-    → Demand2 L I → Demand1 M J → Demand2 M J → (x : Lent) → Lendable x → I .run x .answer ≤ 1
-    → RunsAs L I J x (CarriedLent k L M x) (λ y c. CarriedRun k L M x y (I .run x) (J .run y))
-run-carried k L M numbered numberedThere labels I J first second firstThere secondThere x b h =
-    let n = run-larger L M numbered numberedThere labels x b I J first second firstThere secondThere h in
-    record {
-      s = n .s;
-      records = n .records;
-      report = n .report;
-      entered = n .entered;
-      within = n .within;
-      enough = λ y c l.
-          carried-run k L M numberedThere x b y c labels (I .run x) (J .run y) (n .enough y (carried-larger k L M numberedThere x b y c) l);
-      short = λ y c. n .short y (carried-larger k L M numberedThere x b y c);
-    }
+module _ (k : Manner) (L M : Layout) (numbered : Numbered L) (numberedThere : Numbered M) (labels : L .atoms ≤ M .atoms) (I J : Interpreter)
+    (first : Demand1 L I) (second : Demand2 L I) (firstThere : Demand1 M J) (secondThere : Demand2 M J) (x : Lent) (b : Lendable x)
+  where
+    pub run-carried : I .run x .answer ≤ 1 → RunsAs L I J x (CarriedLent k L M x) (λ y c. CarriedRun k L M x y (I .run x) (J .run y))
+    run-carried h =
+        let n = run-larger L M numbered numberedThere labels x b I J first second firstThere secondThere h in
+        record {
+          s = n .s;
+          records = n .records;
+          report = n .report;
+          entered = n .entered;
+          within = n .within;
+          enough = λ y c l.
+              carried-run k L M numberedThere x b y c labels (I .run x) (J .run y) (n .enough y (carried-larger k L M numberedThere x b y c) l);
+          short = λ y c. n .short y (carried-larger k L M numberedThere x b y c);
+        }
+
+    -- what is out of fuel is so with the same fuel there
+    pub out-carried : I .run x .answer ≡ 2 → (y : Lent) → CarriedLent k L M x y → y .fuel ≡ x .fuel → J .run y .answer ≡ 2
+    out-carried h y c =
+        out-larger L M numbered numberedThere labels x b I J first second firstThere secondThere h y (carried-larger k L M numberedThere x b y c)
 
 -- in the exact manner the hosts that are left are the same
 pub exact-run : (L M : Layout) (x y : Lent) (o q : Outcome) → CarriedRun Exact L M x y o q

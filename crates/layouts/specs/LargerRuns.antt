@@ -9,7 +9,9 @@ use native.Mathlib.Omega.{arith}
 use lib.ListN.{length, replicate}
 use Rattle.meaning.specs.Basics.{concat, padded}
 use Rattle.meaning.specs.Layout.{Slot, Node, Edge, Host, Change, nodeLength, edgeLength, readNodes, readEdges, hostOf, writeNodes, writeEdges, writeRecord, keepsLayout}
-use Rattle.meaning.specs.Commands.{State, Out}
+use Rattle.meaning.specs.Image.{rawProgram}
+use Rattle.meaning.specs.Procedures.{Program, program}
+use Rattle.meaning.specs.Commands.{State, Out, exec, beginning}
 use Rattle.meaning.specs.Calls.{Lent, journalRoom}
 use Rattle.laws.specs.Pieces.{fits-length, fits-whole}
 use Rattle.laws.specs.Layout.{write-read-nodes, write-read-edges}
@@ -17,16 +19,18 @@ use Rattle.laws.specs.Hosts.{LegalHost, legal-host, read-write-nodes, read-writ
 use Rattle.laws.specs.Legality.{LegalLedger}
 use Rattle.laws.specs.Undoing.{Numbered}
 use Rattle.laws.specs.Fuel.{exec-counted}
-use Rattle.demands.specs.Demands.{Lendable, Outcome, Interpreter, reporting, start, asItCame, outcomeAt, Entered, Demand1, Demand2}
-use Rattle.demands.specs.Ours.{ours, Good, good}
+use Rattle.demands.specs.Demands.{Lendable, Outcome, Interpreter, stopAnswer, reporting, start, asItCame, outcomeAt, Entered, Demand1, Demand2}
+use Rattle.demands.specs.Ours.{ours, end, ours-outcome, Good, good, good-starts}
 use Rattle.demands.specs.First.{stop-answer, run-settled}
-use Rattle.demands.specs.Started.{last, last-legal, last-left, last-stated, last-entered}
+use Rattle.demands.specs.Started.{rules-sound, last, last-legal, last-left, last-stated, last-entered}
 use Rattle.demands.specs.OneOutcome.{run-one}
-use Rattle.demands.specs.Larger.{Larger, Settling, good-y, enough-y, larger-left, larger-short}
+use Rattle.demands.specs.Larger.{Larger, Settling, enough-y, larger-left, larger-short}
 use Rattle.demands.specs.Laws.Further.{roomier}
 use Rattle.demands.specs.Laws.Shortage.{fuelled}
-use Rattle.demands.specs.Laws.FurtherCommands.{roomierState}
+use Rattle.demands.specs.Laws.FurtherCommands.{roomierState, exec-roomier}
 use Rattle.meaning.specs.declared.Layout.{Layout}
+use Rattle.meaning.specs.declared.Stop.{Stop}
+use Rattle.meaning.specs.declared.Stop.the-variants.{OutOfFuel, NoNodeRoom, NoEdgeRoom, NoRecordRoom, LabelTooLarge}
 use Rattle.meaning.specs.declared.End.{End}
 use Rattle.meaning.specs.declared.End.the-variants.{Done, Failed, Broke, Stopped}
 
@@ -157,6 +161,68 @@ pub same-fuel : (L : Layout) (I J : Interpreter) (x : Lent) (Given : Lent → Ty
     → RunsAs L I J x Given Same → (y : Lent) (given : Given y) → y .fuel ≡ x .fuel → Same y given
 same-fuel L I J x Given Same r y given e = r .enough y given (omega (arith, r .within))
 
+-- where x starts, y does
+abbrev started-there : (L M : Layout) (x y : Lent) → Larger L M x y → Good L x → Good M y
+started-there L M x y more a =
+    record {
+      reportSize = more .reportFits;
+      nodesFit = more .nodesFit;
+      edgesFit = more .edgesFit;
+      journalFits = more .journalFits;
+      fuelFits = more .fuelFits;
+      imageFits = omega (arith, ap length (more .image), a .imageFits);
+      layout = more .layout;
+      raw = a .raw;
+      read = ap rawProgram (more .image) ∙ a .read;
+      references = a .references;
+      placement = a .placement;
+      depth = a .depth;
+      tree = a .tree;
+      whole = a .whole;
+      form = ap program (more .image) ∙ a .form;
+    }
+
+-- Out of fuel.
+
+stop-out : (w : Stop) → stopAnswer w ≡ 2 → w ≡ OutOfFuel
+stop-out OutOfFuel e = refl
+stop-out NoNodeRoom e = absurd (omega arith)
+stop-out NoEdgeRoom e = absurd (omega arith)
+stop-out NoRecordRoom e = absurd (omega arith)
+stop-out LabelTooLarge e = absurd (omega arith)
+
+-- answer 2 is of fuel that ran out
+end-out : (L : Layout) (x : Lent) (e : End) (t : State) → outcomeAt L x e t .answer ≡ 2 → e ≡ Stopped OutOfFuel
+end-out L x Done t h = absurd (omega arith)
+end-out L x Failed t h = absurd (omega arith)
+end-out L x Broke t h = absurd (omega arith)
+end-out L x (Stopped w) t h = ap {B = End} Stopped (stop-out w h)
+
+module _ (L M : Layout) (kl : Numbered L) (labels : L .atoms ≤ M .atoms) (x : Lent) (b : Lendable x) (y : Lent) (more : Larger L M x y) where
+  module _ (a : Good L x) (out : last L kl x b a .end ≡ Stopped OutOfFuel) (fuel : y .fuel ≡ x .fuel) where
+    abbrev p : Program
+    p = a .tree
+
+    end-there : end M y p .end ≡ Stopped OutOfFuel
+    end-there =
+        ap (λ (q : Out). q .end)
+        ((λ i. exec (M .atoms) (journalRoom M (y .journal)) (p .rules) (p .main) (beginning (more .host i) (fuel i)))
+        ∙ exec-roomier (more .nodesMore) (more .edgesMore) (L .atoms) (M .atoms) labels (journalRoom L (x .journal)) (journalRoom M (y .journal))
+        (more .records) (p .rules) (rules-sound L kl x b a) (p .main) (start L x) (rw out tt))
+        ∙ out
+
+    out-there : ours M .run y .answer ≡ 2
+    out-there =
+        ap (λ (o : Outcome). o .answer) (ours-outcome M y p (good-starts M y (started-there L M x y more a)) (ap program (more .image) ∙ a .form))
+        ∙ ap (λ (e : End). outcomeAt M y e (end M y p .state) .answer) end-there
+
+  ours-out : ours L .run x .answer ≡ 2 → y .fuel ≡ x .fuel → ours M .run y .answer ≡ 2
+  ours-out h =
+      let a = good L x (run-settled L x (omega arith)) in
+      out-there a (end-out L x _ _ (sym (ap (λ (o : Outcome). o .answer) (last-left L kl x b a)) ∙ h))
+
+-- A result or a fail.
+
 module _ (L M : Layout) (kl : Numbered L) (km : Numbered M) (labels : L .atoms ≤ M .atoms) (x : Lent) (b : Lendable x) where
   module _ (h : ours L .run x .answer ≤ 1) where
     abbrev started : Good L x
@@ -170,7 +236,7 @@ module _ (L M : Layout) (kl : Numbered L) (km : Numbered M) (labels : L .atoms �
 
     module _ (y : Lent) (more : Larger L M x y) where
       abbrev startedThere : Good M y
-      startedThere = good-y L M kl labels x b started ended y more
+      startedThere = started-there L M x y more started
 
       same : o .state .steps ≤ y .fuel → SameRun L M x y more (ours L .run x) (ours M .run y)
       same l =
@@ -218,3 +284,9 @@ module _ (L M : Layout) (kl : Numbered L) (km : Numbered M) (labels : L .atoms �
           enough = λ y more l. rw (is-ours, there-ours y more) (n .enough y more l);
           short = λ y more l. ap (λ (o : Outcome). o .answer) (there-ours y more) ∙ n .short y more l;
         }
+
+    -- what is out of fuel is so with the same fuel there
+    pub out-larger : I .run x .answer ≡ 2 → (y : Lent) → Larger L M x y → y .fuel ≡ x .fuel → J .run y .answer ≡ 2
+    out-larger h y more e =
+        ap (λ (o : Outcome). o .answer) (there-ours y more)
+        ∙ ours-out L M kl labels x b y more (sym (ap (λ (o : Outcome). o .answer) is-ours) ∙ h) e

@@ -10,7 +10,7 @@ use native.Mathlib.Decide.{ℕ-discrete}
 use lib.ListN.{length, getD, take, drop, length-map}
 use lib.Seq.{getD-take, getD-drop}
 use Rattle.meaning.specs.Numbers.{number}
-use Rattle.meaning.specs.Layout.{Slot, free, live, isLive, liveAt, Edge, base, small, edgeLength, sourcePlace, targetPlace, cut, readEdge, readNodes, readEdges, hostOf}
+use Rattle.meaning.specs.Layout.{free, live, isLive, liveAt, Edge, base, small, edgeLength, sourcePlace, targetPlace, cut, readEdge, readNodes, readEdges, hostOf}
 use Rattle.meaning.specs.Calls.{Lent, answerNumber, refusalNumber}
 use Rattle.meaning.specs.Carrying.{LentTables, lendingTables, Carried, unfit, pack, unpack}
 use Rattle.meaning.specs.Laws.Slots.{OnLive, liveAt-lt}
@@ -25,7 +25,7 @@ use Rattle.meaning.specs.declared.Manner.the-variants.{Packing}
 use Rattle.meaning.specs.declared.Answer.the-variants.{Result}
 use Rattle.layouts.specs.Carried.{nodeSlots, edgeSlots, arriving, carry-answers, larger-answers, Kept, carry-kept, carry-back}
 use Rattle.layouts.specs.LargerRuns.{RunsAs, same-fuel}
-use Rattle.layouts.specs.CarriedRuns.{CarriedLent, CarriedRun, run-carried}
+use Rattle.layouts.specs.CarriedRuns.{CarriedLent, CarriedRun, run-carried, out-carried}
 
 -- What is answered.
 
@@ -143,17 +143,23 @@ packed-ends x hn he r i e l =
 -- Programs, by any two interpreters that meet demands 1 and 2, the one at the small core's layout and the other at document 01's.
 
 module _ (I J : Interpreter) (first : Demand1 small I) (second : Demand2 small I) (firstThere : Demand1 base J) (secondThere : Demand2 base J)
-    (x : Lent) (b : Lendable x) (h : I .run x .answer ≤ 1)
+    (x : Lent) (b : Lendable x)
   where
     -- What answers 0 or 1 on the small core answers so on the unpacked tables, with as many slots and records or more: with as much fuel as
     -- it takes steps it leaves the same, unpacked, and with less it is out of fuel.
-    pub unpacked-run : RunsAs small I J x (CarriedLent Packing small base x) (λ y c. CarriedRun Packing small base x y (I .run x) (J .run y))
-    unpacked-run = run-carried Packing small base small-numbered base-numbered (omega arith) I J first second firstThere secondThere x b h
+    pub unpacked-run : I .run x .answer ≤ 1
+        → RunsAs small I J x (CarriedLent Packing small base x) (λ y c. CarriedRun Packing small base x y (I .run x) (J .run y))
+    unpacked-run = run-carried Packing small base small-numbered base-numbered (omega arith) I J first second firstThere secondThere x b
 
     -- So with the same fuel it is the same: the answer, the steps and the count of records, each slot, and the changes in the journal.
-    pub unpacked-same : (y : Lent) → CarriedLent Packing small base x y → y .fuel ≡ x .fuel
+    pub unpacked-same : I .run x .answer ≤ 1 → (y : Lent) → CarriedLent Packing small base x y → y .fuel ≡ x .fuel
         → CarriedRun Packing small base x y (I .run x) (J .run y)
-    unpacked-same = same-fuel small I J x _ _ unpacked-run
+    unpacked-same h = same-fuel small I J x _ _ (unpacked-run h)
+
+    -- What is out of fuel on the small core is so on the unpacked tables, with the same fuel. Of answers 3 to 6 nothing is said: there may be
+    -- room on the wide core for what the small one has none for.
+    pub unpacked-out : I .run x .answer ≡ 2 → (y : Lent) → CarriedLent Packing small base x y → y .fuel ≡ x .fuel → J .run y .answer ≡ 2
+    unpacked-out = out-carried Packing small base small-numbered base-numbered (omega arith) I J first second firstThere secondThere x b
 
 -- what was packed is what is unpacked: tables from which the small core's were packed can stand for the unpacked ones
 pub packed-carried : (x : LentTables) → Bytes (x .nodes) → Bytes (x .edges) → (nodes edges : List ℕ) → pack x ≡ arriving nodes edges

@@ -1,56 +1,48 @@
 -- Computed cases: tables that are widened and narrowed, and that are refused; a program that can't hold a label with four atoms and can
--- with eight; and one for which all that `widened-run` asks is met. Rests on Widening, on the demands' First, Second and Cases, and on the meaning's
+-- with eight; and one for which all that `widened-run` asks is met. Rests on Widening and ExampleTables, on the demands' First, Second and Cases, and on the meaning's
 -- ProvedSet and Computing.
 use mathlib.Core.Path.{_≡_, refl}
 use mathlib.Core.List.{List, [], _∷_, _++_}
-use Prim.Native.Nat.{ℕ, _*_}
+use Prim.Native.Nat.{ℕ}
 use native.Mathlib.Omega.{arith}
 use borrow.Author.Tests.{leb-true}
-use lib.ListN.{length, replicate}
+use lib.ListN.{length}
 use Rattle.meaning.specs.Basics.{padded}
-use Rattle.meaning.specs.Layout.{base, four, nodeLength, edgeLength, recordLength, atomBytes}
-use Rattle.meaning.specs.Calls.{Lent, lending, reportOf}
-use Rattle.meaning.specs.Carrying.{Carried, lendingTables, widen, narrow}
+use Rattle.meaning.specs.Layout.{base, four, edgeLength, atomBytes}
+use Rattle.meaning.specs.Calls.{Lent, reportOf}
+use Rattle.meaning.specs.Carrying.{lendingTables, widen, narrow}
 use Rattle.meaning.specs.Computing.{computing}
 use Rattle.meaning.specs.ProvedSet.{ruleField, nodeField, variableField, ruleSetField}
-use Rattle.demands.specs.Demands.{Outcome}
 use Rattle.demands.specs.Ours.{ours}
 use Rattle.demands.specs.First.{demand1}
 use Rattle.demands.specs.Second.{demand2}
 use Rattle.demands.specs.Cases.{lendable}
 use Rattle.meaning.specs.declared.Layout.{Layout}
 use Rattle.meaning.specs.declared.Manner.the-variants.{Exact}
-use Rattle.meaning.specs.declared.Refusal.{Refusal}
 use Rattle.meaning.specs.declared.Refusal.the-variants.{NodeTableLength, EdgeTableLength, BadHost, LabelDoesNotFit}
-use Rattle.meaning.specs.declared.Answer.the-variants.{Refused}
 use Rattle.layouts.specs.Carried.{arriving}
+use Rattle.layouts.specs.ExampleTables.{node, badRoot, sevenNodes, sevenEdges, leaves, lent, seen, reddens}
 use Rattle.layouts.specs.LargerRuns.{RunsAs, same-fuel}
 use Rattle.layouts.specs.CarriedRuns.{CarriedLent, CarriedRun}
 use Rattle.laws.specs.Undoing.{base-numbered, four-numbered}
 use Rattle.layouts.specs.Widening.{widened-run}
 
--- Slots: a live node of a mark and a label, a blue loop at slot 0 of a label, and slots full of sevens, which are no slots of a host.
-
-abbrev node : Layout → ℕ → List ℕ → List ℕ
-node L mark label = padded (nodeLength L) (1 ∷ mark ∷ 0 ∷ length label ∷ atomBytes label)
+-- a blue loop at slot 0, of a label
 
 abbrev loopEdge : Layout → List ℕ → List ℕ
 loopEdge L label = padded (edgeLength L) (1 ∷ 3 ∷ 0 ∷ length label ∷ 0 ∷ 0 ∷ 0 ∷ 0 ∷ atomBytes label)
-
-abbrev sevens : ℕ → List ℕ
-sevens n = replicate n 7
 
 abbrev fourAtoms : List ℕ
 fourAtoms = 1 ∷ 2 ∷ 300 ∷ 4 ∷ []
 
 -- Widened and back, over sevens; the atoms lie where they lay, and there are zeros behind.
 
-pub widened : widen (lendingTables (node four 0 fourAtoms) (loopEdge four fourAtoms) (sevens (nodeLength base)) (sevens (edgeLength base)))
+pub widened : widen (lendingTables (node four 0 fourAtoms) (loopEdge four fourAtoms) (sevenNodes base 1) (sevenEdges base 1))
     ≡ arriving (node base 0 fourAtoms) (loopEdge base fourAtoms)
 unfolding computing
 widened = refl
 
-pub narrowed : narrow (lendingTables (node base 0 fourAtoms) (loopEdge base fourAtoms) (sevens (nodeLength four)) (sevens (edgeLength four)))
+pub narrowed : narrow (lendingTables (node base 0 fourAtoms) (loopEdge base fourAtoms) (sevenNodes four 1) (sevenEdges four 1))
     ≡ arriving (node four 0 fourAtoms) (loopEdge four fourAtoms)
 unfolding computing
 narrowed = refl
@@ -58,30 +50,24 @@ narrowed = refl
 -- Refused: five atoms do not fit; a root flag of 2; one slot to two, of nodes and of edges. The lowest number is answered, and the tables
 -- are as they were.
 
-abbrev leaves : Refusal → List ℕ → List ℕ → Carried
-leaves w nodes edges = record { answer = Refused w; nodes = nodes; edges = edges }
-
-pub five-atoms : narrow (lendingTables (node base 0 (5 ∷ fourAtoms)) [] (sevens (nodeLength four)) []) ≡ leaves LabelDoesNotFit (sevens (nodeLength four)) []
+pub five-atoms : narrow (lendingTables (node base 0 (5 ∷ fourAtoms)) [] (sevenNodes four 1) []) ≡ leaves LabelDoesNotFit (sevenNodes four 1) []
 unfolding computing
 five-atoms = refl
 
-pub damaged : widen (lendingTables (padded (nodeLength four) (1 ∷ 0 ∷ 2 ∷ [])) [] (sevens (nodeLength base)) []) ≡ leaves BadHost (sevens (nodeLength base)) []
+pub damaged : widen (lendingTables (badRoot four) [] (sevenNodes base 1) []) ≡ leaves BadHost (sevenNodes base 1) []
 unfolding computing
 damaged = refl
 
-pub other-nodes : widen (lendingTables (padded (nodeLength four) (1 ∷ 0 ∷ 2 ∷ [])) [] (sevens (2 * nodeLength base)) []) ≡ leaves NodeTableLength (sevens (2 * nodeLength base)) []
+pub other-nodes : widen (lendingTables (badRoot four) [] (sevenNodes base 2) []) ≡ leaves NodeTableLength (sevenNodes base 2) []
 unfolding computing
 other-nodes = refl
 
-pub other-edges : narrow (lendingTables (node base 0 (5 ∷ fourAtoms)) [] (sevens (nodeLength four)) (sevens (edgeLength four)))
-    ≡ leaves EdgeTableLength (sevens (nodeLength four)) (sevens (edgeLength four))
+pub other-edges : narrow (lendingTables (node base 0 (5 ∷ fourAtoms)) [] (sevenNodes four 1) (sevenEdges four 1))
+    ≡ leaves EdgeTableLength (sevenNodes four 1) (sevenEdges four 1)
 unfolding computing
 other-edges = refl
 
--- Programs, on one node, with 8 records and fuel 10: one labels a node x anew with five x; one marks a node of any label red.
-
-abbrev lent : Layout → List ℕ → List ℕ → Lent
-lent L image nodes = lending nodes [] (replicate (8 * recordLength L) 1) image 10 (sevens 8)
+-- A program that labels a node x anew with five x.
 
 abbrev fiveTimes : List ℕ
 fiveTimes =
@@ -89,19 +75,12 @@ fiveTimes =
     (nodeField 0 (variableField 0 ++ variableField 0 ++ variableField 0 ++ variableField 0 ++ variableField 0)) 1
     ++ ruleSetField 0
 
-abbrev reddens : List ℕ
-reddens = ruleField (2 ∷ []) (nodeField 0 (variableField 0)) (nodeField 1 (variableField 0)) 1 ++ ruleSetField 0
-
--- what a run answers, and leaves in the node table and in the report
-abbrev seen : Outcome → ℕ × List ℕ × List ℕ
-seen o = (o .answer, o .nodes, o .report)
-
 -- five atoms are too many of four, and not of eight
-pub too-large : seen (ours four .run (lent four fiveTimes (node four 0 (9 ∷ [])))) ≡ (6, node four 0 (9 ∷ []), reportOf 1 0)
+pub too-large : seen (ours four .run (lent four 8 fiveTimes (node four 0 (9 ∷ [])))) ≡ (6, node four 0 (9 ∷ []), reportOf 1 0)
 unfolding computing
 too-large = refl
 
-pub large-enough : seen (ours base .run (lent base fiveTimes (node base 0 (9 ∷ []))))
+pub large-enough : seen (ours base .run (lent base 8 fiveTimes (node base 0 (9 ∷ []))))
     ≡ (0, node base 0 (9 ∷ 9 ∷ 9 ∷ 9 ∷ 9 ∷ []), reportOf 1 1)
 unfolding computing
 large-enough = refl
@@ -109,10 +88,10 @@ large-enough = refl
 -- All that the theorem on widened tables asks is met.
 
 abbrev x : Lent
-x = lent four reddens (node four 0 fourAtoms)
+x = lent four 8 reddens (node four 0 fourAtoms)
 
 abbrev y : Lent
-y = lent base reddens (node base 0 fourAtoms)
+y = lent base 8 reddens (node base 0 fourAtoms)
 
 x-red : seen (ours four .run x) ≡ (0, node four 1 fourAtoms, reportOf 1 1)
 unfolding computing
@@ -127,7 +106,7 @@ unfolding computing
 x-to-y =
     record {
       lendable = lendable y refl;
-      toNodes = sevens (nodeLength base);
+      toNodes = sevenNodes base 1;
       toEdges = [];
       carried = refl;
       nodesMany = tt;
