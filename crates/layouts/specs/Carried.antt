@@ -176,24 +176,31 @@ module _ (k : Manner) (w most : ℕ) (table : List ℕ) (v most′ : ℕ) (to : 
 
 -- A carrying that is not refused.
 
--- it leaves the same slot at each number, the further ones free, laid out as they are to be in tables of the lengths lent
+-- the host h in tables of n node slots and m edge slots; in the exact manner there are as many as it has, and it is h itself
+abbrev pub hostIn : Manner → ℕ → ℕ → Host → Host
+hostIn Exact n m h = h
+hostIn Packing n m h = resizedHost n m h
+
+-- it leaves the same host, with the same slot at each number, laid out as it is to be, in tables of the lengths lent
 pub record Kept (k : Manner) (L M : Layout) (x : LentTables) (c : Carried) : Type 0 where
   pub answer : c .answer ≡ Result
-  pub host : hostOf M (c .nodes) (c .edges) ≡ arrived L M x
+  pub host
+      : hostOf M (c .nodes) (c .edges) ≡ hostIn k (nodeSlots M (x .toNodes)) (edgeSlots M (x .toEdges)) (hostOf L (x .nodes) (x .edges))
   pub alike : Alike (hostOf L (x .nodes) (x .edges)) (hostOf M (c .nodes) (c .edges))
   pub layout : keepsLayout M (c .nodes) (c .edges) ≡ true
   pub nodesLength : length (c .nodes) ≡ length (x .toNodes)
   pub edgesLength : length (c .edges) ≡ length (x .toEdges)
 
--- in the exact manner what arrives is the same host
-pub exact-host : (L M : Layout) (x : LentTables) → Taken Exact L M x → arrived L M x ≡ hostOf L (x .nodes) (x .edges)
-exact-host L M x t =
+pub host-in : (k : Manner) (L M : Layout) (x : LentTables) → Taken k L M x
+    → arrived L M x ≡ hostIn k (nodeSlots M (x .toNodes)) (edgeSlots M (x .toEdges)) (hostOf L (x .nodes) (x .edges))
+host-in Exact L M x t =
     let n = length-read (nodeLength L) readNode (x .nodes) ∙ counts-same _ _ (t .nodes .counts) in
     let m = length-read (edgeLength L) (readEdge L) (x .edges) ∙ counts-same _ _ (t .edges .counts) in
     let here : Host = hostOf L (x .nodes) (x .edges) in
     let nodes = ap (λ (i : ℕ). resized i (here .nodes)) (sym n) ∙ resized-same (here .nodes) in
     let edges = ap (λ (i : ℕ). resized i (here .edges)) (sym m) ∙ resized-same (here .edges) in
     λ i. record { nodes = nodes i; edges = edges i }
+host-in Packing L M x t = refl
 
 module _ (k : Manner) (L M : Layout) (numbered : M .nodes ≤ 256 ^ M .width) (x : LentTables) (hn : Bytes (x .nodes)) (he : Bytes (x .edges))
     (r : carry k L M x .answer ≡ Result)
@@ -242,7 +249,7 @@ module _ (k : Manner) (L M : Layout) (numbered : M .nodes ≤ 256 ^ M .width) (x
         subst (Kept k L M x) (sym is-left)
         (record {
           answer = refl;
-          host = there-host;
+          host = there-host ∙ host-in k L M x its;
           alike = subst (Alike here) (sym there-host) (resized-alike _ _ _ here here-fits);
           layout = keepsLayout-write M there there-legal;
           nodesLength = nodes-length;

@@ -20,10 +20,9 @@ use Rattle.demands.specs.Laws.Alike.{Alike}
 use Rattle.demands.specs.Laws.Further.{roomier, roomier-alike}
 use Rattle.meaning.specs.declared.Layout.{Layout}
 use Rattle.meaning.specs.declared.Manner.{Manner}
-use Rattle.meaning.specs.declared.Manner.the-variants.{Exact}
 use Rattle.meaning.specs.declared.Answer.the-variants.{Result}
 use Rattle.layouts.specs.Resized.{resizedHost, resized-further, host-fits-of, legal-fits}
-use Rattle.layouts.specs.Carried.{nodeSlots, edgeSlots, arrived, arriving, carry-taken, result-taken, AsManySlots, as-many, lengths-same, Kept, carry-kept, exact-host}
+use Rattle.layouts.specs.Carried.{nodeSlots, edgeSlots, arrived, arriving, carry-taken, result-taken, AsManySlots, as-many, lengths-same, hostIn, host-in, Kept, carry-kept}
 use Rattle.layouts.specs.LargerRuns.{SameRun, RunsAs, run-larger, out-larger}
 
 -- y is x with its tables carried from L to M, as many slots or more, and room for as many records or more; the program is the same, and the
@@ -48,7 +47,7 @@ pub record CarriedRun (k : Manner) (L M : Layout) (x y : Lent) (o q : Outcome) :
   pub report : q .report ≡ o .report
   pub alike : Alike (hostOf L (o .nodes) (o .edges)) (hostOf M (q .nodes) (q .edges))
   pub host
-      : hostOf M (q .nodes) (q .edges) ≡ resizedHost (nodeSlots M (y .nodes)) (edgeSlots M (y .edges)) (hostOf L (o .nodes) (o .edges))
+      : hostOf M (q .nodes) (q .edges) ≡ hostIn k (nodeSlots M (y .nodes)) (edgeSlots M (y .edges)) (hostOf L (o .nodes) (o .edges))
   pub tables : (toNodes toEdges : List ℕ) → length toNodes ≡ length (y .nodes) → length toEdges ≡ length (y .edges)
       → carry k L M (lendingTables (o .nodes) (o .edges) toNodes toEdges) ≡ arriving (q .nodes) (q .edges)
   pub changes : List (Change (Slot Node) (Slot Edge))
@@ -110,7 +109,8 @@ module _ (k : Manner) (L M : Layout) (numberedThere : Numbered M) (x : Lent) (b 
         nodesMore = nodesMore;
         edgesMore = edgesMore;
         host =
-            kept .host ∙ (λ i. resizedHost (n i / nodeLength M) (m i / edgeLength M) (hostOf L (x .nodes) (x .edges)))
+            kept .host ∙ sym (host-in k L M lent its)
+            ∙ (λ i. resizedHost (n i / nodeLength M) (m i / edgeLength M) (hostOf L (x .nodes) (x .edges)))
             ∙ grown L M (x .nodes) (x .edges) (y .nodes) (y .edges) nodes-many edges-many;
         layout = kept .layout;
         records = c .records;
@@ -178,7 +178,7 @@ module _ (k : Manner) (L M : Layout) (numberedThere : Numbered M) (x : Lent) (b 
           answer = same .answer;
           report = same .report;
           alike = subst (Alike host) (sym same-host) (roomier-alike nodesMore edgesMore host);
-          host = sym (after-host (y .nodes) (y .edges) refl refl);
+          host = sym (after-host (y .nodes) (y .edges) refl refl) ∙ host-in k L M _ (after-taken (y .nodes) (y .edges) refl refl);
           tables = after-carried;
           changes = same .changes;
           recorded = same .recorded;
@@ -206,11 +206,3 @@ module _ (k : Manner) (L M : Layout) (numbered : Numbered L) (numberedThere : Nu
     pub out-carried : I .run x .answer ≡ 2 → (y : Lent) → CarriedLent k L M x y → y .fuel ≡ x .fuel → J .run y .answer ≡ 2
     out-carried h y c =
         out-larger L M numbered numberedThere labels x b I J first second firstThere secondThere h y (carried-larger k L M numberedThere x b y c)
-
--- in the exact manner the hosts that are left are the same
-pub exact-run : (L M : Layout) (x y : Lent) (o q : Outcome) → CarriedRun Exact L M x y o q
-    → hostOf M (q .nodes) (q .edges) ≡ hostOf L (o .nodes) (o .edges)
-exact-run L M x y o q r =
-    let after = lendingTables (o .nodes) (o .edges) (y .nodes) (y .edges) in
-    let result = ap (λ (d : Carried). d .answer) (r .tables (y .nodes) (y .edges) refl refl) in
-    r .host ∙ exact-host L M after (taken Exact L M after (result-taken Exact L M after result))

@@ -2,7 +2,7 @@
 -- back what the other was given, that the host is the same, and that a program does on the widened graph what it did.
 -- Rests on Carried and CarriedRuns.
 use Prim.Native.Nat.{ℕ, _≤_}
-use mathlib.Core.Path.{_≡_, _∙_}
+use mathlib.Core.Path.{_≡_}
 use mathlib.Core.List.{List, [], _∷_}
 use native.Mathlib.Omega.{arith}
 use lib.ListN.{length}
@@ -10,14 +10,13 @@ use Rattle.meaning.specs.Layout.{base, four, hostOf}
 use Rattle.meaning.specs.Calls.{Lent, answerNumber, refusalNumber}
 use Rattle.meaning.specs.Carrying.{LentTables, lendingTables, unfit, widen, narrow}
 use Rattle.laws.specs.Numbers.{Bytes}
-use Rattle.laws.specs.Carrying.{taken}
 use Rattle.laws.specs.Undoing.{base-numbered, four-numbered}
-use Rattle.demands.specs.Demands.{Lendable, Outcome, Interpreter, In, Demand1, Demand2}
+use Rattle.demands.specs.Demands.{Lendable, Interpreter, In, Demand1, Demand2}
 use Rattle.meaning.specs.declared.Manner.the-variants.{Exact}
 use Rattle.meaning.specs.declared.Answer.the-variants.{Result}
-use Rattle.layouts.specs.Carried.{arriving, result-taken, carry-answers, larger-answers, Kept, exact-host, carry-kept, carry-back}
+use Rattle.layouts.specs.Carried.{arriving, carry-answers, larger-answers, Kept, carry-kept, carry-back}
 use Rattle.layouts.specs.LargerRuns.{RunsAs}
-use Rattle.layouts.specs.CarriedRuns.{CarriedLent, CarriedRun, run-carried, exact-run}
+use Rattle.layouts.specs.CarriedRuns.{CarriedLent, CarriedRun, run-carried}
 
 -- What is answered.
 
@@ -40,7 +39,7 @@ module _ (x : LentTables) (hn : Bytes (x .nodes)) (he : Bytes (x .edges)) where
 
   -- the same slots, marks, root flags, labels and ends
   pub widened-host : widen x .answer ≡ Result → hostOf base (widen x .nodes) (widen x .edges) ≡ hostOf four (x .nodes) (x .edges)
-  widened-host r = widen-kept r .host ∙ exact-host four base x (taken Exact four base x (result-taken Exact four base x r))
+  widened-host r = widen-kept r .host
 
   module _ (toNodes toEdges : List ℕ) (en : length toNodes ≡ length (x .nodes)) (ee : length toEdges ≡ length (x .edges)) where
     -- narrowing what was widened is not refused, and gives the old bytes
@@ -58,8 +57,3 @@ module _ (x : LentTables) (hn : Bytes (x .nodes)) (he : Bytes (x .edges)) where
 pub widened-run : (I J : Interpreter) → Demand1 four I → Demand2 four I → Demand1 base J → Demand2 base J → (x : Lent) → Lendable x
     → I .run x .answer ≤ 1 → RunsAs four I J x (CarriedLent Exact four base x) (λ y c. CarriedRun Exact four base x y (I .run x) (J .run y))
 widened-run = run-carried Exact four base four-numbered base-numbered (omega arith)
-
--- the hosts that the two runs leave are the same
-pub widened-run-host : (x y : Lent) (o q : Outcome) → CarriedRun Exact four base x y o q
-    → hostOf base (q .nodes) (q .edges) ≡ hostOf four (o .nodes) (o .edges)
-widened-run-host = exact-run four base
