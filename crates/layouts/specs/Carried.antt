@@ -157,7 +157,8 @@ counts-back Exact n m e = counts-of Exact m n (sym (counts-same n m e))
 counts-back Packing n m e = refl
 
 module _ (k : Manner) (w most : ℕ) (table : List ℕ) (v most′ : ℕ) (to : List ℕ) (s : LengthsAgree k w most table v most′ to) where
-  pub lengths-same : (table′ to′ : List ℕ) → length table′ ≡ length table → length to′ ≡ length to → LengthsAgree k w most table′ v most′ to′
+  pub lengths-same : (table′ to′ : List ℕ) → length table′ ≡ length table → length to′ ≡ length to
+      → LengthsAgree k w most table′ v most′ to′
   lengths-same table′ to′ e f =
       record {
         from = fits-same w most table table′ e (s .from);
@@ -279,7 +280,9 @@ module _ (k : Manner) (L M : Layout) (numbered : M .nodes ≤ 256 ^ M .width) (x
       returning-fits : FitsHost (L .atoms) (nodeSlots L toNodes) (edgeSlots L toEdges) there
       returning-fits =
           let a = resized-alike _ _ _ here here-fits in
-          let f = legal-fits L here here-legal (L .atoms) (nodeSlots L toNodes) (edgeSlots L toEdges) (le-refl _) (omega (arith, node-count)) (omega (arith, edge-count)) in
+          let f =
+          legal-fits L here here-legal (L .atoms) (nodeSlots L toNodes) (edgeSlots L toEdges) (le-refl _) (omega (arith, node-count))
+          (omega (arith, edge-count)) in
           record { nodes = λ i. rw (← (a .nodes i)) (f .nodes i); edges = λ i. rw (← (a .edges i)) (f .edges i) }
 
       returning-taken : Taken k M L returning

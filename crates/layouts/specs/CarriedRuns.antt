@@ -148,7 +148,8 @@ module _ (k : Manner) (L M : Layout) (numberedThere : Numbered M) (x : Lent) (b 
 
       after-host : arrived L M after ≡ hostOf M (q .nodes) (q .edges)
       after-host =
-          grown L M (o .nodes) (o .edges) toNodes toEdges (omega (arith, node-count, node-room, nodes-many)) (omega (arith, edge-count, edge-room, edges-many))
+          grown L M (o .nodes) (o .edges) toNodes toEdges (omega (arith, node-count, node-room, nodes-many))
+          (omega (arith, edge-count, edge-room, edges-many))
           ∙ (λ i. roomier (node-room i - node-count i) (edge-room i - edge-count i) host)
           ∙ sym same-host
 
@@ -198,11 +199,13 @@ module _ (k : Manner) (L M : Layout) (numbered : Numbered L) (numberedThere : Nu
           entered = n .entered;
           within = n .within;
           enough = λ y c l.
-              carried-run k L M numberedThere x b y c labels (I .run x) (J .run y) (n .enough y (carried-larger k L M numberedThere x b y c) l);
+              carried-run k L M numberedThere x b y c labels (I .run x) (J .run y)
+              (n .enough y (carried-larger k L M numberedThere x b y c) l);
           short = λ y c. n .short y (carried-larger k L M numberedThere x b y c);
         }
 
     -- what is out of fuel is so with the same fuel there
     pub out-carried : I .run x .answer ≡ 2 → (y : Lent) → CarriedLent k L M x y → y .fuel ≡ x .fuel → J .run y .answer ≡ 2
     out-carried h y c =
-        out-larger L M numbered numberedThere labels x b I J first second firstThere secondThere h y (carried-larger k L M numberedThere x b y c)
+        out-larger L M numbered numberedThere labels x b I J first second firstThere secondThere h y
+        (carried-larger k L M numberedThere x b y c)

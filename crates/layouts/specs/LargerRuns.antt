@@ -1,6 +1,6 @@
 -- Runs at two layouts, by interpreters that meet demands 1 and 2 there: what ends with a result or a fail at the one ends so at the other,
 -- where the tables hold the same graph, with room for as many atoms, slots and records or more. Answer, steps, live slots and records
--- are the same. Rests on demands' Larger and OneOutcome.
+-- are the same; and what is out of fuel at the one is so at the other with the same fuel. Rests on demands' Larger and OneOutcome.
 use Prim.Native.Nat.{ℕ, _-_, _*_, _/_, _<_, _≤_}
 use mathlib.Core.Path.{_≡_, refl, sym, _∙_, ap, subst}
 use mathlib.Core.Bool.{true}
@@ -207,13 +207,14 @@ module _ (L M : Layout) (kl : Numbered L) (labels : L .atoms ≤ M .atoms) (x : 
     end-there =
         ap (λ (q : Out). q .end)
         ((λ i. exec (M .atoms) (journalRoom M (y .journal)) (p .rules) (p .main) (beginning (more .host i) (fuel i)))
-        ∙ exec-roomier (more .nodesMore) (more .edgesMore) (L .atoms) (M .atoms) labels (journalRoom L (x .journal)) (journalRoom M (y .journal))
-        (more .records) (p .rules) (rules-sound L kl x b a) (p .main) (start L x) (rw out tt))
+        ∙ exec-roomier (more .nodesMore) (more .edgesMore) (L .atoms) (M .atoms) labels (journalRoom L (x .journal))
+        (journalRoom M (y .journal)) (more .records) (p .rules) (rules-sound L kl x b a) (p .main) (start L x) (rw out tt))
         ∙ out
 
     out-there : ours M .run y .answer ≡ 2
     out-there =
-        ap (λ (o : Outcome). o .answer) (ours-outcome M y p (good-starts M y (started-there L M x y more a)) (ap program (more .image) ∙ a .form))
+        let there = started-there L M x y more a in
+        ap (λ (o : Outcome). o .answer) (ours-outcome M y p (good-starts M y there) (there .form))
         ∙ ap (λ (e : End). outcomeAt M y e (end M y p .state) .answer) end-there
 
   ours-out : ours L .run x .answer ≡ 2 → y .fuel ≡ x .fuel → ours M .run y .answer ≡ 2

@@ -79,13 +79,20 @@ unfolding number
 one-byte [] = refl
 one-byte (b ∷ l) = omega arith
 
--- byte j of a piece of w bytes from byte n on
-byte-of : (w n : ℕ) (bs : List ℕ) (j : ℕ) → j < w → getD (take w (drop n bs)) j 0 ≡ getD bs (n + j) 0
-byte-of w n bs j h = getD-take w (drop n bs) j 0 h ∙ getD-drop n bs j 0
-
 -- the bytes of slot i of a small edge table
 abbrev slotBytes : List ℕ → ℕ → List ℕ
 slotBytes edges i = take (edgeLength small) (drop (i * edgeLength small) edges)
+
+-- the byte at a place of the slot, as the number that is read there
+byte-at : (edges : List ℕ) (i place : ℕ) → place < edgeLength small
+    → getD edges (i * edgeLength small + place) 0 ≡ number (take 1 (drop place (slotBytes edges i)))
+byte-at edges i place h =
+    let n : ℕ = i * edgeLength small in
+    let same : n + (place + 0) ≡ n + place = omega arith in
+    sym
+    (one-byte (drop place (slotBytes edges i)) ∙ getD-drop place (slotBytes edges i) 0 0
+    ∙ getD-take (edgeLength small) (drop n edges) (place + 0) 0 (omega arith) ∙ getD-drop n edges (place + 0) 0
+    ∙ ap (λ (j : ℕ). getD edges j 0) same)
 
 -- slot i of the small tables holds the ends of e in one byte each, and both are live nodes there
 pub record NamesEnds (nodes edges : List ℕ) (i : ℕ) (e : Edge) : Type 0 where
@@ -112,38 +119,29 @@ module _ (edges : List ℕ) (i : ℕ) (e : Edge) (l : getD (readEdges small edge
       at (yes q) =
           let f : free ≡ live e = sym (readEdge-free small (slotBytes edges i) q) ∙ slot-read in
           let z : _≡_ {A = ℕ} 0 1 = cc in absurd (omega arith)
-      at (no q) = let f : live (edgeOf small (slotBytes edges i)) ≡ live e = sym (readEdge-live small (slotBytes edges i) q) ∙ slot-read in cc
-
-  source-byte : getD edges (i * edgeLength small + sourcePlace small) 0 ≡ e .source
-  source-byte =
-      sym (byte-of (edgeLength small) (i * edgeLength small) edges (sourcePlace small) (omega arith))
-      ∙ sym (getD-drop (sourcePlace small) (slotBytes edges i) 0 0) ∙ sym (one-byte (drop (sourcePlace small) (slotBytes edges i)))
-      ∙ ap (λ (d : Edge). d .source) slot-is
-
-  target-byte : getD edges (i * edgeLength small + targetPlace small) 0 ≡ e .target
-  target-byte =
-      sym (byte-of (edgeLength small) (i * edgeLength small) edges (targetPlace small) (omega arith))
-      ∙ sym (getD-drop (targetPlace small) (slotBytes edges i) 0 0) ∙ sym (one-byte (drop (targetPlace small) (slotBytes edges i)))
-      ∙ ap (λ (d : Edge). d .target) slot-is
+      at (no q) =
+          let f : live (edgeOf small (slotBytes edges i)) ≡ live e = sym (readEdge-live small (slotBytes edges i) q) ∙ slot-read in cc
 
 -- An edge that is packed has the ends that it had, though two bytes became one: they are live nodes, and so have numbers there.
 pub packed-ends : (x : LentTables) → Bytes (x .nodes) → Bytes (x .edges) → pack x .answer ≡ Result → (i : ℕ) (e : Edge)
     → getD (readEdges base (x .edges)) i free ≡ live e → NamesEnds (pack x .nodes) (pack x .edges) i e
 packed-ends x hn he r i e l =
     let kept = pack-kept x hn he r in
-    let there : getD (readEdges small (pack x .edges)) i free ≡ live e = sym (kept .alike .edges i) ∙ l in
-    let ends : Attached (readNodes small (pack x .nodes)) e = subst (OnLive (Attached (readNodes small (pack x .nodes)))) there (layout-attached small (pack x .nodes) (pack x .edges) (kept .layout) i) in
+    let packed = pack x .edges in
+    let there : getD (readEdges small packed) i free ≡ live e = sym (kept .alike .edges i) ∙ l in
+    let nodes = readNodes small (pack x .nodes) in
+    let ends : Attached nodes e = subst (OnLive (Attached nodes)) there (layout-attached small (pack x .nodes) packed (kept .layout) i) in
     record {
-      source = source-byte (pack x .edges) i e there;
-      target = target-byte (pack x .edges) i e there;
+      source = byte-at packed i (sourcePlace small) (omega arith) ∙ ap (λ (d : Edge). d .source) (slot-is packed i e there);
+      target = byte-at packed i (targetPlace small) (omega arith) ∙ ap (λ (d : Edge). d .target) (slot-is packed i e there);
       sourceLive = ends .source;
       targetLive = ends .target;
     }
 
 -- Programs, by any two interpreters that meet demands 1 and 2, the one at the small core's layout and the other at document 01's.
 
-module _ (I J : Interpreter) (first : Demand1 small I) (second : Demand2 small I) (firstThere : Demand1 base J) (secondThere : Demand2 base J)
-    (x : Lent) (b : Lendable x)
+module _ (I J : Interpreter) (first : Demand1 small I) (second : Demand2 small I) (firstThere : Demand1 base J)
+    (secondThere : Demand2 base J) (x : Lent) (b : Lendable x)
   where
     -- What answers 0 or 1 on the small core answers so on the unpacked tables, with as many slots and records or more: with as much fuel as
     -- it takes steps it leaves the same, unpacked, and with less it is out of fuel.
@@ -156,12 +154,12 @@ module _ (I J : Interpreter) (first : Demand1 small I) (second : Demand2 small I
         → CarriedRun Packing small base x y (I .run x) (J .run y)
     unpacked-same h = same-fuel small I J x _ _ (unpacked-run h)
 
-    -- What is out of fuel on the small core is so on the unpacked tables, with the same fuel. Of answers 3 to 6 nothing is said: there may be
-    -- room on the wide core for what the small one has none for.
+    -- What is out of fuel on the small core is so on the unpacked tables, with the same fuel. Of answers 3 to 6 nothing is said: the wide
+    -- core may have room for what the small one has none for.
     pub unpacked-out : I .run x .answer ≡ 2 → (y : Lent) → CarriedLent Packing small base x y → y .fuel ≡ x .fuel → J .run y .answer ≡ 2
     unpacked-out = out-carried Packing small base small-numbered base-numbered (omega arith) I J first second firstThere secondThere x b
 
--- what was packed is what is unpacked: tables from which the small core's were packed can stand for the unpacked ones
+-- Wide tables are themselves what is unpacked of the small ones that they were packed to: so they are `carried`, as `CarriedLent` asks.
 pub packed-carried : (x : LentTables) → Bytes (x .nodes) → Bytes (x .edges) → (nodes edges : List ℕ) → pack x ≡ arriving nodes edges
     → unpack (lendingTables nodes edges (x .nodes) (x .edges)) ≡ arriving (x .nodes) (x .edges)
 packed-carried x hn he nodes edges q =

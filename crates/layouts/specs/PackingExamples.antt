@@ -11,8 +11,9 @@ use Rattle.meaning.specs.Basics.{padded}
 use Rattle.meaning.specs.Layout.{base, small, nodeLength, edgeLength, atomBytes}
 use Rattle.meaning.specs.Calls.{Lent, reportOf}
 use Rattle.meaning.specs.Carrying.{lendingTables, pack, unpack}
+use Rattle.meaning.specs.Tags.{loopTag}
 use Rattle.meaning.specs.Computing.{computing}
-use Rattle.meaning.specs.ProvedSet.{ruleField, nodeField, variableField, ruleSetField}
+use Rattle.meaning.specs.ProvedSet.{fieldBytes, ruleField, nodeField, variableField, ruleSetField, skipField}
 use Rattle.demands.specs.Ours.{ours}
 use Rattle.demands.specs.First.{demand1}
 use Rattle.demands.specs.Second.{demand2}
@@ -57,35 +58,42 @@ unfolding computing
 unpacked = refl
 
 -- to more slots: the further ones are free
-pub packed-wider : pack (lendingTables wideNodes wideEdge (sevenNodes small 3) (sevenEdges small 3)) ≡ arriving (smallNodes ++ freeNodes small 1) (smallEdge ++ freeEdges small 2)
+pub packed-wider : pack (lendingTables wideNodes wideEdge (sevenNodes small 3) (sevenEdges small 3))
+    ≡ arriving (smallNodes ++ freeNodes small 1) (smallEdge ++ freeEdges small 2)
 unfolding computing
 packed-wider = refl
 
-pub unpacked-wider : unpack (lendingTables smallNodes smallEdge (sevenNodes base 3) (sevenEdges base 2)) ≡ arriving (wideNodes ++ freeNodes base 1) (wideEdge ++ freeEdges base 1)
+pub unpacked-wider : unpack (lendingTables smallNodes smallEdge (sevenNodes base 3) (sevenEdges base 2))
+    ≡ arriving (wideNodes ++ freeNodes base 1) (wideEdge ++ freeEdges base 1)
 unfolding computing
 unpacked-wider = refl
 
 -- to fewer: free slots behind are no hindrance
-pub packed-closer : pack (lendingTables (wideNodes ++ freeNodes base 2) (wideEdge ++ freeEdges base 1) (sevenNodes small 2) (sevenEdges small 1)) ≡ arriving smallNodes smallEdge
+pub packed-closer : pack (lendingTables (wideNodes ++ freeNodes base 2) (wideEdge ++ freeEdges base 1) (sevenNodes small 2) (sevenEdges small 1))
+    ≡ arriving smallNodes smallEdge
 unfolding computing
 packed-closer = refl
 
-pub unpacked-closer : unpack (lendingTables (smallNodes ++ freeNodes small 1) (smallEdge ++ freeEdges small 2) (sevenNodes base 2) (sevenEdges base 1)) ≡ arriving wideNodes wideEdge
+pub unpacked-closer : unpack (lendingTables (smallNodes ++ freeNodes small 1) (smallEdge ++ freeEdges small 2) (sevenNodes base 2) (sevenEdges base 1))
+    ≡ arriving wideNodes wideEdge
 unfolding computing
 unpacked-closer = refl
 
 -- Refused, with 29: what is live in a slot that is not there, and a label of two atoms.
 
 -- slot 127 is the last of a full small table, and slot 128 is none
-pub last-slot : pack (lendingTables (freeNodes base 127 ++ node base 0 []) [] (sevenNodes small 128) []) ≡ arriving (freeNodes small 127 ++ node small 0 []) []
+pub last-slot : pack (lendingTables (freeNodes base 127 ++ node base 0 []) [] (sevenNodes small 128) [])
+    ≡ arriving (freeNodes small 127 ++ node small 0 []) []
 unfolding computing
 last-slot = refl
 
-pub no-slot : pack (lendingTables (freeNodes base 128 ++ node base 0 []) [] (sevenNodes small 128) []) ≡ leaves HostDoesNotFit (sevenNodes small 128) []
+pub no-slot : pack (lendingTables (freeNodes base 128 ++ node base 0 []) [] (sevenNodes small 128) [])
+    ≡ leaves HostDoesNotFit (sevenNodes small 128) []
 unfolding computing
 no-slot = refl
 
-pub no-edge-slot : pack (lendingTables wideNodes (freeEdges base 1 ++ wideEdge) (sevenNodes small 2) (sevenEdges small 1)) ≡ leaves HostDoesNotFit (sevenNodes small 2) (sevenEdges small 1)
+pub no-edge-slot : pack (lendingTables wideNodes (freeEdges base 1 ++ wideEdge) (sevenNodes small 2) (sevenEdges small 1))
+    ≡ leaves HostDoesNotFit (sevenNodes small 2) (sevenEdges small 1)
 unfolding computing
 no-edge-slot = refl
 
@@ -93,30 +101,35 @@ pub no-slot-back : unpack (lendingTables smallNodes [] (sevenNodes base 1) []) �
 unfolding computing
 no-slot-back = refl
 
-pub two-atoms : pack (lendingTables (node base 0 (1 ∷ 2 ∷ [])) [] (sevenNodes small 1) []) ≡ leaves HostDoesNotFit (sevenNodes small 1) []
+pub two-atoms : pack (lendingTables (node base 0 (1 ∷ 2 ∷ [])) [] (sevenNodes small 1) [])
+    ≡ leaves HostDoesNotFit (sevenNodes small 1) []
 unfolding computing
 two-atoms = refl
 
 -- The lowest number is answered: a damaged node and a label of two atoms; with them an edge table of 9 bytes, or one of 256 slots; with
 -- them a node table of 129 slots.
 
-pub damaged : pack (lendingTables (badRoot base ++ node base 0 (1 ∷ 2 ∷ [])) [] (sevenNodes small 2) []) ≡ leaves BadHost (sevenNodes small 2) []
+pub damaged : pack (lendingTables (badRoot base ++ node base 0 (1 ∷ 2 ∷ [])) [] (sevenNodes small 2) [])
+    ≡ leaves BadHost (sevenNodes small 2) []
 unfolding computing
 damaged = refl
 
-pub odd-edges : pack (lendingTables (badRoot base ++ node base 0 (1 ∷ 2 ∷ [])) [] (sevenNodes small 2) (sevens 9)) ≡ leaves EdgeTableLength (sevenNodes small 2) (sevens 9)
+pub odd-edges : pack (lendingTables (badRoot base ++ node base 0 (1 ∷ 2 ∷ [])) [] (sevenNodes small 2) (sevens 9))
+    ≡ leaves EdgeTableLength (sevenNodes small 2) (sevens 9)
 unfolding computing
 odd-edges = refl
 
-pub many-edges : pack (lendingTables (badRoot base) [] (sevenNodes small 1) (sevenEdges small 256)) ≡ leaves EdgeTableLength (sevenNodes small 1) (sevenEdges small 256)
+pub many-edges : pack (lendingTables (badRoot base) [] (sevenNodes small 1) (sevenEdges small 256))
+    ≡ leaves EdgeTableLength (sevenNodes small 1) (sevenEdges small 256)
 unfolding computing
 many-edges = refl
 
-pub many-nodes : pack (lendingTables (badRoot base) [] (sevenNodes small 129) (sevens 9)) ≡ leaves NodeTableLength (sevenNodes small 129) (sevens 9)
+pub many-nodes : pack (lendingTables (badRoot base) [] (sevenNodes small 129) (sevens 9))
+    ≡ leaves NodeTableLength (sevenNodes small 129) (sevens 9)
 unfolding computing
 many-nodes = refl
 
--- Of other answers than 0 and 1 nothing is said: what the small core has no room for gives a result on the unpacked tables.
+-- Of answers 3 to 6 nothing is said: what the small core has no room for gives a result on the unpacked tables.
 
 -- nodes alone, unpacked to so many slots
 abbrev unpackedNodes : List ℕ → ℕ → List ℕ
@@ -130,7 +143,8 @@ pub small-label : seen (ours small .run (lent small 8 doubles (node small 0 (9 �
 unfolding computing
 small-label = refl
 
-pub wide-label : seen (ours base .run (lent base 8 doubles (unpackedNodes (node small 0 (9 ∷ [])) 1))) ≡ (0, node base 0 (9 ∷ 9 ∷ []), reportOf 1 1)
+pub wide-label : seen (ours base .run (lent base 8 doubles (unpackedNodes (node small 0 (9 ∷ [])) 1)))
+    ≡ (0, node base 0 (9 ∷ 9 ∷ []), reportOf 1 1)
 unfolding computing
 wide-label = refl
 
@@ -142,7 +156,8 @@ pub small-slots : seen (ours small .run (lent small 8 grows (node small 0 []))) 
 unfolding computing
 small-slots = refl
 
-pub wide-slots : seen (ours base .run (lent base 8 grows (unpackedNodes (node small 0 []) 2))) ≡ (0, node base 0 [] ++ node base 0 [], reportOf 1 2)
+pub wide-slots : seen (ours base .run (lent base 8 grows (unpackedNodes (node small 0 []) 2)))
+    ≡ (0, node base 0 [] ++ node base 0 [], reportOf 1 2)
 unfolding computing
 wide-slots = refl
 
@@ -151,11 +166,26 @@ pub small-records : seen (ours small .run (lent small 0 reddens (node small 0 []
 unfolding computing
 small-records = refl
 
-pub wide-records : seen (ours base .run (lent base 8 reddens (unpackedNodes (node small 0 []) 1))) ≡ (0, node base 1 [], reportOf 1 1)
+pub wide-records : seen (ours base .run (lent base 8 reddens (unpackedNodes (node small 0 []) 1)))
+    ≡ (0, node base 1 [], reportOf 1 1)
 unfolding computing
 wide-records = refl
 
--- All that the theorem on unpacked tables asks is met: of one slot and 8 records on the small core, and two slots and 9 records on the wide.
+-- A loop of skip is out of fuel on both.
+
+abbrev endless : List ℕ
+endless = fieldBytes loopTag skipField
+
+pub small-fuel : seen (ours small .run (lent small 8 endless (node small 0 []))) ≡ (2, node small 0 [], reportOf 10 0)
+unfolding computing
+small-fuel = refl
+
+pub wide-fuel : seen (ours base .run (lent base 8 endless (unpackedNodes (node small 0 []) 1))) ≡ (2, node base 0 [], reportOf 10 0)
+unfolding computing
+wide-fuel = refl
+
+-- All that the theorem on unpacked tables asks is met, of one slot and 8 records on the small core, and two slots and 9 records on the
+-- wide one.
 
 abbrev x : Lent
 x = lent small 8 reddens (node small 0 (300 ∷ []))

@@ -43,7 +43,8 @@ module _ {A : Type 0} (most : ℕ) (label : A → List ℕ) (n : ℕ) (t : List 
       let u = both-true _ _ e in
       slot (getD t i free)
       (Every-at (λ s. labelFits most label s ≡ true) free refl t (Every-true _ _ (λ s q. q) t (u .0)) i)
-      (λ h. ap (λ (s : Slot A). not (isLive s)) (at-behind h) ∙ Every-at (λ s. not (isLive s) ≡ true) free refl (drop n t) (Every-true _ _ (λ s q. q) (drop n t) (u .1)) (i - n))
+      (λ h. ap (λ (s : Slot A). not (isLive s)) (at-behind h)
+      ∙ Every-at (λ s. not (isLive s) ≡ true) free refl (drop n t) (Every-true _ _ (λ s q. q) (drop n t) (u .1)) (i - n))
     where
       at-behind : n ≤ i → getD t i free ≡ getD (drop n t) (i - n) free
       at-behind h = let q : i ≡ n + (i - n) = omega arith in ap (λ (j : ℕ). getD t j free) q ∙ sym (getD-drop n t (i - n) free)

@@ -1,6 +1,6 @@
 -- Computed cases: tables that are widened and narrowed, and that are refused; a program that can't hold a label with four atoms and can
--- with eight; and one for which all that `widened-run` asks is met. Rests on Widening and ExampleTables, on the demands' First, Second and Cases, and on the meaning's
--- ProvedSet and Computing.
+-- with eight; and one for which all that `widened-run` asks is met. Rests on Widening and ExampleTables, on the demands' First, Second and
+-- Cases, and on the meaning's ProvedSet and Computing.
 use mathlib.Core.Path.{_≡_, refl}
 use mathlib.Core.List.{List, [], _∷_, _++_}
 use Prim.Native.Nat.{ℕ}
@@ -50,7 +50,8 @@ narrowed = refl
 -- Refused: five atoms do not fit; a root flag of 2; one slot to two, of nodes and of edges. The lowest number is answered, and the tables
 -- are as they were.
 
-pub five-atoms : narrow (lendingTables (node base 0 (5 ∷ fourAtoms)) [] (sevenNodes four 1) []) ≡ leaves LabelDoesNotFit (sevenNodes four 1) []
+pub five-atoms : narrow (lendingTables (node base 0 (5 ∷ fourAtoms)) [] (sevenNodes four 1) [])
+    ≡ leaves LabelDoesNotFit (sevenNodes four 1) []
 unfolding computing
 five-atoms = refl
 
@@ -121,7 +122,9 @@ x-to-y =
 x-runs : RunsAs four (ours four) (ours base) x (CarriedLent Exact four base x)
     (λ y c. CarriedRun Exact four base x y (ours four .run x) (ours base .run y))
 unfolding computing
-x-runs = widened-run (ours four) (ours base) (demand1 four) (demand2 four four-numbered) (demand1 base) (demand2 base base-numbered) x (lendable x refl) (omega arith)
+x-runs =
+    widened-run (ours four) (ours base) (demand1 four) (demand2 four four-numbered) (demand1 base) (demand2 base base-numbered) x
+    (lendable x refl) (omega arith)
 
 -- both have fuel 10
 pub same-red : CarriedRun Exact four base x y (ours four .run x) (ours base .run y)
