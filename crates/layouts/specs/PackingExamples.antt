@@ -58,26 +58,28 @@ unfolding computing
 unpacked = refl
 
 -- to more slots: the further ones are free
-pub packed-wider : pack (lendingTables wideNodes wideEdge (sevenNodes small 3) (sevenEdges small 3))
+pub packed-more : pack (lendingTables wideNodes wideEdge (sevenNodes small 3) (sevenEdges small 3))
     ≡ arriving (smallNodes ++ freeNodes small 1) (smallEdge ++ freeEdges small 2)
 unfolding computing
-packed-wider = refl
+packed-more = refl
 
-pub unpacked-wider : unpack (lendingTables smallNodes smallEdge (sevenNodes base 3) (sevenEdges base 2))
+pub unpacked-more : unpack (lendingTables smallNodes smallEdge (sevenNodes base 3) (sevenEdges base 2))
     ≡ arriving (wideNodes ++ freeNodes base 1) (wideEdge ++ freeEdges base 1)
 unfolding computing
-unpacked-wider = refl
+unpacked-more = refl
 
 -- to fewer: free slots behind are no hindrance
-pub packed-closer : pack (lendingTables (wideNodes ++ freeNodes base 2) (wideEdge ++ freeEdges base 1) (sevenNodes small 2) (sevenEdges small 1))
+pub packed-fewer : pack
+    (lendingTables (wideNodes ++ freeNodes base 2) (wideEdge ++ freeEdges base 1) (sevenNodes small 2) (sevenEdges small 1))
     ≡ arriving smallNodes smallEdge
 unfolding computing
-packed-closer = refl
+packed-fewer = refl
 
-pub unpacked-closer : unpack (lendingTables (smallNodes ++ freeNodes small 1) (smallEdge ++ freeEdges small 2) (sevenNodes base 2) (sevenEdges base 1))
+pub unpacked-fewer : unpack
+    (lendingTables (smallNodes ++ freeNodes small 1) (smallEdge ++ freeEdges small 2) (sevenNodes base 2) (sevenEdges base 1))
     ≡ arriving wideNodes wideEdge
 unfolding computing
-unpacked-closer = refl
+unpacked-fewer = refl
 
 -- Refused, with 29: what is live in a slot that is not there, and a label of two atoms.
 
@@ -148,7 +150,7 @@ pub wide-label : seen (ours base .run (lent base 8 doubles (unpackedNodes (node 
 unfolding computing
 wide-label = refl
 
--- a node comes to be two: answer 3 where there is one slot
+-- a node comes to be two, with a record of either: answer 3 where there is one slot
 abbrev grows : List ℕ
 grows = ruleField [] (nodeField 0 []) (nodeField 0 [] ++ nodeField 0 []) 1 ++ ruleSetField 0
 
@@ -160,6 +162,17 @@ pub wide-slots : seen (ours base .run (lent base 8 grows (unpackedNodes (node sm
     ≡ (0, node base 0 [] ++ node base 0 [], reportOf 1 2)
 unfolding computing
 wide-slots = refl
+
+-- and the other way round, where the unpacked tables have fewer slots: so as many are asked
+pub small-more : seen (ours small .run (lent small 8 grows (node small 0 [] ++ freeNodes small 1)))
+    ≡ (0, node small 0 [] ++ node small 0 [], reportOf 1 2)
+unfolding computing
+small-more = refl
+
+pub wide-fewer : seen (ours base .run (lent base 8 grows (unpackedNodes (node small 0 [] ++ freeNodes small 1) 1)))
+    ≡ (3, node base 0 [], reportOf 1 0)
+unfolding computing
+wide-fewer = refl
 
 -- a node is marked red: answer 5 where the journal holds no record
 pub small-records : seen (ours small .run (lent small 0 reddens (node small 0 []))) ≡ (5, node small 0 [], reportOf 1 0)
