@@ -1,5 +1,5 @@
 -- What is refused, check by check, and what a carrying that is not refused may rest on. Rests on specs/Tables and the laws' Carrying.
-use mathlib.Core.Path.{_≡_, refl, sym, _∙_, ap}
+use mathlib.Core.Path.{_≡_, refl, sym, _∙_}
 use mathlib.Core.Bool.{Bool, true, false}
 use mathlib.Core.Option.{some, none}
 use mathlib.Core.List.{List}

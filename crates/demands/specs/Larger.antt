@@ -40,6 +40,27 @@ pub record Larger (L M : Layout) (x y : Lent) : Type 0 where
   pub fuelFits : y .fuel ≤ mostFuel
   pub reportFits : length (y .report) ≡ 8
 
+-- y starts, where x does
+abbrev pub starts-there : (L M : Layout) (x y : Lent) → Larger L M x y → Good L x → Good M y
+starts-there L M x y more a =
+    record {
+      reportSize = more .reportFits;
+      nodesFit = more .nodesFit;
+      edgesFit = more .edgesFit;
+      journalFits = more .journalFits;
+      fuelFits = more .fuelFits;
+      imageFits = omega (arith, ap length (more .image), a .imageFits);
+      layout = more .layout;
+      raw = a .raw;
+      read = ap rawProgram (more .image) ∙ a .read;
+      references = a .references;
+      placement = a .placement;
+      depth = a .depth;
+      tree = a .tree;
+      whole = a .whole;
+      form = ap program (more .image) ∙ a .form;
+    }
+
 -- the end is for no want of room or fuel
 abbrev pub Settling : Layout → Layout → End → Type 0
 Settling L M e = EndsWithRoom (L .atoms) (M .atoms) e × (e ≡ Stopped OutOfFuel → ⊥)
@@ -53,25 +74,8 @@ module _ (L M : Layout) (k : Numbered L) (labels : L .atoms ≤ M .atoms) (x : L
     abbrev o : Out
     o = end L x p
 
-    abbrev pub good-y : Good M y
-    good-y =
-        record {
-          reportSize = more .reportFits;
-          nodesFit = more .nodesFit;
-          edgesFit = more .edgesFit;
-          journalFits = more .journalFits;
-          fuelFits = more .fuelFits;
-          imageFits = omega (arith, ap length (more .image), a .imageFits);
-          layout = more .layout;
-          raw = a .raw;
-          read = ap rawProgram (more .image) ∙ a .read;
-          references = a .references;
-          placement = a .placement;
-          depth = a .depth;
-          tree = p;
-          whole = a .whole;
-          form = ap program (more .image) ∙ a .form;
-        }
+    abbrev good-y : Good M y
+    good-y = starts-there L M x y more a
 
     abbrev room : ℕ
     room = length (x .journal) / recordLength L

@@ -9,8 +9,7 @@ use native.Mathlib.Omega.{arith}
 use lib.ListN.{length, replicate}
 use Rattle.meaning.specs.Basics.{concat, padded}
 use Rattle.meaning.specs.Layout.{Slot, Node, Edge, Host, Change, nodeLength, edgeLength, readNodes, readEdges, hostOf, writeNodes, writeEdges, writeRecord, keepsLayout}
-use Rattle.meaning.specs.Image.{rawProgram}
-use Rattle.meaning.specs.Procedures.{Program, program}
+use Rattle.meaning.specs.Procedures.{Program}
 use Rattle.meaning.specs.Commands.{State, Out, exec, beginning}
 use Rattle.meaning.specs.Calls.{Lent, journalRoom}
 use Rattle.laws.specs.Pieces.{fits-length, fits-whole}
@@ -24,7 +23,7 @@ use Rattle.demands.specs.Ours.{ours, end, ours-outcome, Good, good, good-starts
 use Rattle.demands.specs.First.{stop-answer, run-settled}
 use Rattle.demands.specs.Started.{rules-sound, last, last-legal, last-left, last-stated, last-entered}
 use Rattle.demands.specs.OneOutcome.{run-one}
-use Rattle.demands.specs.Larger.{Larger, Settling, enough-y, larger-left, larger-short}
+use Rattle.demands.specs.Larger.{Larger, starts-there, Settling, enough-y, larger-left, larger-short}
 use Rattle.demands.specs.Laws.Further.{roomier}
 use Rattle.demands.specs.Laws.Shortage.{fuelled}
 use Rattle.demands.specs.Laws.FurtherCommands.{roomierState, exec-roomier}
@@ -161,27 +160,6 @@ pub same-fuel : (L : Layout) (I J : Interpreter) (x : Lent) (Given : Lent → Ty
     → RunsAs L I J x Given Same → (y : Lent) (given : Given y) → y .fuel ≡ x .fuel → Same y given
 same-fuel L I J x Given Same r y given e = r .enough y given (omega (arith, r .within))
 
--- where x starts, y does
-abbrev started-there : (L M : Layout) (x y : Lent) → Larger L M x y → Good L x → Good M y
-started-there L M x y more a =
-    record {
-      reportSize = more .reportFits;
-      nodesFit = more .nodesFit;
-      edgesFit = more .edgesFit;
-      journalFits = more .journalFits;
-      fuelFits = more .fuelFits;
-      imageFits = omega (arith, ap length (more .image), a .imageFits);
-      layout = more .layout;
-      raw = a .raw;
-      read = ap rawProgram (more .image) ∙ a .read;
-      references = a .references;
-      placement = a .placement;
-      depth = a .depth;
-      tree = a .tree;
-      whole = a .whole;
-      form = ap program (more .image) ∙ a .form;
-    }
-
 -- Out of fuel.
 
 stop-out : (w : Stop) → stopAnswer w ≡ 2 → w ≡ OutOfFuel
@@ -213,7 +191,7 @@ module _ (L M : Layout) (kl : Numbered L) (labels : L .atoms ≤ M .atoms) (x : 
 
     out-there : ours M .run y .answer ≡ 2
     out-there =
-        let there = started-there L M x y more a in
+        let there = starts-there L M x y more a in
         ap (λ (o : Outcome). o .answer) (ours-outcome M y p (good-starts M y there) (there .form))
         ∙ ap (λ (e : End). outcomeAt M y e (end M y p .state) .answer) end-there
 
@@ -237,7 +215,7 @@ module _ (L M : Layout) (kl : Numbered L) (km : Numbered M) (labels : L .atoms �
 
     module _ (y : Lent) (more : Larger L M x y) where
       abbrev startedThere : Good M y
-      startedThere = started-there L M x y more started
+      startedThere = starts-there L M x y more started
 
       same : o .state .steps ≤ y .fuel → SameRun L M x y more (ours L .run x) (ours M .run y)
       same l =
