@@ -6,7 +6,8 @@ ghost use Rattle.run_input.specs.Reading.{Inside, inputIn};
 ghost use Rattle.run_input.specs.declared.Read.{Read};
 ghost use Rattle.listing.specs.Listing.{runOutcome, listed, listing};
 ghost use Rattle.lines.specs.Rooms.{listingRoom};
-ghost use Rattle.listing.specs.Rooms.{fullJournal, Zeros};
+ghost use Rattle.listing.specs.Rooms.{fullJournal, Zeros, Listable};
+use meaning::Core;
 use meaning::JournalTable;
 use meaning::Layout;
 use run_input::Ends;
@@ -26,6 +27,7 @@ impl Room {
 
 // Runs a program on tables that are lent, and lists the outcome.
 fn list_run(
+    l: Layout,
     nodes: &mut [u8],
     edges: &mut [u8],
     journal: &mut [u8],
@@ -33,15 +35,25 @@ fn list_run(
     fuel: u32,
     out: &mut [u8],
 ) -> usize
+    requires { ⌜ Listable l ⌝ }
     requires { ⌜ listingRoom ≤ length (now out) ⌝ }
-    ensures { λ r. ⌜ Lists (runOutcome (now (nodes .entry)) (now (edges .entry)) (now (journal .entry)) (now (program .entry)) fuel) (now (out .entry)) (now (out .exit)) r ⌝ }
+    ensures { λ r. ⌜ Lists (runOutcome l (now (nodes .entry)) (now (edges .entry)) (now (journal .entry)) (now (program .entry)) fuel) (now (out .entry)) (now (out .exit)) r ⌝ }
 {
     let mut report = [0u8; Room::REPORT];
-    let answer = interpreter::nhiemavut_run(nodes, edges, journal, program, fuel, &mut report);
-    lines::put_outcome(Layout::base(), &nodes[..], &edges[..], answer, &report, out)
+    let answer = interpreter::running::run_call(
+        l,
+        nodes,
+        edges,
+        journal,
+        program,
+        fuel,
+        &mut report,
+    );
+    let number = answers::answer_number(answer);
+    lines::put_outcome(l, &nodes[..], &edges[..], number, &report, out)
 }
 
-// The most records that a journal has, all zero.
+// The longest journal, all zero.
 fn empty_journal() -> [u8; Room::JOURNAL]
     ensures { λ r. ⌜ Zeros fullJournal r ⌝ }
 {
@@ -49,20 +61,22 @@ fn empty_journal() -> [u8; Room::JOURNAL]
 }
 
 // Copies the parts of an input to where they can be changed, and lists the run.
-fn list_parts(image: &[u8], e: Ends, out: &mut [u8]) -> usize
+fn list_parts(l: Layout, image: &[u8], e: Ends, out: &mut [u8]) -> usize
+    requires { ⌜ Listable l ⌝ }
     requires { ⌜ listingRoom ≤ length (now out) ⌝ }
     requires { ⌜ Inside (now image) e ⌝ }
-    ensures { λ r. ⌜ Lists (listed (inputIn (now (image .entry)) (Read.Accepted e))) (now (out .entry)) (now (out .exit)) r ⌝ }
+    ensures { λ r. ⌜ Lists (listed l (inputIn (now (image .entry)) (Read.Accepted e))) (now (out .entry)) (now (out .exit)) r ⌝ }
 {
     let mut nodes = io::large_buffer();
     let mut edges = io::large_buffer();
     let mut journal = empty_journal();
     let n = put(&mut nodes, 0, run_input::nodes_of(image, e));
     let m = put(&mut edges, 0, run_input::edges_of(image, e));
-    let j = JournalTable::SLOT * run_input::records_of(image, e);
+    let j = l.change * run_input::records_of(image, e);
     let fuel = run_input::fuel_of(image, e);
     let program = run_input::program_of(image, e);
     list_run(
+        l,
         &mut nodes[..n],
         &mut edges[..m],
         &mut journal[..j],
@@ -79,14 +93,14 @@ pub fn buffer() -> [u8; Room::LISTING]
     [0; Room::LISTING]
 }
 
-// Lists the run of a run image in a buffer, and says how long the listing is. The buffer has room for every listing.
-pub fn list_image(image: &[u8], out: &mut [u8]) -> usize
+// Lists the run of a core's run image in a buffer, and says how long the listing is. The buffer has room for every listing.
+pub fn list_image(core: Core, image: &[u8], out: &mut [u8]) -> usize
     requires { ⌜ listingRoom ≤ length (now out) ⌝ }
-    ensures { λ r. ⌜ Lists (listing (now (image .entry))) (now (out .entry)) (now (out .exit)) r ⌝ }
+    ensures { λ r. ⌜ Lists (listing core (now (image .entry))) (now (out .entry)) (now (out .exit)) r ⌝ }
 {
     let input = run_input::read_input(image);
     match input {
-        Read::Accepted(ends) => list_parts(image, ends, out),
+        Read::Accepted(ends) => list_parts(Layout::of(core), image, ends, out),
         Read::Refused => put(out, 0, b"input refused\n"),
     }
 }
