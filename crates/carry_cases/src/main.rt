@@ -1,33 +1,32 @@
 // Carries each of the stored cases on standard input and writes what the call leaves, a line a case: the number, then the nodes and
-// the edges that were carried to in hexadecimal digits. A case holds a byte, 0 to widen or 1 to narrow, then nodes and edges, and
-// the nodes and edges to carry to.
+// the edges that were carried to in hexadecimal digits. A case holds a byte for its call, then nodes and edges, and the nodes and edges
+// to carry to.
 
-// Which call a case asks for.
+// The byte of each call; 0 is to widen.
 pub struct Way {}
 
 impl Way {
     pub const NARROW: u8 = 1;
+
+    pub const PACK: u8 = 2;
+
+    pub const UNPACK: u8 = 3;
 }
 
-fn is_narrow(way: &[u8]) -> bool {
-    if way.len() == 1 {
-        return way[0] == Way::NARROW;
+// The call of a byte.
+fn call(way: u8, nodes: &[u8], edges: &[u8], to_nodes: &mut [u8], to_edges: &mut [u8]) -> u32 {
+    match way {
+        Way::NARROW => interpreter::nhiemavut_narrow(nodes, edges, to_nodes, to_edges),
+        Way::PACK => interpreter::nhiemavut_pack(nodes, edges, to_nodes, to_edges),
+        Way::UNPACK => interpreter::nhiemavut_unpack(nodes, edges, to_nodes, to_edges),
+        _ => interpreter::nhiemavut_widen(nodes, edges, to_nodes, to_edges),
     }
-    false
-}
-
-// The call that a case asks for.
-fn call(narrow: bool, nodes: &[u8], edges: &[u8], to_nodes: &mut [u8], to_edges: &mut [u8]) -> u32 {
-    if narrow {
-        return interpreter::nhiemavut_narrow(nodes, edges, to_nodes, to_edges);
-    }
-    interpreter::nhiemavut_widen(nodes, edges, to_nodes, to_edges)
 }
 
 // Carries a case to tables that are lent, and writes what is left in them.
 fn carry_lent(case: &[u8], to_nodes: &mut [u8], to_edges: &mut [u8]) {
     let number = call(
-        is_narrow(cases::part(case, 0)),
+        parts::byte_at(cases::part(case, 0), 0),
         cases::part(case, 1),
         cases::part(case, 2),
         to_nodes,

@@ -1,14 +1,24 @@
-// Reads the images of a corpus on standard input, each behind the head of a field (the tag 0x06 and two bytes of length), and
-// prints their listings one behind the other. One image is read at a time, so that a corpus may be of any length.
+// Reads the images of a corpus on standard input, each behind the head of a field (a tag that names its core, and two bytes of
+// length), and prints their listings one behind the other. One image is read at a time, so that a corpus may be of any length.
+use meaning::Core;
 
-// Lists the next image, of n bytes, and says whether it is there.
-fn list_image(n: usize) -> bool {
+// The tags of the images of each core.
+pub struct Tag {}
+
+impl Tag {
+    pub const WIDE: u8 = 0x06;
+
+    pub const SMALL: u8 = 0x08;
+}
+
+// Lists the next image, of a core and of n bytes, and says whether it is there.
+fn list_image(core: Core, n: usize) -> bool {
     let mut image = io::large_buffer();
     let mut out = listing::buffer();
     if n <= image.len() {
         let got = io::read_full(0, &mut image[..n]);
         if got == n {
-            let end = listing::list_image(&image[..n], &mut out);
+            let end = listing::list_image(core, &image[..n], &mut out);
             return io::write_all(1, &out[..end]);
         }
     }
@@ -20,8 +30,12 @@ fn list_next() -> bool {
     let mut head = [0u8; 3];
     let got = io::read_full(0, &mut head);
     if got == 3 {
-        if head[0] == 0x06 {
-            return list_image(fields::number2(&head, 1));
+        let n = fields::number2(&head, 1);
+        if head[0] == Tag::WIDE {
+            return list_image(Core::Wide, n);
+        }
+        if head[0] == Tag::SMALL {
+            return list_image(Core::Small, n);
         }
     }
     false
