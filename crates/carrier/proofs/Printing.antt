@@ -10,6 +10,7 @@ use Rattle.meaning.specs.Numbers.{bytes}
 use Rattle.meaning.specs.Carrying.{Carried, Carries, lendingTables, carry}
 use Rattle.meaning.specs.ProvedSet.{fieldBytes}
 use Rattle.meaning.specs.declared.Layout.{Layout}
+use Rattle.meaning.specs.declared.Manner.the-variants.{Exact}
 use Rattle.meaning.specs.Laws.Tests.{choose-eq, choose-ne}
 use Rattle.laws.specs.Numbers.{length-bytes}
 use Rattle.run_input.specs.Input.{nodesTag, edgesTag, mostInput}
@@ -74,7 +75,7 @@ module _ (c : Carried) (number answer : ℕ) (nodes edges : List ℕ) {before af
 -- the tables of zeros have the lengths that the definition says
 pub tables-carried : (L M : Layout) (nodes edges n m : List ℕ) {before after : List ℕ} {end : ℕ} → Between L M
     → length n ≡ lengthFor (L .node) nodes (M .node) (M .nodes) → length m ≡ lengthFor (L .edge) edges (M .edge) (M .edges)
-    → Lists (carriedText (carry L M (lendingTables nodes edges (replicate (length n) 0) (replicate (length m) 0)))) before after end
+    → Lists (carriedText (carry Exact L M (lendingTables nodes edges (replicate (length n) 0) (replicate (length m) 0)))) before after end
     → Lists (carriedText (carriedTables L M nodes edges)) before after end
 unfolding carriedTables
 tables-carried L M nodes edges n m b i j l =

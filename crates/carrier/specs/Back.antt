@@ -1,5 +1,5 @@
 -- What is printed of tables that are carried is read as the carried tables; carried back, it is the fields of the tables that were read.
--- Rests on Carried, Rooms, Laws and widening's Carried.
+-- Rests on Carried, Rooms, Laws, laws' Carrying and layouts' Carried.
 use mathlib.Core.Path.{_≡_, sym, _∙_, ap}
 use mathlib.Core.Option.{some}
 use mathlib.Core.List.{List}
@@ -12,10 +12,11 @@ use Rattle.meaning.specs.Layout.{base, four, nodeLength, edgeLength}
 use Rattle.meaning.specs.Calls.{answerNumber}
 use Rattle.meaning.specs.Carrying.{LentTables, Carried, lendingTables}
 use Rattle.meaning.specs.declared.Layout.{Layout}
+use Rattle.meaning.specs.declared.Manner.the-variants.{Exact}
 use Rattle.meaning.specs.declared.Answer.the-variants.{Result}
 use Rattle.laws.specs.Numbers.{Bytes}
 use Rattle.laws.specs.Pieces.{fits-length, fits-whole}
-use Rattle.laws.specs.Carrying.{AsManySlots, Taken, taken}
+use Rattle.laws.specs.Carrying.{counts-same, LengthsAgree, Taken, taken}
 use Rattle.laws.specs.Undoing.{base-numbered, four-numbered}
 use Rattle.layouts.specs.Carried.{arriving, result-taken, Kept, carry-kept, carry-back}
 use Rattle.carrier.specs.Carried.{tablesIn, tableFields, lengthFor, carriedText, carriedTables, printed, carriedInput}
@@ -28,10 +29,10 @@ length-least : (n most v size : ℕ) (there : List ℕ) → length there ≡ len
 length-least n most v size there e s = rw (e, length-replicate {A = ℕ} (min n most * v) 0, s) (mul-le-mul-right v (min-le-right n most))
 
 -- a table that came back is as long as the one that was carried
-length-back : (w most : ℕ) (table : List ℕ) (v most′ : ℕ) (to there : List ℕ) → AsManySlots w most table v most′ to → length there ≡ length to
+length-back : (w most : ℕ) (table : List ℕ) (v most′ : ℕ) (to there : List ℕ) → LengthsAgree Exact w most table v most′ to → length there ≡ length to
     → lengthFor v there w most ≡ length table
 length-back w most table v most′ to there s e =
-    let n : length there / v ≡ length table / w = ap (λ (k : ℕ). k / v) e ∙ sym (s .slots) in
+    let n : length there / v ≡ length table / w = ap (λ (k : ℕ). k / v) e ∙ sym (counts-same _ _ (s .counts)) in
     let few : min (length table / w) most ≡ length table / w = omega (arith, fits-length w most table (s .from) .1) in
     rw (n, few) (fits-whole w most table (s .from))
 
@@ -46,13 +47,13 @@ module _ (L M : Layout) (b : Between L M) (numbered : M .nodes ≤ 256 ^ M .widt
     abbrev there : Carried
     there = carriedTables L M nodes edges
 
-    kept : Kept L M lent there
+    kept : Kept Exact L M lent there
     unfolding carriedTables
-    kept = carry-kept L M numbered lent hn he r
+    kept = carry-kept Exact L M numbered lent hn he r
 
-    its : Taken L M lent
+    its : Taken Exact L M lent
     unfolding carriedTables
-    its = taken L M lent (result-taken L M lent r)
+    its = taken Exact L M lent (result-taken Exact L M lent r)
 
     room : InputOf (length (there .nodes)) (length (there .edges))
     room =
@@ -63,7 +64,7 @@ module _ (L M : Layout) (b : Between L M) (numbered : M .nodes ≤ 256 ^ M .widt
     back : carriedTables M L (there .nodes) (there .edges) ≡ arriving nodes edges
     unfolding carriedTables
     back =
-        carry-back L M numbered lent hn he r _ _
+        carry-back Exact L M numbered lent hn he r _ _
         (length-replicate _ 0 ∙ length-back _ _ nodes _ _ (lent .toNodes) (there .nodes) (its .nodes) (kept .nodesLength))
         (length-replicate _ 0 ∙ length-back _ _ edges _ _ (lent .toEdges) (there .edges) (its .edges) (kept .edgesLength))
 

@@ -1,6 +1,6 @@
--- An input of two tables carried to another layout: from the bytes that are read to the bytes that are printed. Rests on the
--- meaning's Basics, Layout, Image, Calls and Carrying, and ProvedSet for a field's bytes; on run_input's Input; on writing's Words
--- and Lines.
+-- An input of two tables carried to as many slots of another layout: from the bytes that are read to the bytes that are printed. Rests
+-- on the meaning's Basics, Layout, Image, Calls and Carrying, and ProvedSet for a field's bytes; on run_input's Input; on writing's
+-- Words and Lines.
 use mathlib.Core.List.{List, [], _∷_, _++_}
 use mathlib.Core.Option.{Option, some, none}
 use Prim.Native.Nat.{ℕ, _*_, _/_, min}
@@ -13,6 +13,7 @@ use Rattle.meaning.specs.Calls.{answerNumber}
 use Rattle.meaning.specs.Carrying.{Carried, lendingTables, carry}
 use Rattle.meaning.specs.ProvedSet.{fieldBytes}
 use Rattle.meaning.specs.declared.Layout.{Layout}
+use Rattle.meaning.specs.declared.Manner.the-variants.{Exact}
 use Rattle.run_input.specs.Input.{nodesTag, edgesTag, mostInput}
 use Rattle.writing.specs.Words.{letters, decimal}
 use Rattle.writing.specs.Lines.{line}
@@ -47,7 +48,7 @@ module _ (L M : Layout) where
   -- the tables are carried to tables of zeros
   unfoldable pub carriedTables : List ℕ → List ℕ → Carried
   carriedTables nodes edges =
-      carry L M
+      carry Exact L M
       (lendingTables nodes edges (replicate (lengthFor (nodeLength L) nodes (nodeLength M) (M .nodes)) 0)
       (replicate (lengthFor (edgeLength L) edges (edgeLength M) (M .edges)) 0))
 

@@ -1,5 +1,5 @@
-// An input of two tables carried to another layout, from the bytes that are read to those that are printed, in a lent buffer. The
-// definitions that the contracts cite are in specs/.
+// An input of two tables carried to as many slots of another layout, from the bytes that are read to those that are printed, in a lent
+// buffer. The definitions that the contracts cite are in specs/.
 ghost use mathlib.Core.Path.{_≡_};
 ghost use mathlib.Core.List.{[], _∷_};
 ghost use Prim.Native.Nat.{_+_, _*_, _<_, _≤_};
@@ -7,6 +7,7 @@ ghost use lib.ListN.{length, replicate};
 ghost use Rattle.meaning.specs.Layout.{base, four};
 ghost use Rattle.meaning.specs.Carrying.{lendingTables, carry};
 ghost use Rattle.meaning.specs.ProvedSet.{fieldBytes};
+ghost use Rattle.meaning.specs.declared.Manner.{Manner};
 ghost use Rattle.run_input.specs.Input.{mostInput};
 ghost use Rattle.writing.specs.Words.{letters, decimal};
 ghost use Rattle.writing.specs.Lines.{line};
@@ -14,6 +15,7 @@ ghost use Rattle.writing.specs.Text.{Adds, Lists};
 ghost use Rattle.carrier.specs.Carried.{tableFields, lengthFor, carriedText, carriedTables, carriedInput};
 ghost use Rattle.carrier.specs.Rooms.{fieldSize, InputOf, Between};
 use meaning::Layout;
+use meaning::Manner;
 use run_input::Place;
 use run_input::RunImage;
 use writing::put;
@@ -88,11 +90,11 @@ fn carry_to(
     requires { ⌜ Between from to ⌝ }
     requires { ⌜ mostInput ≤ length (now out) ⌝ }
     requires { ⌜ InputOf (length (now «to_nodes»)) (length (now «to_edges»)) ⌝ }
-    ensures { λ r. ⌜ Lists (carriedText (carry from to (lendingTables (now (nodes .entry)) (now (edges .entry)) (replicate (length (now («to_nodes» .entry))) 0) (replicate (length (now («to_edges» .entry))) 0)))) (now (out .entry)) (now (out .exit)) r ⌝ }
+    ensures { λ r. ⌜ Lists (carriedText (carry Manner.Exact from to (lendingTables (now (nodes .entry)) (now (edges .entry)) (replicate (length (now («to_nodes» .entry))) 0) (replicate (length (now («to_edges» .entry))) 0)))) (now (out .entry)) (now (out .exit)) r ⌝ }
 {
     slots::bytes::clear(to_nodes);
     slots::bytes::clear(to_edges);
-    let answer = carrying::carry_tables(from, to, nodes, edges, to_nodes, to_edges);
+    let answer = carrying::carry_tables(Manner::Exact, from, to, nodes, edges, to_nodes, to_edges);
     let number = answers::answer_number(answer) as usize;
     if number == 0 {
         return put_tables(&to_nodes[..], &to_edges[..], out);
