@@ -1,8 +1,8 @@
 // Carries each of the stored cases on standard input and writes what the call leaves, a line a case: the number, then the nodes and
-// the edges that were carried to in hexadecimal digits. A case holds a byte for its call, then nodes and edges, and the nodes and edges
-// to carry to.
+// the edges that were carried to in hexadecimal digits. A case holds a byte, 0 to widen, 1 to narrow, 2 to pack or 3 to unpack, then
+// nodes and edges, and the nodes and edges to carry to.
 
-// The byte of each call; 0 is to widen.
+// The byte of each call. Any other is to widen.
 pub struct Way {}
 
 impl Way {
