@@ -20,3 +20,4 @@ pub const PLACEMENT: u32 = 18;
 pub const DEPTH: u32 = 19;
 pub const UNDO: u32 = 20;
 pub const CARRIED_LABEL: u32 = 26;
+pub const UNFIT_HOST: u32 = 29;

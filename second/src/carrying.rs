@@ -1,5 +1,5 @@
-//! Carrying a host from two tables to two tables of another layout, slot numbers kept: the calls widen and narrow on byte
-//! vectors, and what the programs of their names write.
+//! Carrying a host from two tables to two tables of another layout, slot numbers kept: the calls widen, narrow, pack and unpack
+//! on byte vectors, and what the programs widen and narrow write.
 
 use crate::answer;
 use crate::encode;
@@ -14,15 +14,35 @@ pub enum Way {
     Widen,
     /// From eight atoms to four.
     Narrow,
+    /// From the wide core's tables to the small one's.
+    Pack,
+    /// From the small core's tables to the wide one's.
+    Unpack,
+}
+
+/// What is asked of the slot counts, and what refuses a host that the tables carried to can't hold.
+#[derive(Clone, Copy, Debug, PartialEq, Eq)]
+enum Manner {
+    /// As many slots on both sides; a label that is too long is refused by 26.
+    Exact,
+    /// Any counts; a live slot of a number that isn't there is refused by 29, and so is a label that is too long.
+    Packing,
 }
 
 impl Way {
-    pub const BOTH: [Way; 2] = [Way::Widen, Way::Narrow];
+    pub const ALL: [Way; 4] = [Way::Widen, Way::Narrow, Way::Pack, Way::Unpack];
+
+    /// The ways of old tables.
+    pub const OLD: [Way; 2] = [Way::Widen, Way::Narrow];
+
+    /// The ways between the cores.
+    pub const PACKING: [Way; 2] = [Way::Pack, Way::Unpack];
 
     pub const fn from(self) -> &'static Layout {
         match self {
             Way::Widen => &Layout::FOUR,
-            Way::Narrow => &Layout::BASE,
+            Way::Narrow | Way::Pack => &Layout::BASE,
+            Way::Unpack => &Layout::SMALL,
         }
     }
 
@@ -34,6 +54,15 @@ impl Way {
         match self {
             Way::Widen => Way::Narrow,
             Way::Narrow => Way::Widen,
+            Way::Pack => Way::Unpack,
+            Way::Unpack => Way::Pack,
+        }
+    }
+
+    const fn manner(self) -> Manner {
+        match self {
+            Way::Widen | Way::Narrow => Manner::Exact,
+            Way::Pack | Way::Unpack => Manner::Packing,
         }
     }
 }
@@ -56,19 +85,19 @@ pub struct Carried {
 }
 
 impl CarryCall {
-    /// What the call widen or narrow gives.
+    /// What the call of this way gives.
     pub fn outcome(&self, way: Way) -> Carried {
-        self.outcome_between(way.from(), way.to())
-    }
-
-    /// What a carrying between two layouts gives.
-    pub fn outcome_between(&self, from: &Layout, to: &Layout) -> Carried {
-        match self.checked(from, to) {
-            Ok(host) => Carried {
-                answer: answer::RESULT,
-                nodes: host.node_table(to),
-                edges: host.edge_table(to),
-            },
+        let to = way.to();
+        match self.checked(way) {
+            Ok(mut host) => {
+                host.nodes.resize(self.to_nodes.len() / to.node_length(), None);
+                host.edges.resize(self.to_edges.len() / to.edge_length(), None);
+                Carried {
+                    answer: answer::RESULT,
+                    nodes: host.node_table(to),
+                    edges: host.edge_table(to),
+                }
+            }
             Err(answer) => Carried {
                 answer,
                 nodes: self.to_nodes.clone(),
@@ -77,20 +106,41 @@ impl CarryCall {
         }
     }
 
-    /// The checks 10, 11, 15 and 26 in their order: the host, or the lowest number that applies.
-    fn checked(&self, from: &Layout, to: &Layout) -> Result<Host, u32> {
+    /// The checks 10, 11, 15, and 26 or 29 in their order: the host, or the lowest number that applies.
+    fn checked(&self, way: Way) -> Result<Host, u32> {
+        let (from, to) = (way.from(), way.to());
         let lengths = from.is_node_table(self.nodes.len()) && to.is_node_table(self.to_nodes.len());
-        if !lengths || self.nodes.len() / from.node_length() != self.to_nodes.len() / to.node_length() {
+        let node_slots = (self.nodes.len() / from.node_length(), self.to_nodes.len() / to.node_length());
+        if !lengths || !way.manner().takes(node_slots) {
             return Err(answer::NODE_TABLE);
         }
         let lengths = from.is_edge_table(self.edges.len()) && to.is_edge_table(self.to_edges.len());
-        if !lengths || self.edges.len() / from.edge_length() != self.to_edges.len() / to.edge_length() {
+        let edge_slots = (self.edges.len() / from.edge_length(), self.to_edges.len() / to.edge_length());
+        if !lengths || !way.manner().takes(edge_slots) {
             return Err(answer::EDGE_TABLE);
         }
         let host = Host::read(from, &self.nodes, &self.edges).map_err(|_| answer::LAYOUT)?;
-        match labels_fit(&host, to) {
+        match labels_fit(&host, to) && slots_fit(&host, node_slots.1, edge_slots.1) {
             true => Ok(host),
-            false => Err(answer::CARRIED_LABEL),
+            false => Err(way.manner().unfit()),
+        }
+    }
+}
+
+impl Manner {
+    /// Whether a table of the first number of slots is carried to one of the second.
+    fn takes(self, (from, to): (usize, usize)) -> bool {
+        match self {
+            Manner::Exact => from == to,
+            Manner::Packing => true,
+        }
+    }
+
+    /// The number that refuses a host which doesn't fit.
+    const fn unfit(self) -> u32 {
+        match self {
+            Manner::Exact => answer::CARRIED_LABEL,
+            Manner::Packing => answer::UNFIT_HOST,
         }
     }
 }
@@ -100,6 +150,12 @@ fn labels_fit(host: &Host, layout: &Layout) -> bool {
     let fits = |label: &Label| layout.holds(label.atoms().len());
     let nodes = host.live_nodes().all(|(_, node)| fits(&node.label));
     nodes && host.live_edges().all(|(_, edge)| fits(&edge.label))
+}
+
+/// Whether each live slot has a number in tables of so many slots.
+fn slots_fit(host: &Host, nodes: usize, edges: usize) -> bool {
+    let live_nodes = host.live_nodes().all(|(slot, _)| slot < nodes);
+    live_nodes && host.live_edges().all(|(slot, _)| slot < edges)
 }
 
 /// The tables carried to tables of as many slots, or the number that refuses it.
@@ -129,7 +185,7 @@ pub fn output(way: Way, bytes: &[u8]) -> Vec<u8> {
     }
 }
 
-/// Both tables of an input of widen or narrow, or nothing where it isn't their two fields.
+/// Both tables of such an input, or nothing where it isn't their two fields.
 fn read_tables(bytes: &[u8]) -> Option<(&[u8], &[u8])> {
     let (nodes, rest) = field(0x01, bytes)?;
     let (edges, rest) = field(0x02, rest)?;

@@ -53,6 +53,9 @@ pub struct Exercised {
     /// Left labels in matches by their elements, and values of list variables by their atoms, both from `FIRST_LONG` on.
     pub left_elements: [u64; LONG],
     pub list_atoms: [u64; LONG],
+    /// Values of variables of either type, and right labels that were evaluated, by their atoms where these are fewer than `FIRST_LONG`.
+    pub short_values: [u64; FIRST_LONG],
+    pub short_label_atoms: [u64; FIRST_LONG],
     /// Right labels that were evaluated by their elements from `FIRST_LONG` on, and by their atoms from there to one too many.
     pub right_elements: [u64; LONG],
     pub label_atoms: [u64; LONG + 1],
@@ -94,10 +97,14 @@ impl Observer for Exercised {
             Event::Matched(rule, on_roots) => self.matched(rule, on_roots),
             Event::Bound(values) => {
                 let bound = values.iter().flatten();
-                bound.for_each(|value| count_long(&mut self.list_atoms, value.len()));
+                bound.for_each(|value| {
+                    count_short(&mut self.short_values, value.len());
+                    count_long(&mut self.list_atoms, value.len());
+                });
             }
             Event::LabelMade { elements, atoms } => {
                 count_long(&mut self.right_elements, elements);
+                count_short(&mut self.short_label_atoms, atoms);
                 count_long(&mut self.label_atoms, atoms);
             }
             Event::Evaluated(rule, element) => {
@@ -185,6 +192,13 @@ impl Exercised {
             self.unrooted_on_roots += 1;
             self.unrooted_roots_deleted += u64::from(number >= usize::from(rule.interface));
         }
+    }
+}
+
+/// Adds 1 to the count of this length, where it is a short one.
+fn count_short(counts: &mut [u64; FIRST_LONG], length: usize) {
+    if let Some(count) = counts.get_mut(length) {
+        *count += 1;
     }
 }
 
@@ -324,6 +338,8 @@ mod tests {
         assert_eq!(exercised.list_atoms, [0, 1, 1, 0]);
         assert_eq!(exercised.right_elements, [1, 0, 0, 1]);
         assert_eq!(exercised.label_atoms, [0, 0, 0, 1, 1]);
+        assert_eq!(exercised.short_values, [0, 0, 0, 0, 1]);
+        assert_eq!(exercised.short_label_atoms, [0, 0, 0, 0, 1]);
     }
 
     #[test]

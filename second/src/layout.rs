@@ -1,6 +1,6 @@
 //! The layout of the tables and the journal as a value: the most slots of each, the atoms of a label, the width of a
 //! slot number, and from these the length of a slot and the place of each byte in it. It is handed to whoever reads or
-//! writes bytes, so runs of different layouts stand side by side.
+//! writes bytes, so runs of different layouts stand side by side. A core makes the calls run and undo at its layout.
 
 use std::ops::Range;
 
@@ -36,7 +36,7 @@ pub struct Layout {
 }
 
 impl Layout {
-    /// The layout of the calls.
+    /// The layout of the wide core.
     pub const BASE: Layout = Layout {
         atoms: 8,
         width: 2,
@@ -51,9 +51,49 @@ impl Layout {
         ..Layout::BASE
     };
 
+    /// The layout of the small core.
+    pub const SMALL: Layout = Layout {
+        atoms: 1,
+        width: 1,
+        most_nodes: 128,
+        most_edges: 255,
+        most_records: 255,
+    };
+
     /// Whether a label can have so many atoms.
     pub const fn holds(&self, atoms: usize) -> bool {
         atoms <= self.atoms
+    }
+}
+
+/// A core of the interpreter.
+#[derive(Clone, Copy, Debug, Default, PartialEq, Eq)]
+pub enum Core {
+    #[default]
+    Wide,
+    Small,
+}
+
+impl Core {
+    pub const BOTH: [Core; 2] = [Core::Wide, Core::Small];
+
+    pub const fn layout(self) -> &'static Layout {
+        match self {
+            Core::Wide => &Layout::BASE,
+            Core::Small => &Layout::SMALL,
+        }
+    }
+
+    pub const fn name(self) -> &'static str {
+        match self {
+            Core::Wide => "wide",
+            Core::Small => "small",
+        }
+    }
+
+    /// The core of that name.
+    pub fn named(name: &str) -> Option<Core> {
+        Core::BOTH.into_iter().find(|core| core.name() == name)
     }
 }
 

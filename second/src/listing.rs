@@ -1,5 +1,4 @@
-//! The runner program's reading of its input and its listing of the outcome. The runner itself works at the base
-//! layout; each step takes any.
+//! The reading of a runner program's input and its listing of the outcome. The reading knows no layout; what follows takes any.
 
 use crate::answer;
 use crate::calls::{Outcome, RunCall, REPORT_BYTES};
@@ -12,17 +11,19 @@ use crate::tree::mark;
 /// The longest input that the runner reads.
 pub const INPUT_BYTES: usize = 65_536;
 
-/// What the runner program prints for these bytes on its standard input.
+/// The most journal records that an input asks for, at any layout.
+pub const INPUT_RECORDS: u16 = 1024;
+
+/// What the runner program of the base layout prints for these bytes on its standard input.
 pub fn listing(bytes: &[u8]) -> String {
     listing_at(&Layout::BASE, bytes)
 }
 
 /// The same for a runner of another layout.
 pub fn listing_at(layout: &Layout, bytes: &[u8]) -> String {
-    match read_input_at(layout, bytes) {
+    match read_input(bytes) {
         Some(input) => {
-            let outcome = call_of(layout, &input).outcome_at(layout, &mut Unobserved);
-            listing_of(layout, &outcome)
+            listing_of(layout, &run_input_at(layout, &input))
         }
         None => "input refused\n".to_string(),
     }
@@ -30,11 +31,6 @@ pub fn listing_at(layout: &Layout, bytes: &[u8]) -> String {
 
 /// The input in its five fields, or nothing where it is refused.
 pub fn read_input(bytes: &[u8]) -> Option<RunnerInput> {
-    read_input_at(&Layout::BASE, bytes)
-}
-
-/// The same for a runner of another layout.
-pub fn read_input_at(layout: &Layout, bytes: &[u8]) -> Option<RunnerInput> {
     if bytes.len() > INPUT_BYTES {
         return None;
     }
@@ -45,7 +41,7 @@ pub fn read_input_at(layout: &Layout, bytes: &[u8]) -> Option<RunnerInput> {
     let (program, rest) = field(0x05, rest)?;
     let records = u16::from_be_bytes(records.try_into().ok()?);
     let fuel = u32::from_be_bytes(fuel.try_into().ok()?);
-    if usize::from(records) > layout.most_records || !rest.is_empty() {
+    if records > INPUT_RECORDS || !rest.is_empty() {
         return None;
     }
     Some(RunnerInput {
@@ -81,7 +77,12 @@ pub fn call_of(layout: &Layout, input: &RunnerInput) -> RunCall {
 
 /// What the call run gives for a runner input at the base layout.
 pub fn run_input(input: &RunnerInput) -> Outcome {
-    call_of(&Layout::BASE, input).outcome()
+    run_input_at(&Layout::BASE, input)
+}
+
+/// What the call run gives for a runner input at a layout.
+pub fn run_input_at(layout: &Layout, input: &RunnerInput) -> Outcome {
+    call_of(layout, input).outcome_at(layout, &mut Unobserved)
 }
 
 /// The listing of an outcome whose report has 8 bytes.

@@ -1,5 +1,6 @@
 //! Inputs that are refused, one for each clause of document 01 that can refuse: each stands beside an
-//! accepted input from which it differs in that clause alone. The numbers come from the table of answers.
+//! accepted input from which it differs in that clause alone. The numbers come from the table of answers. Calls of run and undo
+//! are made for a layout.
 
 mod carrying;
 mod depth;
@@ -10,6 +11,7 @@ mod form_of_mode;
 mod form_of_procedures;
 mod form_of_tests;
 mod full_images;
+mod packing;
 mod placement;
 mod programs;
 mod references;
@@ -21,23 +23,20 @@ mod undo;
 use crate::calls;
 use crate::encode::{self, RunnerInput};
 use crate::layout::{place, Layout};
-use crate::listing::INPUT_BYTES;
+use crate::listing::{INPUT_BYTES, INPUT_RECORDS};
 use crate::tree::{self, mark, Command, Program};
 
 pub use crate::calls::{RunCall, UndoCall};
-pub use carrying::{carrying_refused_for, of_carrying, Carrying};
+pub use carrying::{carrying_refused_for, numbers_of, of_carrying, Carrying};
 pub use runner::of_runner;
 pub use undo::{of_undo, undo_refused_for};
 
-/// The layout of the buffers.
-const LAYOUT: &Layout = &Layout::BASE;
-
 impl RunCall {
-    /// The runner input that leads to this call, where one does: the runner's report has 8 bytes, its
+    /// The runner input that leads to this call at a layout, where one does: the runner's report has 8 bytes, its
     /// journal is as many records as it was told, and its fields are short enough for an input.
-    pub fn runner_input(&self) -> Option<RunnerInput> {
-        let records = self.journal.len() / LAYOUT.record_length();
-        let whole = LAYOUT.is_journal(self.journal.len());
+    pub fn runner_input(&self, layout: &Layout) -> Option<RunnerInput> {
+        let records = self.journal.len() / layout.record_length();
+        let whole = self.journal.len() % layout.record_length() == 0 && records <= usize::from(INPUT_RECORDS);
         let bytes = self.nodes.len() + self.edges.len() + self.program.len() + RUNNER_FRAME;
         if self.report.len() != calls::REPORT_BYTES || !whole || bytes > INPUT_BYTES {
             return None;
@@ -65,32 +64,33 @@ pub struct Refusal<Input> {
     pub answer: u32,
 }
 
-/// The refusals of the call run, by number.
-pub fn of_run() -> Vec<Refusal<RunCall>> {
-    let mut refusals = tables::lengths();
-    refusals.extend(tables::fuel());
-    refusals.extend(programs::image_length());
-    refusals.push(full_images::image_length());
-    refusals.extend(tables::layout());
-    refusals.extend(programs::refusals(16, form::images_of_form()));
-    refusals.push(full_images::old_form());
-    refusals.extend(programs::refusals(17, references::images_of_references()));
-    refusals.extend(programs::refusals(18, placement::images_of_placement()));
-    refusals.extend(programs::refusals(19, depth::images_of_depth()));
+/// The refusals of the call run at a layout, by number.
+pub fn of_run(layout: &'static Layout) -> Vec<Refusal<RunCall>> {
+    let of_images = |answer, images| programs::refusals(layout, answer, images);
+    let mut refusals = tables::lengths(layout);
+    refusals.extend(tables::fuel(layout));
+    refusals.extend(programs::image_length(layout));
+    refusals.push(full_images::image_length(layout));
+    refusals.extend(tables::damaged(layout));
+    refusals.extend(of_images(16, form::images_of_form()));
+    refusals.push(full_images::old_form(layout));
+    refusals.extend(of_images(17, references::images_of_references()));
+    refusals.extend(of_images(18, placement::images_of_placement()));
+    refusals.extend(of_images(19, depth::images_of_depth()));
     refusals
 }
 
 /// Those of them that a runner input can lead to, with the answer of each.
-pub fn runner_inputs() -> Vec<(String, RunnerInput, u32)> {
-    let refusals = of_run().into_iter();
+pub fn runner_inputs(layout: &'static Layout) -> Vec<(String, RunnerInput, u32)> {
+    let refusals = of_run(layout).into_iter();
     refusals
-        .filter_map(|it| Some((it.name, it.refused.runner_input()?, it.answer)))
+        .filter_map(|it| Some((it.name, it.refused.runner_input(layout)?, it.answer)))
         .collect()
 }
 
 /// A call of run that is refused for each of these numbers from 9 to 19 and for no other.
-pub fn run_refused_for(numbers: &[u32]) -> RunCall {
-    let mut call = accepted_run();
+pub fn run_refused_for(layout: &Layout, numbers: &[u32]) -> RunCall {
+    let mut call = accepted_run(layout);
     let given = |number: u32| numbers.contains(&number);
     if given(15) {
         call.nodes[place::STATE] = 2;
@@ -143,30 +143,32 @@ fn program_refused_for(given: &dyn Fn(u32) -> bool) -> Vec<u8> {
 /// A byte that no field of the buffers' layout holds, so that a change of it shows.
 const UNTOUCHED: u8 = 0xA5;
 
-/// An accepted call: nodes 0 and 2 of three slots live, edges 0 and 2 of three likewise.
-fn accepted_run() -> RunCall {
+/// An accepted call: nodes 0 and 2 of three slots live, edges 0 and 2 of three likewise. Their labels have two and three atoms where
+/// the layout can hold as many.
+fn accepted_run(layout: &Layout) -> RunCall {
+    let held = |atoms: &'static [i32]| &atoms[..atoms.len().min(layout.atoms)];
     RunCall {
         nodes: [
-            encode::node_slot(mark::NONE, false, &[]),
-            [0; LAYOUT.node_length()],
-            encode::node_slot(mark::GREY, true, &[7, -7]),
+            layout.node_slot(mark::NONE, false, &[]),
+            vec![0; layout.node_length()],
+            layout.node_slot(mark::GREY, true, held(&[7, -7])),
         ]
         .concat(),
         edges: [
-            encode::edge_slot(mark::NONE, 0, 2, &[]),
-            [0; LAYOUT.edge_length()],
-            encode::edge_slot(mark::DASHED, 2, 2, &[1, 2, 3]),
+            layout.edge_slot(mark::NONE, 0, 2, &[]),
+            vec![0; layout.edge_length()],
+            layout.edge_slot(mark::DASHED, 2, 2, held(&[1, 2, 3])),
         ]
         .concat(),
-        journal: vec![UNTOUCHED; 4 * LAYOUT.record_length()],
+        journal: vec![UNTOUCHED; 4 * layout.record_length()],
         program: programs::program(Command::Skip),
         fuel: 100,
         report: vec![UNTOUCHED; calls::REPORT_BYTES],
     }
 }
 
-fn run_with(edit: impl Fn(&mut RunCall)) -> RunCall {
-    let mut call = accepted_run();
+fn run_with(layout: &Layout, edit: impl Fn(&mut RunCall)) -> RunCall {
+    let mut call = accepted_run(layout);
     edit(&mut call);
     call
 }

@@ -3,6 +3,8 @@
 
 mod carryings;
 mod matches;
+mod packings;
+mod undoings;
 
 use std::fmt::Write;
 
@@ -10,14 +12,15 @@ use crate::answer;
 use crate::calls;
 use crate::corpus;
 use crate::encode::{field, RunnerInput};
-use crate::layout::Layout;
+use crate::layout::{Core, Layout};
 use crate::listing;
-use crate::refusals::{self, RunCall, UndoCall};
+use crate::refusals::{self, RunCall};
 
 pub use carryings::{carry_cases, carry_calls, narrow, widen};
 pub use matches::{match_bench, match_cases, seen as seen_by_matches};
+pub use undoings::{undo_calls, undo_cases};
 
-/// The layout of the buffers.
+/// The layout of the buffers, where no core is named.
 const LAYOUT: &Layout = &Layout::BASE;
 
 /// What a test program reads and what it must write.
@@ -31,6 +34,7 @@ pub fn named(name: &str) -> Option<Stored> {
     match name {
         "corpus" => Some(stored_corpus()),
         "runner" => Some(case_p()),
+        "small_runner" => Some(small_case_p()),
         "undo_cases" => Some(undo_cases()),
         "refusal_cases" => Some(refusal_cases()),
         "match_cases" => Some(match_cases()),
@@ -42,14 +46,23 @@ pub fn named(name: &str) -> Option<Stored> {
     }
 }
 
-pub const NAMES: [&str; 9] =
-    ["carry_cases", "corpus", "match_bench", "match_cases", "narrow", "refusal_cases", "runner", "undo_cases", "widen"];
+pub const NAMES: [&str; 10] = [
+    "carry_cases",
+    "corpus",
+    "match_bench",
+    "match_cases",
+    "narrow",
+    "refusal_cases",
+    "runner",
+    "small_runner",
+    "undo_cases",
+    "widen",
+];
 
 /// All images of the stored corpus, and their listings one behind the other.
 pub fn stored_corpus() -> Stored {
     let images = corpus::stored_images();
-    let parts: Vec<&[u8]> = images.iter().map(Vec::as_slice).collect();
-    Stored { stdin: corpus::joined(&images), stdout: corpus::listings(&parts).into_bytes() }
+    Stored { stdin: corpus::joined(&images), stdout: corpus::listings(&images).into_bytes() }
 }
 
 /// Case P of document 01, whose number among the images of every seed is 16.
@@ -59,61 +72,19 @@ pub fn case_p() -> Stored {
     Stored { stdin: image, stdout }
 }
 
+/// The same case at the small core.
+pub fn small_case_p() -> Stored {
+    let image = corpus::small_case_p();
+    let stdout = listing::listing_at(&Layout::SMALL, &image).into_bytes();
+    Stored { stdin: image, stdout }
+}
+
 /// What a test program reads at most.
 const MOST_BYTES: usize = 262_144;
-
-/// The most bytes that the tables of a case have together.
-const MOST_TABLE_BYTES: usize = 60_000;
 
 /// Drawn images whose runs are looked at, and how long one may be.
 const DRAWN: u64 = 400;
 const LONGEST: usize = 1_200;
-
-/// Calls of undo: every refusal with its accepted twin, then the journals that programs of both modes and drawn runs leave, undone in
-/// whole and in part.
-pub fn undo_cases() -> Stored {
-    let mut calls: Vec<UndoCall> = Vec::new();
-    for refusal in refusals::of_undo() {
-        calls.push(refusal.accepted);
-        calls.push(refusal.refused);
-    }
-    let runs = corpus::mode_programs().into_iter().map(run_call).chain(drawn_calls());
-    calls.extend(runs.flat_map(|run| undone_after(&run)));
-    calls.retain(|call| call.journal.len() + call.nodes.len() + call.edges.len() < MOST_TABLE_BYTES);
-    let stdin = calls.iter().flat_map(undo_case).collect();
-    let mut stdout = String::new();
-    for call in &calls {
-        let left = call.outcome();
-        write!(stdout, "{}", left.answer).expect("a string takes all");
-        for buffer in [&left.report, &left.nodes, &left.edges, &left.journal] {
-            write!(stdout, " {}", hexadecimal(buffer)).expect("a string takes all");
-        }
-        stdout.push('\n');
-    }
-    Stored { stdin, stdout: stdout.into_bytes() }
-}
-
-/// Undo of a run's journal: all of its records, and all but the last.
-fn undone_after(run: &RunCall) -> Vec<UndoCall> {
-    let left = run.outcome();
-    let (_, records) = left.reported();
-    if left.answer != answer::RESULT || records == 0 {
-        return Vec::new();
-    }
-    let undo = |count: u32| UndoCall {
-        nodes: left.nodes.clone(),
-        edges: left.edges.clone(),
-        journal: left.journal.clone(),
-        count,
-        report: vec![7; calls::REPORT_BYTES],
-    };
-    vec![undo(records), undo(records - 1)]
-}
-
-fn undo_case(call: &UndoCall) -> Vec<u8> {
-    let count = call.count.to_be_bytes();
-    case(&[&call.nodes, &call.edges, &call.journal, &count, &call.report])
-}
 
 /// A case: its parts in fields numbered from 0x01, in a field 0x07.
 fn case(parts: &[&[u8]]) -> Vec<u8> {
@@ -133,14 +104,14 @@ fn hexadecimal(bytes: &[u8]) -> String {
 /// that more are read.
 pub fn refusal_cases() -> Stored {
     let mut calls: Vec<RunCall> = Vec::new();
-    for refusal in refusals::of_run() {
+    for refusal in refusals::of_run(LAYOUT) {
         let twins = [refusal.accepted, refusal.refused];
         match refusal.answer >= answer::FORM {
             true => calls.extend(twins.map(on_empty_tables)),
             false => calls.extend(twins),
         }
     }
-    calls.extend(drawn_calls());
+    calls.extend(drawn_calls(Core::Wide));
     calls.sort_by_cached_key(|call| {
         let case = run_case(call);
         (case.len() > 9_000, refused_by(call) == 0, case.len(), case)
@@ -176,22 +147,22 @@ fn run_case(call: &RunCall) -> Vec<u8> {
     case(&[&call.nodes, &call.edges, &call.journal, &fuel, &call.program, &call.report])
 }
 
-/// Short drawn runner inputs as calls.
-fn drawn_calls() -> Vec<RunCall> {
-    let images = (corpus::fixed_count()..corpus::fixed_count() + DRAWN).map(|index| corpus::image(1, index));
-    images
+/// Short drawn runner inputs of a core as calls.
+fn drawn_calls(core: Core) -> Vec<RunCall> {
+    corpus::drawn_images(core, corpus::STORED_SEED, DRAWN)
+        .into_iter()
         .filter(|image| image.len() <= LONGEST)
         .filter_map(|image| listing::read_input(&image))
         .filter(|input| input.records <= 40)
-        .map(run_call)
+        .map(|input| run_call(core, input))
         .collect()
 }
 
-fn run_call(input: RunnerInput) -> RunCall {
+fn run_call(core: Core, input: RunnerInput) -> RunCall {
     RunCall {
         nodes: input.nodes,
         edges: input.edges,
-        journal: vec![1; usize::from(input.records) * LAYOUT.record_length()],
+        journal: vec![1; usize::from(input.records) * core.layout().record_length()],
         program: input.program,
         fuel: input.fuel,
         report: vec![7; calls::REPORT_BYTES],

@@ -1,7 +1,12 @@
-//! Widen and narrow: their refusals, what they write, and that a host carried is the same graph, on which programs do the same.
+//! The calls that carry a host: their refusals, what they write, and that a host carried is the same graph, on which programs do
+//! the same.
 
+#[path = "carrying/packing.rs"]
+mod packing;
 #[path = "carrying/runs.rs"]
 mod runs;
+#[path = "carrying/small_runs.rs"]
+mod small_runs;
 
 mod report;
 
@@ -9,9 +14,9 @@ use second::carrying::{carried, output, tables, CarryCall, Carried, Way};
 use second::corpus;
 use second::encode::field;
 use second::host::Host;
-use second::layout::Layout;
+use second::layout::{Core, Layout};
 use second::listing::read_input;
-use second::refusals::{carrying_refused_for, of_carrying, Carrying};
+use second::refusals::{carrying_refused_for, numbers_of, of_carrying, Carrying};
 
 fn outcome(carrying: &Carrying) -> Carried {
     carrying.call.outcome(carrying.way)
@@ -27,15 +32,18 @@ fn each_clause_refuses_by_its_number_and_leaves_the_tables() {
         let lent = &refusal.refused.call;
         assert!(left.nodes == lent.to_nodes && left.edges == lent.to_edges, "{} writes", refusal.name);
     }
-    for (way, answer) in [(Way::Widen, 10), (Way::Widen, 11), (Way::Widen, 15), (Way::Narrow, 15), (Way::Narrow, 26)] {
-        let found = refusals.iter().filter(|it| it.refused.way == way && it.answer == answer);
-        assert!(found.count() >= 10, "{way:?}, {answer}");
+    for way in Way::ALL {
+        for answer in numbers_of(way) {
+            let found = refusals.iter().filter(|it| it.refused.way == way && it.answer == *answer);
+            assert!(found.count() >= 6, "{way:?}, {answer}");
+        }
     }
 }
 
 #[test]
 fn the_lowest_number_that_applies_is_answered() {
-    for (way, numbers) in [(Way::Widen, &[10, 11, 15][..]), (Way::Narrow, &[10, 11, 15, 26])] {
+    for way in Way::ALL {
+        let numbers = numbers_of(way);
         for set in 0u32..1 << numbers.len() {
             let given: Vec<u32> = (0..numbers.len()).filter(|bit| set >> bit & 1 == 1).map(|bit| numbers[bit]).collect();
             let lowest = given.first().copied().unwrap_or(0);
@@ -67,17 +75,17 @@ fn slots_are_carried_byte_by_byte() {
 /// The greatest edge tables both ways: as many slots as there may be, and one more.
 #[test]
 fn edge_tables_are_carried_up_to_the_most_slots() {
-    for way in Way::BOTH {
+    for (way, most) in [(Way::Widen, 1024), (Way::Narrow, 1024), (Way::Pack, 255), (Way::Unpack, 255)] {
         let of_slots = |slots: usize| Carrying::of(way, &Host { nodes: vec![], edges: vec![None; slots] });
-        let full = outcome(&of_slots(1024));
-        assert_eq!((full.answer, full.edges), (0, vec![0; 1024 * way.to().edge_length()]));
-        assert_eq!(outcome(&of_slots(1025)).answer, 11);
+        let full = outcome(&of_slots(most));
+        assert_eq!((full.answer, full.edges), (0, vec![0; most * way.to().edge_length()]));
+        assert_eq!(outcome(&of_slots(most + 1)).answer, 11);
     }
 }
 
 /// Tables of drawn images that keep the base layout.
 fn drawn_tables() -> Vec<(Vec<u8>, Vec<u8>)> {
-    let inputs = corpus::drawn_images(8, 2_000).into_iter().filter_map(|image| read_input(&image));
+    let inputs = corpus::drawn_images(Core::Wide, 8, 2_000).into_iter().filter_map(|image| read_input(&image));
     let base = Layout::BASE;
     let whole = inputs.filter(|it| base.is_node_table(it.nodes.len()) && base.is_edge_table(it.edges.len()));
     whole.filter(|it| Host::read(&base, &it.nodes, &it.edges).is_ok()).map(|it| (it.nodes, it.edges)).collect()
@@ -142,7 +150,7 @@ fn the_programs_refuse_what_isnt_two_fields() {
         [&field(6, &NODES)[..], &edges].concat(),
         [field(1, &[0; 60_000]), field(2, &[0; 5_531])].concat(),
     ];
-    for way in Way::BOTH {
+    for way in Way::OLD {
         for other in &others {
             assert_eq!(output(way, other), b"input refused\n", "{} bytes", other.len());
         }

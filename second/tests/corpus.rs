@@ -5,11 +5,11 @@ mod ends;
 
 use ends::Ends;
 use second::corpus::{
-    drawn_images, fixed_count, image, images, joined, legal_program, listings, split,
-    stored_images, Statistics, STORED_COUNT, STORED_SEED as SEED,
+    corpus, drawn_corpus, drawn_images, fixed_count, image, images, joined, legal_program, listings, of_core, small_images, split,
+    stored_images, Figures, Image, Statistics, STORED_COUNT, STORED_SEED as SEED,
 };
 use second::encode;
-use second::layout::Layout;
+use second::layout::Core;
 use second::listing::{call_of, listing, read_input};
 use second::random::Random;
 use second::text::grouped;
@@ -41,7 +41,7 @@ fn the_stored_listings_are_what_the_interpreter_gives() {
     let text = String::from_utf8(stored("stdout")).unwrap();
     let mut rest = text.as_str();
     for (index, image) in split(&corpus).unwrap().into_iter().enumerate() {
-        let given = listing(image);
+        let given = image.listing();
         match rest.strip_prefix(given.as_str()) {
             Some(behind) => rest = behind,
             None => panic!("image {index} gives\n{given}but stored is\n{}", head(rest)),
@@ -61,32 +61,51 @@ fn head(text: &str) -> String {
 #[test]
 fn the_stored_corpus_exercises_everything() {
     let corpus = stored("stdin");
-    let parts = split(&corpus).unwrap();
-    let figures = Statistics::of(&parts);
-    assert!(corpus.len() <= 3_500_000, "{} bytes", corpus.len());
+    assert!(corpus.len() <= 3_700_000, "{} bytes", corpus.len());
+    let Figures { wide, small } = Figures::of(&split(&corpus).unwrap());
     for answer in [0, 1, 2, 3, 4, 5, 6, 10, 11, 13, 14, 15, 16, 17, 18, 19] {
-        assert!(
-            figures.answers.contains_key(&answer),
-            "answer {answer} doesn't occur"
-        );
+        assert!(wide.answers.contains_key(&answer), "answer {answer} doesn't occur");
     }
-    assert!(figures.refused > 0, "no input is refused");
-    assert!(
-        figures.answers[&0] * 100 >= figures.images * 45,
-        "too few results"
-    );
-    assert!(
-        figures.answers[&1] * 100 >= figures.images * 8,
-        "too few fails"
-    );
-    let applying = figures.counter("applications").images;
-    assert!(
-        applying * 100 >= figures.started * 60,
-        "too few runs apply a rule"
-    );
-    for counter in &figures.counters {
+    for counter in &wide.counters {
         assert!(counter.total > 0, "{} is never exercised", counter.name);
     }
+    assert_results_and_fails(&wide);
+    assert_results_and_fails(&small);
+}
+
+fn assert_results_and_fails(figures: &Statistics) {
+    assert!(figures.refused > 0, "no input is refused");
+    assert!(figures.answers[&0] * 100 >= figures.images * 45, "too few results");
+    assert!(figures.answers[&1] * 100 >= figures.images * 8, "too few fails");
+    let applying = figures.counter("applications").images;
+    assert!(applying * 100 >= figures.started * 60, "too few runs apply a rule");
+}
+
+/// Counters of what no label of one atom has, and of what drawn images of the small core have seldom.
+fn is_for_the_wide_core(name: &str) -> bool {
+    let counted = ["left elements", "right elements", "variable atoms", "list variable atoms", "node label atoms", "edge label atoms"];
+    let of_length = counted.iter().find_map(|words| name.strip_prefix(words)?.trim().parse::<usize>().ok());
+    let seldom = ["loop, in-degree", "refused for an element", "foreign tables, answer 11"];
+    of_length.is_some_and(|length| length > 1)
+        || name.strip_prefix("right label atoms ").is_some_and(|atoms| atoms.parse::<usize>().unwrap() > 3)
+        || seldom.iter().any(|words| name.starts_with(words))
+}
+
+#[test]
+fn the_stored_corpus_exercises_the_small_core() {
+    let Figures { small, .. } = Figures::of(&split(&stored("stdin")).unwrap());
+    assert!(small.images >= 700, "{} images", small.images);
+    let least = [(0, 300), (1, 90), (2, 25), (3, 15), (4, 15), (5, 15), (6, 50), (12, 15)];
+    for (answer, least) in least {
+        assert!(small.answers[&answer] >= least, "answer {answer}: {:?}", small.answers);
+    }
+    for answer in [10, 11, 13, 14, 15, 16, 17, 18, 19] {
+        assert!(small.answers.contains_key(&answer), "answer {answer} doesn't occur");
+    }
+    for counter in small.counters.iter().filter(|counter| !is_for_the_wide_core(&counter.name)) {
+        assert!(counter.total > 0, "{} is never exercised", counter.name);
+    }
+    assert!(small.counter("right label atoms 2").images >= 30);
 }
 
 #[test]
@@ -94,8 +113,9 @@ fn no_application_of_the_stored_corpus_leaves_an_edge_on_a_free_node() {
     let corpus = stored("stdin");
     let mut ends = Ends::default();
     for image in split(&corpus).unwrap() {
-        if let Some(input) = read_input(image) {
-            call_of(&Layout::BASE, &input).outcome_at(&Layout::BASE, &mut ends);
+        if let Some(input) = read_input(&image.bytes) {
+            let layout = image.core.layout();
+            call_of(layout, &input).outcome_at(layout, &mut ends);
         }
     }
     assert!(ends.applications >= 10_000, "{}", ends.applications);
@@ -103,34 +123,45 @@ fn no_application_of_the_stored_corpus_leaves_an_edge_on_a_free_node() {
 
 #[test]
 fn the_stored_corpus_reaches_the_limits() {
-    let corpus = stored("stdin");
-    let parts = split(&corpus).unwrap();
-    let inputs: Vec<_> = parts.iter().filter_map(|image| read_input(image)).collect();
+    let images = split(&stored("stdin")).unwrap();
     let starts = |answer: &str| {
-        parts
+        images
             .iter()
-            .any(|i| i.len() == 65_535 && listing(i).starts_with(answer))
+            .any(|image| image.bytes.len() == 65_535 && image.listing().starts_with(answer))
     };
-    assert!(inputs
+    let inputs = |core: Core| {
+        let of_core = images.iter().filter(move |image| image.core == core);
+        of_core.filter_map(|image| read_input(&image.bytes)).collect::<Vec<_>>()
+    };
+    let wide = inputs(Core::Wide);
+    assert!(wide
         .iter()
         .any(|input| input.nodes.len() == 512 * 36 && input.edges.len() == 1024 * 40));
-    assert!(inputs.iter().any(|input| input.program.len() == 8192));
-    assert!(inputs.iter().any(|input| input.fuel == 1_000_000));
-    assert!(inputs.iter().any(|input| input.records == 1024));
+    assert!(wide.iter().any(|input| input.program.len() == 8192));
+    assert!(wide.iter().any(|input| input.fuel == 1_000_000));
+    assert!(wide.iter().any(|input| input.records == 1024));
     assert!(starts("answer 14") && (starts("answer 10") || starts("answer 11")));
+    let small = inputs(Core::Small);
+    assert!(small
+        .iter()
+        .any(|input| input.nodes.len() == 128 * 8 && input.edges.len() == 255 * 10));
+    assert!([255, 256, 1024].iter().all(|records| small.iter().any(|input| input.records == *records)));
 }
 
 #[test]
 fn the_page_beside_the_corpus_has_its_figures() {
     let corpus = stored("stdin");
     let page = String::from_utf8(stored("README.md")).unwrap();
-    let figures = Statistics::of(&split(&corpus).unwrap()).to_string();
+    let images = split(&corpus).unwrap();
+    let figures = Figures::of(&images).to_string();
     assert!(page.contains(&figures), "the figures are\n{figures}");
     let fixed = format!("The first {} images", grouped(fixed_count() as usize));
     assert!(page.contains(&fixed), "the page should say: {fixed}");
-    let published = split(&corpus).unwrap().len() as u64 - STORED_COUNT;
-    let last = format!("The last {published} images");
-    assert!(page.contains(&last), "the page should say: {last}");
+    let small = images.iter().filter(|image| image.core == Core::Small).count() as u64;
+    let published = images.len() as u64 - small - STORED_COUNT;
+    for words in [format!("The next {published} images"), format!("The last {small} images")] {
+        assert!(page.contains(&words), "the page should say: {words}");
+    }
 }
 
 /// Answer, steps and records of cases 1 to 15 and P of document 01; case 4 has two.
@@ -168,7 +199,7 @@ fn a_corpus_begins_with_the_cases() {
 
 /// Programs of drawn images.
 fn drawn_programs() -> Vec<Vec<u8>> {
-    let drawn = drawn_images(SEED, 6000);
+    let drawn = drawn_images(Core::Wide, SEED, 6000);
     let inputs = drawn.iter().filter_map(|image| read_input(image));
     inputs.map(|input| input.program).collect()
 }
@@ -259,9 +290,8 @@ fn drawn_images_have_procedures_and_damaged_ones() {
 /// Long labels in hosts and rules that are drawn, right labels of the most atoms and of one too many, and what is refused.
 #[test]
 fn drawn_images_have_long_labels_and_damaged_ones() {
-    let drawn = drawn_images(SEED, 6000);
-    let parts: Vec<&[u8]> = drawn.iter().map(Vec::as_slice).collect();
-    let figures = Statistics::of(&parts);
+    let drawn = drawn_images(Core::Wide, SEED, 6000);
+    let figures = Statistics::of(Core::Wide, drawn.iter().map(Vec::as_slice));
     let least = |names: &[&str], lengths: std::ops::RangeInclusive<u32>, least: u64| {
         for name in names {
             for length in lengths.clone() {
@@ -274,7 +304,13 @@ fn drawn_images_have_long_labels_and_damaged_ones() {
     least(&["left elements", "right elements"], 5..=8, 100);
     least(&["list variable atoms", "right label atoms"], 5..=8, 100);
     least(&["right label atoms"], 9..=9, 30);
-    for name in ["refused for 9 atoms", "refused for 9 elements", "old tables, answer 10", "old tables, answer 11", "old tables, answer 15"] {
+    for name in [
+        "refused for an atom",
+        "refused for an element",
+        "foreign tables, answer 10",
+        "foreign tables, answer 11",
+        "foreign tables, answer 15",
+    ] {
         assert!(figures.counter(name).images >= 2, "{:?}", figures.counter(name));
     }
 }
@@ -309,13 +345,52 @@ fn drawn_images_have_calls_that_are_refused() {
     assert!(found.iter().all(|count| *count >= 5), "{found:?}");
 }
 
+/// Images that are drawn for the small core: every answer, damaged tables and what is seldom in the stored corpus.
+#[test]
+fn drawn_images_of_the_small_core_have_every_answer() {
+    let drawn = drawn_images(Core::Small, SEED, 6000);
+    let figures = Statistics::of(Core::Small, drawn.iter().map(Vec::as_slice));
+    for (answer, least) in [(0, 2500), (1, 600), (2, 100), (3, 100), (4, 100), (5, 100), (6, 300), (12, 50)] {
+        assert!(figures.answers[&answer] >= least, "answer {answer}: {:?}", figures.answers);
+    }
+    for answer in [10, 11, 13, 15, 16, 17, 18, 19] {
+        assert!(figures.answers[&answer] >= 5, "answer {answer}: {:?}", figures.answers);
+    }
+    for name in ["refused for an atom", "foreign tables, answer 10", "foreign tables, answer 15", "right label atoms 2"] {
+        assert!(figures.counter(name).images >= 2, "{:?}", figures.counter(name));
+    }
+    for name in ["loop, in-degree 1", "loop, in-degree not 1", "variable atoms 0", "variable atoms 1"] {
+        assert!(figures.counter(name).images >= 2, "{:?}", figures.counter(name));
+    }
+}
+
 #[test]
 fn an_image_depends_on_its_seed_and_index_alone() {
     let index = fixed_count() + 5;
     assert_eq!(image(7, index), images(7, index + 1)[index as usize]);
-    assert_eq!(image(7, index), drawn_images(7, 6)[5]);
+    assert_eq!(image(7, index), drawn_images(Core::Wide, 7, 6)[5]);
     assert_ne!(image(7, index), image(8, index));
     assert_eq!(image(7, 3), image(8, 3));
+    let small = |seed: u64| drawn_images(Core::Small, seed, 4);
+    assert_eq!(small(7), small(7));
+    assert_ne!(small(7), small(8));
+}
+
+/// One drawn image in four is for the small core; the fixed ones of either core come before all drawn ones.
+#[test]
+fn a_corpus_has_images_of_both_cores() {
+    let drawn = drawn_corpus(7, 8);
+    let cores: Vec<Core> = drawn.iter().map(|image| image.core).collect();
+    let four = [Core::Wide, Core::Wide, Core::Wide, Core::Small];
+    assert_eq!(cores, [four, four].concat());
+    assert_eq!(drawn[1].bytes, drawn_images(Core::Wide, 7, 2)[1]);
+    assert_eq!(drawn[3].bytes, drawn_images(Core::Small, 7, 4)[3]);
+    let wide = images(7, fixed_count());
+    let fixed = wide.len() + small_images().len();
+    let all = corpus(7, fixed as u64 + 8);
+    assert_eq!(all[..wide.len()], of_core(Core::Wide, wide));
+    assert_eq!(all[fixed..], drawn);
+    assert_eq!(corpus(7, 3), all[..3]);
 }
 
 #[test]
@@ -334,14 +409,26 @@ fn legal_programs_are_legal() {
 
 #[test]
 fn a_corpus_splits_into_what_it_was_joined_from() {
-    let made = images(SEED, 40);
+    let mut made = of_core(Core::Wide, images(SEED, 40));
+    made.extend(of_core(Core::Small, small_images()));
     let corpus = joined(&made);
+    assert_eq!(corpus[..3], [6, 0, made[0].bytes.len() as u8]);
     assert_eq!(split(&corpus).unwrap(), made);
-    let parts: Vec<&[u8]> = made.iter().map(Vec::as_slice).collect();
     assert_eq!(
-        listings(&parts[..1]),
+        listings(&made[..1]),
         "answer 0 steps 1 records 0\nnode 0 none plain\n"
     );
+}
+
+/// Case 1 at the small core: one node of eight bytes, which the wide core refuses.
+#[test]
+fn the_tag_says_at_which_core_an_image_runs() {
+    let [wide, small] = Core::BOTH.map(|core| Image { core, bytes: small_images()[0].clone() });
+    assert_eq!(wide.listing(), "answer 10 steps 0 records 0\n");
+    assert_eq!(small.listing(), "answer 0 steps 1 records 0\nnode 0 none plain\n");
+    let corpus = joined(&[wide.clone(), small.clone()]);
+    assert_eq!((corpus[0], corpus[3 + wide.bytes.len()]), (6, 8));
+    assert_eq!(split(&corpus), Ok(vec![wide, small]));
 }
 
 #[test]
@@ -349,15 +436,15 @@ fn a_damaged_corpus_is_refused_with_its_place() {
     let refused = |bytes: &[u8]| split(bytes).unwrap_err();
     assert_eq!(split(&[]), Ok(vec![]));
     assert_eq!(
-        refused(&[6, 0, 0, 5, 0, 0]),
-        "byte 3: the tag 0x06 of an image expected"
+        refused(&[6, 0, 0, 7, 0, 0]),
+        "byte 3: the tag 0x06 or 0x08 of an image expected"
     );
     assert_eq!(
-        refused(&[6, 0]),
+        refused(&[8, 0]),
         "byte 0: a tag and two bytes of length expected"
     );
     assert_eq!(
-        refused(&[6, 0, 2, 1]),
+        refused(&[8, 0, 2, 1]),
         "byte 0: an image of 2 bytes expected"
     );
 }

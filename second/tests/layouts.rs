@@ -1,5 +1,5 @@
-//! The calls at another layout than the base one, in the same process: a smaller one, whose slots have 8, 10 and 12
-//! bytes. Bytes are written out by hand.
+//! The calls at the small core's layout, whose slots have 8, 10 and 12 bytes, beside those at the base layout. Bytes are written
+//! out by hand.
 
 #[path = "layouts/slots.rs"]
 mod slots;
@@ -9,22 +9,15 @@ mod report;
 use report::numbers;
 use second::build::{call, node, node_rule};
 use second::calls::{RunCall, UndoCall};
-use second::corpus;
 use second::encode::{self, RunnerInput};
 use second::host::{Edge, Host, Label, Node};
 use second::layout::Layout;
-use second::listing::{call_of, listing, listing_at, read_input};
+use second::listing::{listing, listing_at, read_input};
 use second::observer::Unobserved;
 use second::stored;
 use second::tree::*;
 
-const SMALL: Layout = Layout {
-    atoms: 1,
-    width: 1,
-    most_nodes: 128,
-    most_edges: 255,
-    most_records: 255,
-};
+const SMALL: Layout = Layout::SMALL;
 
 /// A live root in slot 1 of three, a dashed edge from it to node 2 in slot 0 of two.
 fn graph() -> Host {
@@ -152,8 +145,15 @@ fn the_runner_lists_case_p_at_the_small_layout() {
     assert_eq!(listing_at(&SMALL, &encode::runner_input(&input)), expected);
     input.records = 256;
     let bytes = encode::runner_input(&input);
-    assert_eq!(listing_at(&SMALL, &bytes), "input refused\n");
+    assert_eq!(listing_at(&SMALL, &bytes), "answer 12 steps 0 records 0\n");
     assert_eq!(listing(&bytes), "answer 10 steps 0 records 0\n");
+    input.records = 1024;
+    let bytes = encode::runner_input(&input);
+    assert_eq!(listing_at(&SMALL, &bytes), "answer 12 steps 0 records 0\n");
+    input.records = 1025;
+    let bytes = encode::runner_input(&input);
+    assert_eq!(listing_at(&SMALL, &bytes), "input refused\n");
+    assert_eq!(listing(&bytes), "input refused\n");
 }
 
 /// A call on one unlabelled node, which a rule gives a label of so many atoms.
@@ -245,52 +245,5 @@ fn undo_looks_at_kind_and_slot_of_a_narrow_record() {
     assert_eq!(
         [answer(1, 2), answer(2, 1), answer(3, 0), answer(0, 0)],
         [(20, 0); 4]
-    );
-}
-
-/// The input at the small layout, where its tables fit there.
-fn narrowed(input: &RunnerInput) -> Option<RunnerInput> {
-    let base = Layout::BASE;
-    if !base.is_node_table(input.nodes.len()) || !base.is_edge_table(input.edges.len()) {
-        return None;
-    }
-    let host = Host::read(&base, &input.nodes, &input.edges).ok()?;
-    let short = |label: &Label| SMALL.holds(label.atoms().len());
-    let fits = host.nodes.len() <= SMALL.most_nodes
-        && host.edges.len() <= SMALL.most_edges
-        && host.live_nodes().all(|(_, node)| short(&node.label))
-        && host.live_edges().all(|(_, edge)| short(&edge.label));
-    fits.then(|| RunnerInput {
-        nodes: host.node_table(&SMALL),
-        edges: host.edge_table(&SMALL),
-        records: input.records.min(SMALL.most_records as u16),
-        ..input.clone()
-    })
-}
-
-#[test]
-fn a_result_or_fail_of_the_small_layout_is_the_base_layouts() {
-    const SEED: u64 = 5;
-    const IMAGES: u64 = 3_000;
-    let (mut results, mut fails) = (0, 0);
-    let images = corpus::images(SEED, IMAGES).into_iter();
-    let inputs = images.filter_map(|image| read_input(&image));
-    for (small, input) in inputs.filter_map(|input| Some((narrowed(&input)?, input))) {
-        let left = call_of(&SMALL, &small).outcome_at(&SMALL, &mut Unobserved);
-        if left.answer > 1 {
-            continue;
-        }
-        let base = call_of(&Layout::BASE, &input).outcome();
-        assert_eq!(numbers(&left), numbers(&base));
-        let after = Host::read(&SMALL, &left.nodes, &left.edges);
-        assert_eq!(after, Host::read(&Layout::BASE, &base.nodes, &base.edges));
-        match left.answer {
-            0 => results += 1,
-            _ => fails += 1,
-        }
-    }
-    assert!(
-        results > 100 && fails > 20,
-        "{results} results, {fails} fails"
     );
 }

@@ -1,4 +1,4 @@
-//! Every refusal of the two calls and of the runner: its number, that the lowest number wins, what it
+//! Every refusal of the two calls and of the runner, at the layout of each core: its number, that the lowest number wins, what it
 //! leaves untouched, and its report. The inputs are those of `second::refusals`.
 
 use std::collections::HashSet;
@@ -9,12 +9,19 @@ use second::decode;
 use second::depth;
 use second::encode;
 use second::host::Host;
-use second::layout::Layout;
-use second::listing::listing;
+use second::layout::{Core, Layout};
+use second::listing::{listing, listing_at};
+use second::observer::Unobserved;
 use second::references;
 use second::refusals::{
     of_run, of_runner, of_undo, run_refused_for, runner_inputs, undo_refused_for, RunCall, UndoCall,
 };
+
+const LAYOUTS: [&Layout; 2] = [Core::Wide.layout(), Core::Small.layout()];
+
+fn run_at(layout: &Layout, call: &RunCall) -> Outcome {
+    call.outcome_at(layout, &mut Unobserved)
+}
 
 fn refused_run(call: &RunCall, answer: u32) -> Outcome {
     let given = [&call.nodes, &call.edges, &call.journal, &call.report];
@@ -56,97 +63,93 @@ fn sets(numbers: &[u32]) -> Vec<Vec<u32>> {
 
 #[test]
 fn each_clause_of_run_refuses_by_its_number_and_touches_nothing_but_the_report() {
-    for it in of_run() {
-        assert_eq!(
-            it.refused.outcome(),
-            refused_run(&it.refused, it.answer),
-            "{}",
-            it.name
-        );
+    for layout in LAYOUTS {
+        for it in of_run(layout) {
+            let outcome = run_at(layout, &it.refused);
+            assert_eq!(outcome, refused_run(&it.refused, it.answer), "{}", it.name);
+        }
     }
 }
 
 #[test]
 fn the_accepted_neighbour_of_each_clause_is_run() {
-    for it in of_run() {
-        let answer = it.accepted.outcome().answer;
-        assert!(
-            answer <= 2,
-            "{}: the accepted one answers {answer}",
-            it.name
-        );
+    for layout in LAYOUTS {
+        for it in of_run(layout) {
+            let answer = run_at(layout, &it.accepted).answer;
+            assert!(answer <= 2, "{}: the accepted one answers {answer}", it.name);
+        }
     }
 }
 
 #[test]
 fn each_clause_of_undo_refuses_by_its_number_and_touches_nothing_but_the_report() {
-    for it in of_undo() {
-        assert_eq!(
-            it.refused.outcome(),
-            refused_undo(&it.refused, it.answer),
-            "{}",
-            it.name
-        );
-        assert_eq!(it.accepted.outcome().answer, 0, "{}", it.name);
+    for layout in LAYOUTS {
+        for it in of_undo(layout) {
+            let outcome = it.refused.outcome_at(layout);
+            assert_eq!(outcome, refused_undo(&it.refused, it.answer), "{}", it.name);
+            assert_eq!(it.accepted.outcome_at(layout).answer, 0, "{}", it.name);
+        }
     }
 }
 
 #[test]
 fn every_number_has_refusals_and_every_name_is_different() {
-    let run: Vec<(String, u32)> = of_run()
-        .into_iter()
-        .map(|it| (it.name, it.answer))
-        .collect();
-    let undo: Vec<(String, u32)> = of_undo()
-        .into_iter()
-        .map(|it| (it.name, it.answer))
-        .collect();
-    for number in 9..=19 {
-        assert!(run.iter().any(|(_, answer)| *answer == number), "{number}");
+    for layout in LAYOUTS {
+        let run: Vec<(String, u32)> = of_run(layout).into_iter().map(|it| (it.name, it.answer)).collect();
+        let undo: Vec<(String, u32)> = of_undo(layout).into_iter().map(|it| (it.name, it.answer)).collect();
+        for number in 9..=19 {
+            assert!(run.iter().any(|(_, answer)| *answer == number), "{number}");
+        }
+        for number in [9, 10, 11, 12, 20] {
+            assert!(undo.iter().any(|(_, answer)| *answer == number), "{number}");
+        }
+        let names: HashSet<&String> = run.iter().chain(&undo).map(|(name, _)| name).collect();
+        assert_eq!(names.len(), run.len() + undo.len());
     }
-    for number in [9, 10, 11, 12, 20] {
-        assert!(undo.iter().any(|(_, answer)| *answer == number), "{number}");
-    }
-    let names: HashSet<&String> = run.iter().chain(&undo).map(|(name, _)| name).collect();
-    assert_eq!(names.len(), run.len() + undo.len());
 }
 
 #[test]
 fn the_lowest_number_of_any_set_wins_in_run() {
     let numbers: Vec<u32> = (9..=19).collect();
-    for set in sets(&numbers) {
-        let call = run_refused_for(&set);
-        assert_eq!(call.outcome(), refused_run(&call, set[0]), "{set:?}");
+    for layout in LAYOUTS {
+        for set in sets(&numbers) {
+            let call = run_refused_for(layout, &set);
+            assert_eq!(run_at(layout, &call), refused_run(&call, set[0]), "{set:?}");
+        }
+        assert!(run_at(layout, &run_refused_for(layout, &[])).answer <= 1);
     }
-    assert!(run_refused_for(&[]).outcome().answer <= 1);
 }
 
 #[test]
 fn the_lowest_number_of_any_set_wins_in_undo() {
-    for set in sets(&[9, 10, 11, 12, 20]) {
-        let call = undo_refused_for(&set);
-        assert_eq!(call.outcome(), refused_undo(&call, set[0]), "{set:?}");
+    for layout in LAYOUTS {
+        for set in sets(&[9, 10, 11, 12, 20]) {
+            let call = undo_refused_for(layout, &set);
+            assert_eq!(call.outcome_at(layout), refused_undo(&call, set[0]), "{set:?}");
+        }
+        assert_eq!(undo_refused_for(layout, &[]).outcome_at(layout).answer, 0);
     }
-    assert_eq!(undo_refused_for(&[]).outcome().answer, 0);
 }
 
 #[test]
 fn undo_looks_at_counted_records_and_lengths_alone() {
-    let mut call = undo_refused_for(&[]);
-    call.nodes.fill(0xFF);
-    call.edges.fill(0xFF);
-    call.count = 2;
-    let counted = 2 * Layout::BASE.record_length();
-    call.journal[counted..].fill(0xFF);
-    let outcome = call.outcome();
-    assert_eq!(outcome.answer, 0);
-    assert_eq!(outcome.report, [0, 0, 0, 0, 0, 0, 0, 2]);
-    assert_eq!(outcome.journal, [vec![0; counted], vec![0xFF; counted]].concat());
+    for layout in LAYOUTS {
+        let mut call = undo_refused_for(layout, &[]);
+        call.nodes.fill(0xFF);
+        call.edges.fill(0xFF);
+        call.count = 2;
+        let counted = 2 * layout.record_length();
+        call.journal[counted..].fill(0xFF);
+        let outcome = call.outcome_at(layout);
+        assert_eq!(outcome.answer, 0);
+        assert_eq!(outcome.report, [0, 0, 0, 0, 0, 0, 0, 2]);
+        assert_eq!(outcome.journal, [vec![0; counted], vec![0xFF; counted]].concat());
+    }
 }
 
 #[test]
 fn each_prefix_of_a_legal_image_answers_16() {
-    let call = run_refused_for(&[]);
+    let call = run_refused_for(&Layout::BASE, &[]);
     for length in 0..call.program.len() {
         let cut = RunCall {
             program: call.program[..length].to_vec(),
@@ -158,7 +161,7 @@ fn each_prefix_of_a_legal_image_answers_16() {
 
 #[test]
 fn damage_is_said_with_its_place_and_what_was_expected() {
-    for it in of_run().into_iter().filter(|it| it.answer == 16) {
+    for it in of_run(&Layout::BASE).into_iter().filter(|it| it.answer == 16) {
         let image = &it.refused.program;
         let damage = decode::program(image).expect_err(&it.name);
         assert!(damage.at <= image.len(), "{}", it.name);
@@ -174,7 +177,7 @@ fn damage_is_said_with_its_place_and_what_was_expected() {
 
 #[test]
 fn a_broken_layout_reference_or_depth_has_a_reason() {
-    for it in of_run() {
+    for it in of_run(&Layout::BASE) {
         match it.answer {
             15 => {
                 let host = Host::read(&Layout::BASE, &it.refused.nodes, &it.refused.edges);
@@ -203,22 +206,19 @@ fn the_runner_refuses_each_input_that_isnt_the_five_fields() {
     }
 }
 
+/// The answer 12 comes at the small core alone, whose journal has fewer records than an input can ask for.
 #[test]
 fn the_runner_lists_the_number_of_a_refused_call() {
-    let inputs = runner_inputs();
-    for number in [10, 11, 13, 14, 15, 16, 17, 18, 19] {
-        assert!(
-            inputs.iter().any(|(_, _, answer)| *answer == number),
-            "{number}"
-        );
-    }
-    for (name, input, answer) in inputs {
-        let text = listing(&encode::runner_input(&input));
-        assert_eq!(
-            text,
-            format!("answer {answer} steps 0 records 0\n"),
-            "{name}"
-        );
+    for layout in LAYOUTS {
+        let inputs = runner_inputs(layout);
+        for number in 10..=19 {
+            let listed = inputs.iter().any(|(_, _, answer)| *answer == number);
+            assert!(listed || (number, *layout) == (12, Layout::BASE), "{number}");
+        }
+        for (name, input, answer) in inputs {
+            let text = listing_at(layout, &encode::runner_input(&input));
+            assert_eq!(text, format!("answer {answer} steps 0 records 0\n"), "{name}");
+        }
     }
 }
 
@@ -231,12 +231,15 @@ fn program(arguments: &[&str]) -> Output {
 
 #[test]
 fn the_program_says_what_it_cant_do_and_prints_nothing_else() {
-    let uses: [(&[&str], &str); 6] = [
-        (&[], "usage: second run IMAGE|-"),
-        (&["walk", "-"], "usage: second run IMAGE|-"),
-        (&["run"], "usage: second run IMAGE|-"),
-        (&["run", "-", "-"], "usage: second run IMAGE|-"),
+    let uses: [(&[&str], &str); 9] = [
+        (&[], "usage: second run [--core wide|small] IMAGE|-"),
+        (&["walk", "-"], "usage: second run [--core wide|small] IMAGE|-"),
+        (&["run"], "usage: second run [--core wide|small] IMAGE|-"),
+        (&["run", "-", "-"], "usage: second run [--core wide|small] IMAGE|-"),
+        (&["run", "--core", "small"], "usage: second run"),
+        (&["run", "--core", "tiny", "-"], "tiny is no core, expected wide or small"),
         (&["run", "no/such/image"], "no/such/image can't be read"),
+        (&["run", "--core", "small", "no/such/image"], "no/such/image can't be read"),
         (&["corpus", "--seed"], "usage: second corpus"),
     ];
     for (arguments, message) in uses {
@@ -250,7 +253,20 @@ fn the_program_says_what_it_cant_do_and_prints_nothing_else() {
 
 #[test]
 fn the_program_lists_a_refused_input() {
-    let output = program(&["run", "-"]);
-    assert!(output.status.success());
-    assert_eq!(output.stdout, b"input refused\n");
+    for arguments in [&["run", "-"][..], &["run", "--core", "small", "-"]] {
+        let output = program(arguments);
+        assert!(output.status.success());
+        assert_eq!(output.stdout, b"input refused\n");
+    }
+}
+
+/// Case P at the small core as it is stored.
+#[test]
+fn the_program_runs_an_image_at_the_core_that_is_named() {
+    let image = concat!(env!("CARGO_MANIFEST_DIR"), "/../crates/small_runner/stdin");
+    let text = |arguments: &[&str]| String::from_utf8(program(arguments).stdout).expect("a listing");
+    let expected = "answer 0 steps 3 records 4\nnode 0 red plain 5\nnode 1 blue plain 12\nedge 0 1 0 none\n";
+    assert_eq!(text(&["run", "--core", "small", image]), expected);
+    let refused = "answer 10 steps 0 records 0\n";
+    assert_eq!([text(&["run", image]), text(&["run", "--core", "wide", image])], [refused; 2]);
 }

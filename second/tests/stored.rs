@@ -3,6 +3,8 @@
 use std::path::Path;
 
 use second::carrying::Way;
+use second::layout::Core;
+use second::refusals::{numbers_of, UndoCall};
 use second::stored;
 
 fn folder(name: &str) -> std::path::PathBuf {
@@ -23,12 +25,45 @@ fn text(stored: stored::Stored) -> String {
     String::from_utf8(stored.stdout).expect("lines of text")
 }
 
+/// At either core, and results of runs undone among them.
 #[test]
 fn undo_cases_have_every_answer_of_undo() {
     let text = text(stored::undo_cases());
-    for answer in [0, 9, 10, 11, 12, 20] {
-        assert!(text.lines().any(|line| line.starts_with(&format!("{answer} "))), "no case answers {answer}");
+    let calls = stored::undo_calls();
+    assert_eq!(text.lines().count(), calls.len());
+    for core in Core::BOTH {
+        let lines = || text.lines().zip(&calls).filter(|(_, (at, _))| *at == core).map(|(line, _)| line);
+        for answer in [0, 9, 10, 11, 12, 20] {
+            assert!(lines().any(|line| line.starts_with(&format!("{answer} "))), "no case of {core:?} answers {answer}");
+        }
+        let undone = lines().filter(|line| line.starts_with("0 "));
+        assert!(undone.count() >= 100, "{core:?}");
     }
+}
+
+/// The last part of a case is one byte: 0 for the wide core, 1 for the small one.
+#[test]
+fn an_undo_case_says_its_core() {
+    let stored = stored::undo_cases();
+    let mut rest = &stored.stdin[..];
+    for (core, _) in stored::undo_calls() {
+        let length = usize::from(u16::from_be_bytes([rest[1], rest[2]]));
+        let (case, behind) = rest[3..].split_at(length);
+        let byte = if core == Core::Wide { 0 } else { 1 };
+        assert_eq!(case[case.len() - 4..], [6, 0, 1, byte]);
+        rest = behind;
+    }
+    assert!(rest.is_empty());
+}
+
+/// A record of the small core has its slot number in the byte that is zero at the wide one.
+#[test]
+fn undo_cases_of_the_small_core_have_records_of_other_slots_than_0() {
+    let calls = stored::undo_calls();
+    let accepted = calls.iter().filter(|(core, call)| *core == Core::Small && call.outcome_at(core.layout()).answer == 0);
+    let counted = |call: &UndoCall| call.journal.chunks(12).take(call.count as usize).any(|record| record[1] > 0);
+    let numbered = accepted.filter(|(_, call)| counted(call));
+    assert!(numbered.count() >= 50);
 }
 
 #[test]
@@ -64,16 +99,34 @@ fn match_cases_stay_short() {
 
 /// Each way has every answer, and results on drawn hosts among them.
 #[test]
-fn carry_cases_have_every_answer_of_both_calls() {
+fn carry_cases_have_every_answer_of_all_calls() {
     let stored = stored::carry_cases();
-    assert!(stored.stdin.len() <= 262_144, "{} bytes", stored.stdin.len());
+    assert!(stored.stdin.len() <= 262_144 + 500_000, "{} bytes", stored.stdin.len());
     let text = text(stored);
     let calls = stored::carry_calls();
-    for (way, answers) in [(Way::Widen, &[0, 10, 11, 15][..]), (Way::Narrow, &[0, 10, 11, 15, 26])] {
-        for answer in answers {
+    assert_eq!(text.lines().count(), calls.len());
+    for way in Way::ALL {
+        for answer in [&[0], numbers_of(way)].concat() {
             let begins = format!("{answer} ");
             let lines = text.lines().zip(&calls).filter(|(line, call)| call.way == way && line.starts_with(&begins));
             assert!(lines.count() >= 10, "{way:?} seldom answers {answer}");
+        }
+    }
+}
+
+/// Fewer slots, as many and more in the tables that are carried to.
+#[test]
+fn carry_cases_of_packing_have_all_numbers_of_slots() {
+    for way in Way::PACKING {
+        let calls: Vec<_> = stored::carry_calls().into_iter().filter(|it| it.way == way && it.call.outcome(way).answer == 0).collect();
+        let slots = |bytes: usize, length: usize| bytes / length;
+        let orders = calls.iter().map(|it| {
+            let (from, to) = (way.from().node_length(), way.to().node_length());
+            slots(it.call.nodes.len(), from).cmp(&slots(it.call.to_nodes.len(), to))
+        });
+        let orders: Vec<std::cmp::Ordering> = orders.collect();
+        for order in [std::cmp::Ordering::Less, std::cmp::Ordering::Equal, std::cmp::Ordering::Greater] {
+            assert!(orders.iter().filter(|found| **found == order).count() >= 10, "{way:?} {order:?}");
         }
     }
 }
@@ -85,6 +138,15 @@ fn a_carry_case_shows_what_was_written_and_what_was_not() {
     assert!(refused[3..].bytes().all(|byte| b"a5 ".contains(&byte)), "{refused}");
     let empty = text.lines().find(|line| line.starts_with("0  "));
     assert_eq!(empty, Some("0  "), "tables of no slots");
+}
+
+#[test]
+fn the_small_runners_case_has_small_tables() {
+    let stored = stored::small_case_p();
+    let grey = |atom: u8| [1, 4, 0, 1, 0, 0, 0, atom];
+    let nodes = [&[1, 0, 16][..], &grey(5), &grey(7)].concat();
+    assert!(stored.stdin.starts_with(&[&nodes[..], &[2, 0, 10, 1, 0, 0, 0, 0, 1, 0, 0, 0, 0]].concat()));
+    assert_eq!(text(stored), text(stored::case_p()));
 }
 
 /// The lengths of the fields, and the bytes of one slot by hand.

@@ -4,9 +4,10 @@
 use std::io::{Read, Write};
 use std::process::ExitCode;
 
+use second::layout::Core;
 use second::{corpus, listing, stored};
 
-const USAGE: &str = "usage: second run IMAGE|-
+const USAGE: &str = "usage: second run [--core wide|small] IMAGE|-
        second corpus --seed S --count N [--drawn] [-o FILE] [--listings FILE]
        second figures CORPUS
        second stored PROGRAM FOLDER";
@@ -24,8 +25,9 @@ fn main() -> ExitCode {
 
 fn chosen(arguments: &[String]) -> Result<(), String> {
     match arguments {
-        [word, image] if word == "run" => run(image),
-        [word, ..] if word == "run" => Err(format!("run takes one image\n{USAGE}")),
+        [word, image] if word == "run" => run(Core::Wide, image),
+        [word, option, core, image] if word == "run" && option == "--core" => run(named_core(core)?, image),
+        [word, ..] if word == "run" => Err(format!("run takes one image, and --core before it\n{USAGE}")),
         [word, rest @ ..] if word == "corpus" => corpus::main(rest),
         [word, file] if word == "figures" => figures(file),
         [word, ..] if word == "figures" => Err(format!("figures takes one corpus\n{USAGE}")),
@@ -36,16 +38,21 @@ fn chosen(arguments: &[String]) -> Result<(), String> {
     }
 }
 
-fn run(image: &str) -> Result<(), String> {
+fn named_core(name: &str) -> Result<Core, String> {
+    Core::named(name).ok_or(format!("{name} is no core, expected wide or small\n{USAGE}"))
+}
+
+/// Prints the listing of an image at a core.
+fn run(core: Core, image: &str) -> Result<(), String> {
     let bytes = read(image).map_err(|error| format!("{image} can't be read: {error}"))?;
-    print("the listing", &listing::listing(&bytes))
+    print("the listing", &listing::listing_at(core.layout(), &bytes))
 }
 
 /// Prints what running the images of a corpus exercises.
 fn figures(file: &str) -> Result<(), String> {
     let corpus = read(file).map_err(|error| format!("{file} can't be read: {error}"))?;
     let images = corpus::split(&corpus).map_err(|place| format!("{file}, {place}"))?;
-    print("the figures", &corpus::Statistics::of(&images).to_string())
+    print("the figures", &corpus::Figures::of(&images).to_string())
 }
 
 fn print(what: &str, text: &str) -> Result<(), String> {

@@ -1,10 +1,12 @@
 //! Damage to the fields of a runner input and to its tables: inputs that the runner refuses, and answers 10, 11,
 //! 13 and 15.
 
+use super::drafts::Draft;
+use super::foreign;
 use super::hosts::Host;
-use super::LAYOUT;
 use crate::encode::{field, runner_fields, RunnerInput};
 use crate::layout::{place, Layout, ATOM_BYTES};
+use crate::listing::INPUT_RECORDS;
 use crate::random::Random;
 use std::ops::Range;
 
@@ -31,7 +33,7 @@ pub fn refused(random: &mut Random, input: &RunnerInput) -> Vec<u8> {
 }
 
 fn too_many_records(random: &mut Random) -> u16 {
-    let least = LAYOUT.most_records as u16 + 1;
+    let least = INPUT_RECORDS + 1;
     let any = random.between(usize::from(least) + 1, 0xFFFE) as u16;
     random.pick(&[least, 0x0500, 0xFFFF, any])
 }
@@ -81,96 +83,97 @@ pub fn too_much_fuel(random: &mut Random) -> u32 {
     ])
 }
 
-/// Lengths that no label has.
-const TOO_LONG: [u8; 3] = [LAYOUT.atoms as u8 + 1, LAYOUT.atoms as u8 + 2, 0xFF];
+/// Lengths that no label of the layout has.
+fn too_long(layout: &Layout) -> [u8; 3] {
+    let most = layout.atoms as u8;
+    [most + 1, most + 2, 0xFF]
+}
 
 /// Answer 15: one slot of a table breaks the layout.
-pub fn break_layout(random: &mut Random, host: &Host, input: &mut RunnerInput) {
+pub fn break_layout(random: &mut Random, draft: &Draft, input: &mut RunnerInput) {
+    let (host, layout) = (&draft.host, draft.layout);
     let edges = host.live_edges();
     let nodes = host.live_nodes();
     if !edges.is_empty() && random.chance(55) {
-        let (slot, length) = (random.pick(&edges), LAYOUT.edge_length());
-        break_edge(random, host, &mut input.edges[slot * length..][..length]);
+        let (slot, length) = (random.pick(&edges), layout.edge_length());
+        break_edge(random, draft, &mut input.edges[slot * length..][..length]);
     } else if !nodes.is_empty() && random.chance(80) {
-        let (slot, length) = (random.pick(&nodes), LAYOUT.node_length());
-        break_node(random, &mut input.nodes[slot * length..][..length]);
+        let (slot, length) = (random.pick(&nodes), layout.node_length());
+        break_node(random, layout, &mut input.nodes[slot * length..][..length]);
     } else {
-        break_free_slot(random, host, input);
+        break_free_slot(random, draft, input);
     }
 }
 
-fn break_node(random: &mut Random, slot: &mut [u8]) {
+fn break_node(random: &mut Random, layout: &Layout, slot: &mut [u8]) {
     match random.below(6) {
         0 => slot[place::STATE] = random.pick(&[2, 3, 0xFF]),
         1 => slot[place::MARK] = random.pick(&[5, 6, 7, 0xFF]),
         2 => slot[place::ROOT] = random.pick(&[2, 0xFF]),
-        3 => slot[place::LABEL_LENGTH] = random.pick(&TOO_LONG),
+        3 => slot[place::LABEL_LENGTH] = random.pick(&too_long(layout)),
         4 => slot[place::STATE] = 0,
-        _ => break_unused_atom(random, slot, LAYOUT.node_atoms()),
+        _ => break_unused_atom(random, layout, slot, layout.node_atoms()),
     }
 }
 
-fn break_edge(random: &mut Random, host: &Host, slot: &mut [u8]) {
-    let slots = host.nodes.len() as u16;
+fn break_edge(random: &mut Random, draft: &Draft, slot: &mut [u8]) {
+    let layout = draft.layout;
+    let slots = draft.host.nodes.len() as u16;
+    let (last, far) = match layout.width {
+        1 => (0xFF, 0x80),
+        _ => (0xFFFF, 0x0100),
+    };
     match random.below(8) {
         0 => slot[place::STATE] = random.pick(&[2, 3, 0xFF]),
         1 => slot[place::MARK] = random.pick(&[4, 6, 7, 0xFF]),
         2 => slot[place::ZERO] = random.pick(&[1, 2, 0xFF]),
-        3 => slot[place::LABEL_LENGTH] = random.pick(&TOO_LONG),
-        4 => aim(
-            slot,
-            LAYOUT.edge_source(),
-            random.pick(&[slots, slots + 1, 0xFFFF]),
-        ),
-        5 => aim(
-            slot,
-            LAYOUT.edge_target(),
-            random.pick(&[slots, slots + 1, 0x0100]),
-        ),
-        6 => aim_at_free(random, host, slot),
-        _ => break_unused_atom(random, slot, LAYOUT.edge_atoms()),
+        3 => slot[place::LABEL_LENGTH] = random.pick(&too_long(layout)),
+        4 => aim(layout, slot, layout.edge_source(), random.pick(&[slots, slots + 1, last])),
+        5 => aim(layout, slot, layout.edge_target(), random.pick(&[slots, slots + 1, far])),
+        6 => aim_at_free(random, layout, &draft.host, slot),
+        _ => break_unused_atom(random, layout, slot, layout.edge_atoms()),
     }
 }
 
 /// Lets one end lie on a free node slot, or outside the table if none is free.
-fn aim_at_free(random: &mut Random, host: &Host, slot: &mut [u8]) {
+fn aim_at_free(random: &mut Random, layout: &Layout, host: &Host, slot: &mut [u8]) {
     let nodes = &host.nodes;
     let free = (0..nodes.len())
         .find(|node| nodes[*node].is_none())
         .unwrap_or(nodes.len());
     let end = match random.pick(&[true, false]) {
-        true => LAYOUT.edge_source(),
-        false => LAYOUT.edge_target(),
+        true => layout.edge_source(),
+        false => layout.edge_target(),
     };
-    aim(slot, end, free as u16);
+    aim(layout, slot, end, free as u16);
 }
 
-fn aim(slot: &mut [u8], end: Range<usize>, node: u16) {
-    slot[end].copy_from_slice(&LAYOUT.slot_number(node));
+fn aim(layout: &Layout, slot: &mut [u8], end: Range<usize>, node: u16) {
+    slot[end].copy_from_slice(&layout.slot_number(node));
 }
 
 /// A nonzero byte behind the label's atoms, which start at this place, or a label that is too long if all are used.
-fn break_unused_atom(random: &mut Random, slot: &mut [u8], atoms: usize) {
+fn break_unused_atom(random: &mut Random, layout: &Layout, slot: &mut [u8], atoms: usize) {
     let used = usize::from(slot[place::LABEL_LENGTH]);
-    if used >= LAYOUT.atoms {
-        slot[place::LABEL_LENGTH] = TOO_LONG[0];
+    if used >= layout.atoms {
+        slot[place::LABEL_LENGTH] = too_long(layout)[0];
     } else {
         let nonzero = random.pick(&[1, 0x80, 0xFF]);
         slot[random.between(atoms + ATOM_BYTES * used, slot.len() - 1)] = nonzero;
     }
 }
 
-/// Answers 10, 11 and 15: tables of the old layout, lent as they are. Often free slots are added behind, so that their bytes
+/// Answers 10, 11 and 15: tables of a foreign layout, lent as they are. Often free slots are added behind, so that their bytes
 /// make whole slots.
-pub fn old_tables(random: &mut Random, host: &Host, input: &mut RunnerInput) {
-    let old = &Layout::FOUR;
-    input.nodes = host.node_table_at(old);
-    input.edges = host.edge_table_at(old);
+pub fn foreign_tables(random: &mut Random, draft: &Draft, input: &mut RunnerInput) {
+    let (layout, foreign) = (draft.layout, foreign(draft.layout));
+    input.nodes = draft.host.node_table(foreign);
+    input.edges = draft.host.edge_table(foreign);
     if random.chance(60) {
-        fill_up(&mut input.nodes, old.node_length(), LAYOUT.node_length());
+        fill_up(&mut input.nodes, foreign.node_length(), layout.node_length());
     }
     if random.chance(60) {
-        fill_up(&mut input.edges, old.edge_length(), LAYOUT.edge_length());
+        fill_up(&mut input.edges, foreign.edge_length(), layout.edge_length());
     }
 }
 
@@ -182,15 +185,15 @@ fn fill_up(table: &mut Vec<u8>, slot: usize, other: usize) {
 }
 
 /// A free slot that isn't all zero; one is added if there is none.
-fn break_free_slot(random: &mut Random, host: &Host, input: &mut RunnerInput) {
-    let nodes = &host.nodes;
+fn break_free_slot(random: &mut Random, draft: &Draft, input: &mut RunnerInput) {
+    let (nodes, layout) = (&draft.host.nodes, draft.layout);
     match (0..nodes.len()).rev().find(|node| nodes[*node].is_none()) {
         Some(slot) => {
-            let length = LAYOUT.node_length();
+            let length = layout.node_length();
             input.nodes[slot * length + random.between(1, length - 1)] = 1;
         }
         None => {
-            let (last, length) = (input.edges.len(), LAYOUT.edge_length());
+            let (last, length) = (input.edges.len(), layout.edge_length());
             input.edges.extend(vec![0; length]);
             input.edges[last + random.between(1, length - 1)] = 1;
         }

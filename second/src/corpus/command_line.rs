@@ -1,6 +1,6 @@
 //! `second corpus`: makes a corpus, its listings, and the figures of what running it exercises.
 
-use super::{drawn_images, images, joined, listings, Statistics};
+use super::{corpus, drawn_corpus, joined, listings, Figures};
 use std::fs;
 use std::io::Write;
 
@@ -21,20 +21,19 @@ struct Options {
 pub fn main(arguments: &[String]) -> Result<(), String> {
     let options = options(arguments)?;
     let images = match options.drawn {
-        true => drawn_images(options.seed, options.count),
-        false => images(options.seed, options.count),
+        true => drawn_corpus(options.seed, options.count),
+        false => corpus(options.seed, options.count),
     };
-    let parts: Vec<&[u8]> = images.iter().map(Vec::as_slice).collect();
     let corpus = joined(&images);
     let mut files: Vec<(&str, Vec<u8>)> = Vec::new();
     if let Some(file) = &options.listings {
-        files.push((file, listings(&parts).into_bytes()));
+        files.push((file, listings(&images).into_bytes()));
     }
     if let Some(file) = &options.corpus {
         files.push((file, corpus.clone()));
     }
     write_files(&files)?;
-    let figures = Statistics::of(&parts).to_string();
+    let figures = Figures::of(&images).to_string();
     match &options.corpus {
         Some(_) => print(std::io::stdout().lock(), figures.as_bytes()),
         None => {

@@ -4,6 +4,7 @@
 use super::LAYOUT;
 use crate::build::*;
 use crate::encode::{self, edge_slot, node_slot, RunnerInput};
+use crate::layout::Layout;
 use crate::tree::*;
 
 /// Why an application can't be made.
@@ -24,11 +25,17 @@ enum Label {
 }
 
 pub fn corners() -> Vec<RunnerInput> {
-    let mut inputs: Vec<RunnerInput> = every_reasons().into_iter().map(input_of).collect();
+    let mut inputs = reasons_at_once(LAYOUT);
     inputs.extend([last_of_eight_rules(), last_of_all_rules()]);
     inputs.extend(LISTS.map(|(a, b)| one_list_twice(a, b)));
     inputs.extend(every_looped().into_iter().map(at_loops));
     inputs
+}
+
+/// Several reasons to end a run at once, at a layout.
+pub fn reasons_at_once(layout: &Layout) -> Vec<RunnerInput> {
+    let every = every_reasons().into_iter();
+    every.map(|reasons| input_of(layout, reasons)).collect()
 }
 
 /// Every set of reasons, with each kind of label.
@@ -54,8 +61,8 @@ fn every_reasons() -> Vec<Reasons> {
     every
 }
 
-/// A right label that can't be held for this reason. The list variable 0 stands for three atoms, so that three times are one
-/// atom too many.
+/// A right label that can't be held for this reason. The list variable 0 stands for three atoms, or for as many as a label can have,
+/// so that three times are too many.
 fn right_label(reason: Option<Label>) -> Vec<Element> {
     let (least, most) = (Operand::Constant(i32::MIN), Operand::Constant(i32::MAX));
     let list = Element::Variable(0);
@@ -68,7 +75,7 @@ fn right_label(reason: Option<Label>) -> Vec<Element> {
 }
 
 /// A rule that labels a node, makes a new one and an edge between them, inside a try.
-fn input_of(reasons: Reasons) -> RunnerInput {
+fn input_of(layout: &Layout, reasons: Reasons) -> RunnerInput {
     let left = (vec![node(mark::NONE, &[Element::Variable(0)])], vec![]);
     let label = right_label(reasons.label);
     let right = (
@@ -80,12 +87,12 @@ fn input_of(reasons: Reasons) -> RunnerInput {
         ..rule(left, right, 1)
     };
     let main = try_command(call(0), Command::Skip, Command::Skip);
-    let mut nodes = node_slot(mark::NONE, false, &[1, 2, 3]).to_vec();
+    let mut nodes = layout.node_slot(mark::NONE, false, &[1, 2, 3][..layout.atoms.min(3)]);
     let one_slot = |lacking: bool, length: usize| if lacking { 0 } else { length };
-    nodes.extend(vec![0; one_slot(reasons.nodes, LAYOUT.node_length())]);
+    nodes.extend(vec![0; one_slot(reasons.nodes, layout.node_length())]);
     RunnerInput {
         nodes,
-        edges: vec![0; one_slot(reasons.edges, LAYOUT.edge_length())],
+        edges: vec![0; one_slot(reasons.edges, layout.edge_length())],
         records: if reasons.journal { 2 } else { 3 },
         fuel: 10,
         program: encode::program(&Program::without_procedures(vec![rule], main)),
@@ -221,7 +228,7 @@ fn at_loops(looped: Looped) -> RunnerInput {
 #[cfg(test)]
 mod tests {
     use super::*;
-    use crate::listing::run_input;
+    use crate::listing::{run_input, run_input_at};
 
     #[test]
     fn the_first_reason_of_6_3_4_5_is_answered() {
@@ -234,7 +241,10 @@ mod tests {
                 (true, 0),
             ];
             let first = in_order.into_iter().find(|(holds, _)| *holds).unwrap().1;
-            assert_eq!(run_input(&input_of(reasons)).answer, first, "{reasons:?}");
+            for layout in [LAYOUT, &Layout::SMALL] {
+                let outcome = run_input_at(layout, &input_of(layout, reasons));
+                assert_eq!(outcome.answer, first, "{reasons:?}");
+            }
         }
     }
 

@@ -5,7 +5,6 @@ use super::broken_inputs::*;
 use super::broken_modes::break_mode;
 use super::broken_programs::*;
 use super::drafts::Draft;
-use super::LAYOUT;
 use crate::encode::runner_input;
 use crate::random::Random;
 
@@ -17,7 +16,7 @@ enum Kind {
     Placement,
     Calls,
     Layout,
-    OldTables,
+    ForeignTables,
     Procedures,
     Mode,
     Guarded,
@@ -37,7 +36,7 @@ const KINDS: [(Kind, usize); 16] = [
     (Kind::Placement, 10),
     (Kind::Calls, 32),
     (Kind::Layout, 16),
-    (Kind::OldTables, 12),
+    (Kind::ForeignTables, 12),
     (Kind::Procedures, 32),
     (Kind::Mode, 18),
     (Kind::Guarded, 13),
@@ -60,18 +59,19 @@ pub fn damaged(random: &mut Random, mut draft: Draft) -> Vec<u8> {
     for kind in &kinds {
         damage_tree(random, *kind, &mut draft);
     }
+    let layout = draft.layout;
     let mut input = draft.input();
     for kind in &kinds {
         match kind {
-            Kind::Layout => break_layout(random, &draft.host, &mut input),
-            Kind::OldTables => old_tables(random, &draft.host, &mut input),
+            Kind::Layout => break_layout(random, &draft, &mut input),
+            Kind::ForeignTables => foreign_tables(random, &draft, &mut input),
             Kind::Procedures => break_procedures(random, &draft.program, &mut input.program),
             Kind::Mode => break_mode(random, &draft.program.rules, &mut input.program),
             Kind::Guarded => break_guarded(random, &mut input.program),
             Kind::Bytes => mangle(random, &mut input.program),
             Kind::Length => make_too_long(random, &mut input.program),
-            Kind::Nodes => odd_length(random, &mut input.nodes, LAYOUT.node_length()),
-            Kind::Edges => odd_length(random, &mut input.edges, LAYOUT.edge_length()),
+            Kind::Nodes => odd_length(random, &mut input.nodes, layout.node_length()),
+            Kind::Edges => odd_length(random, &mut input.edges, layout.edge_length()),
             Kind::Fuel => input.fuel = too_much_fuel(random),
             _ => {}
         }

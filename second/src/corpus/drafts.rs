@@ -7,6 +7,7 @@ use super::palette::Palette;
 use super::rules::rules;
 use crate::calls::MOST_FUEL;
 use crate::encode::{self, RunnerInput};
+use crate::layout::Layout;
 use crate::random::Random;
 use crate::tree::*;
 
@@ -15,6 +16,8 @@ const WITH_PROCEDURES: usize = 40;
 
 #[derive(Clone, Debug)]
 pub struct Draft {
+    /// The layout of its tables and of its journal.
+    pub layout: &'static Layout,
     pub host: Host,
     pub program: Program,
     pub records: u16,
@@ -44,8 +47,8 @@ impl Extent {
 }
 
 impl Draft {
-    pub fn draw(random: &mut Random) -> Draft {
-        let palette = Palette::draw(random);
+    pub fn draw(random: &mut Random, layout: &'static Layout) -> Draft {
+        let palette = Palette::draw(random, layout);
         let size = Size::draw(random);
         let host = Host::draw(random, &palette, size);
         let extent = Extent::draw(random);
@@ -64,17 +67,18 @@ impl Draft {
         }
         let fuel = fuel(random, most_fuel(&host, &program));
         Draft {
+            layout: palette.layout,
             host,
             program,
-            records: records(random),
+            records: records(random, palette.layout),
             fuel,
         }
     }
 
     pub fn input(&self) -> RunnerInput {
         RunnerInput {
-            nodes: self.host.node_table(),
-            edges: self.host.edge_table(),
+            nodes: self.host.node_table(self.layout),
+            edges: self.host.edge_table(self.layout),
             records: self.records,
             fuel: self.fuel,
             program: encode::program(&self.program),
@@ -113,11 +117,14 @@ fn fuel(random: &mut Random, most: usize) -> u32 {
     drawn.min(most) as u32
 }
 
-fn records(random: &mut Random) -> u16 {
+/// Ample records mostly. At a layout of few records now and then one more than there may be.
+fn records(random: &mut Random, layout: &Layout) -> u16 {
+    let most = layout.most_records;
     let drawn = match random.weighted(&[3, 12, 68, 17]) {
         0 => random.below(10),
         1 => random.between(10, 40),
-        2 => random.between(100, 400),
+        2 => random.between(100, most.min(400)),
+        _ if most < 256 => random.pick(&[most - 1, most, most, most, most, most + 1]),
         _ => random.pick(&[255, 256, 257, 1023, 1024]),
     };
     drawn as u16

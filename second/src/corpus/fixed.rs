@@ -1,4 +1,4 @@
-//! The images at the front of every corpus: the cases of document 01, corners that random images meet seldom, long labels, modes
+//! The wide core's images at the front of every corpus: the cases of document 01, corners that random images meet seldom, long labels, modes
 //! of rules, groupings of sequences, procedures, an image for each clause that can refuse, the accepted ones that stand beside them, and some refused
 //! twice over.
 
@@ -9,6 +9,7 @@ use super::long_labels::long_labels;
 use super::mode_programs::mode_programs;
 use super::modes::modes;
 use super::procedures::procedures;
+use super::LAYOUT;
 use crate::encode::{runner_input, RunnerInput};
 use crate::refusals::{of_run, of_runner, run_refused_for};
 use std::sync::OnceLock;
@@ -30,9 +31,9 @@ fn cases_and_refusals() -> Vec<Vec<u8>> {
     inputs.extend(mode_programs());
     inputs.extend(groupings());
     inputs.extend(procedures());
-    let calls = of_run();
-    inputs.extend(calls.iter().filter_map(|it| it.accepted.runner_input()));
-    inputs.extend(calls.iter().filter_map(|it| it.refused.runner_input()));
+    let calls = of_run(LAYOUT);
+    inputs.extend(calls.iter().filter_map(|it| it.accepted.runner_input(LAYOUT)));
+    inputs.extend(calls.iter().filter_map(|it| it.refused.runner_input(LAYOUT)));
     inputs.extend(refused_twice());
     let mut images: Vec<Vec<u8>> = inputs.iter().map(runner_input).collect();
     for it in of_runner() {
@@ -48,11 +49,11 @@ fn refused_twice() -> Vec<RunnerInput> {
     for (index, low) in NUMBERS.into_iter().enumerate() {
         pairs.extend(NUMBERS[index + 1..].iter().map(|high| [low, *high]));
     }
-    let calls = pairs.iter().map(|pair| run_refused_for(pair));
-    calls.filter_map(|call| call.runner_input()).collect()
+    let calls = pairs.iter().map(|pair| run_refused_for(LAYOUT, pair));
+    calls.filter_map(|call| call.runner_input(LAYOUT)).collect()
 }
 
-fn each_once(images: Vec<Vec<u8>>) -> Vec<Vec<u8>> {
+pub fn each_once(images: Vec<Vec<u8>>) -> Vec<Vec<u8>> {
     let mut once: Vec<Vec<u8>> = Vec::new();
     for image in images {
         if image.len() <= MOST_BYTES && !once.contains(&image) {

@@ -1,7 +1,6 @@
 //! Random host graphs with free slots between the live ones, and what can be asked of them.
 
 use super::palette::Palette;
-use super::LAYOUT;
 use crate::layout::Layout;
 use crate::random::Random;
 
@@ -143,16 +142,8 @@ impl Host {
             .count()
     }
 
-    pub fn node_table(&self) -> Vec<u8> {
-        self.node_table_at(LAYOUT)
-    }
-
-    pub fn edge_table(&self) -> Vec<u8> {
-        self.edge_table_at(LAYOUT)
-    }
-
     /// The node table at a layout; what it can't hold of a label is left out.
-    pub fn node_table_at(&self, layout: &Layout) -> Vec<u8> {
+    pub fn node_table(&self, layout: &Layout) -> Vec<u8> {
         let slot = |node: &Option<Node>| match node {
             Some(node) => layout.node_slot(node.mark, node.root, held(layout, &node.label)),
             None => vec![0; layout.node_length()],
@@ -161,7 +152,7 @@ impl Host {
     }
 
     /// The edge table at a layout; what it can't hold of a label is left out.
-    pub fn edge_table_at(&self, layout: &Layout) -> Vec<u8> {
+    pub fn edge_table(&self, layout: &Layout) -> Vec<u8> {
         let slot = |edge: &Option<Edge>| match edge {
             Some(edge) => {
                 let (source, target) = (edge.source as u16, edge.target as u16);

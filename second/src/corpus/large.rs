@@ -5,56 +5,85 @@ use super::drafts::{Draft, Extent};
 use super::fixed::MOST_BYTES;
 use super::hosts::{new_edge, Host, Size};
 use super::palette::Palette;
-use super::LAYOUT;
 use crate::answer;
 use crate::build::*;
 use crate::encode::{self, runner_input, RunnerInput};
-use crate::listing::run_input;
+use crate::layout::{Core, Layout};
+use crate::listing::run_input_at;
 use crate::random::Random;
 use crate::tree::*;
 
-/// The slots of the greatest tables.
-const NODE_SLOTS: usize = LAYOUT.most_nodes;
-const EDGE_SLOTS: usize = LAYOUT.most_edges;
-const RECORDS: u16 = LAYOUT.most_records as u16;
+/// A kind of large image.
+#[derive(Clone, Copy, Debug)]
+pub enum Kind {
+    FullTables,
+    ScatteredInTables,
+    ProgramOfMostBytes,
+    RootOnAPath,
+    FilledUp,
+    LongestProgram,
+    LongestTable,
+    ManyRules,
+}
 
-/// How many kinds of large images there are.
-pub const KINDS: u64 = 8;
+/// The kinds of large images of a core, one after the other. What is about the length of programs and inputs alone comes at the
+/// wide core.
+pub const fn kinds(core: Core) -> &'static [Kind] {
+    use Kind::*;
+    match core {
+        Core::Wide => &[
+            FullTables,
+            ScatteredInTables,
+            ProgramOfMostBytes,
+            RootOnAPath,
+            FilledUp,
+            LongestProgram,
+            LongestTable,
+            ManyRules,
+        ],
+        Core::Small => &[FullTables, ScatteredInTables, RootOnAPath, FilledUp],
+    }
+}
 
-pub fn large(random: &mut Random, kind: u64) -> Vec<u8> {
-    let input = match kind {
-        0 => with_result(random, full_tables),
-        1 => with_result(random, scattered_in_tables),
-        2 => with_result(random, |random| program_of(random, limit::IMAGE_BYTES)),
-        3 => root_on_a_path(),
-        4 => filled_up(random),
-        5 => longest_program(random),
-        6 => longest_table(random),
-        _ => with_result(random, many_rules),
+/// The large image of this number.
+pub fn large(random: &mut Random, core: Core, number: u64) -> Vec<u8> {
+    let (kinds, layout) = (kinds(core), core.layout());
+    let input = match kinds[number as usize % kinds.len()] {
+        Kind::FullTables => with_result(random, layout, full_tables),
+        Kind::ScatteredInTables => with_result(random, layout, scattered_in_tables),
+        Kind::ProgramOfMostBytes => with_result(random, layout, |random, layout| program_of(random, layout, limit::IMAGE_BYTES)),
+        Kind::RootOnAPath => root_on_a_path(layout),
+        Kind::FilledUp => filled_up(random, layout),
+        Kind::LongestProgram => longest_program(random, layout),
+        Kind::LongestTable => longest_table(random, layout),
+        Kind::ManyRules => with_result(random, layout, many_rules),
     };
     runner_input(&input)
 }
 
+/// Draws an input for a layout.
+type Draw = fn(&mut Random, &'static Layout) -> RunnerInput;
+
 /// An input whose run gives a result with changes in it, if a few draws give one.
-fn with_result(random: &mut Random, draw: impl Fn(&mut Random) -> RunnerInput) -> RunnerInput {
+fn with_result(random: &mut Random, layout: &'static Layout, draw: Draw) -> RunnerInput {
     const DRAWS: usize = 20;
-    let mut input = draw(random);
+    let mut input = draw(random, layout);
     for _ in 1..DRAWS {
-        let outcome = run_input(&input);
+        let outcome = run_input_at(layout, &input);
         if outcome.answer == answer::RESULT && outcome.journal.iter().any(|byte| *byte != 0) {
             break;
         }
-        input = draw(random);
+        input = draw(random, layout);
     }
     input
 }
 
-fn small_draft(random: &mut Random) -> Draft {
+fn small_draft(random: &mut Random, layout: &'static Layout) -> Draft {
     let size = Size {
         nodes: random.between(2, 6),
         ..Size::draw(random)
     };
-    let palette = Palette::draw(random);
+    let palette = Palette::draw(random, layout);
     let host = Host::draw(random, &palette, size);
     let extent = Extent {
         rules: 8,
@@ -65,18 +94,18 @@ fn small_draft(random: &mut Random) -> Draft {
 }
 
 /// Every slot of both tables is live.
-fn full_tables(random: &mut Random) -> RunnerInput {
-    let palette = Palette::draw(random);
+fn full_tables(random: &mut Random, layout: &'static Layout) -> RunnerInput {
+    let palette = Palette::draw(random, layout);
     let size = Size {
-        nodes: NODE_SLOTS,
+        nodes: layout.most_nodes,
         free_nodes: 0,
         more_edges: 0,
         free_edges: 0,
     };
     let mut host = Host::draw(random, &palette, size);
-    host.edges.truncate(EDGE_SLOTS);
-    while host.edges.len() < EDGE_SLOTS {
-        let (source, target) = (random.below(NODE_SLOTS), random.below(NODE_SLOTS));
+    host.edges.truncate(layout.most_edges);
+    while host.edges.len() < layout.most_edges {
+        let (source, target) = (random.below(layout.most_nodes), random.below(layout.most_nodes));
         host.edges
             .push(Some(new_edge(random, &palette, source, target)));
     }
@@ -84,8 +113,8 @@ fn full_tables(random: &mut Random) -> RunnerInput {
 }
 
 /// A few live slots anywhere in the greatest tables.
-fn scattered_in_tables(random: &mut Random) -> RunnerInput {
-    let palette = Palette::draw(random);
+fn scattered_in_tables(random: &mut Random, layout: &'static Layout) -> RunnerInput {
+    let palette = Palette::draw(random, layout);
     let size = Size {
         nodes: 20,
         free_nodes: 0,
@@ -93,13 +122,13 @@ fn scattered_in_tables(random: &mut Random) -> RunnerInput {
         free_edges: 0,
     };
     let mut host = Host::draw(random, &palette, size);
-    let places = spread(random, host.nodes.len(), NODE_SLOTS);
+    let places = spread(random, host.nodes.len(), layout.most_nodes);
     for edge in host.edges.iter_mut().flatten() {
         (edge.source, edge.target) = (places[edge.source], places[edge.target]);
     }
-    let edge_places = spread(random, host.edges.len(), EDGE_SLOTS);
-    host.nodes = moved(host.nodes, &places, NODE_SLOTS);
-    host.edges = moved(host.edges, &edge_places, EDGE_SLOTS);
+    let edge_places = spread(random, host.edges.len(), layout.most_edges);
+    host.nodes = moved(host.nodes, &places, layout.most_nodes);
+    host.edges = moved(host.edges, &edge_places, layout.most_edges);
     over(random, &palette, host)
 }
 
@@ -132,7 +161,7 @@ fn over(random: &mut Random, palette: &Palette, host: Host) -> RunnerInput {
     loop {
         let draft = Draft::over(random, palette, host.clone(), extent);
         let input = Draft {
-            records: RECORDS,
+            records: palette.layout.most_records as u16,
             ..draft
         }
         .input();
@@ -143,9 +172,9 @@ fn over(random: &mut Random, palette: &Palette, host: Host) -> RunnerInput {
 }
 
 /// A program of exactly so many bytes: what is missing stands where no run comes to.
-fn program_of(random: &mut Random, bytes: usize) -> RunnerInput {
+fn program_of(random: &mut Random, layout: &'static Layout, bytes: usize) -> RunnerInput {
     loop {
-        let mut draft = small_draft(random);
+        let mut draft = small_draft(random, layout);
         let main = draft.program.main.clone();
         draft.program.main = if_command(Command::Skip, main.clone(), Command::Skip);
         let length = encode::program(&draft.program).len();
@@ -181,15 +210,15 @@ fn filler(bytes: usize) -> Command {
     }
 }
 
-/// A root walks along a path whose slots have two-byte numbers, and takes the path away behind it.
-fn root_on_a_path() -> RunnerInput {
-    const LAST: u16 = 299;
-    let node = |slot: u16| encode::node_slot(mark::NONE, slot == 0, &[i32::from(slot)]);
-    let edge = |slot: u16| encode::edge_slot(mark::DASHED, slot, slot + 1, &[]);
+/// A root walks along a path, whose slots have two-byte numbers if the table can have as many, and takes the path away behind it.
+fn root_on_a_path(layout: &Layout) -> RunnerInput {
+    let last = layout.most_nodes.min(300) as u16 - 1;
+    let node = |slot: u16| layout.node_slot(mark::NONE, slot == 0, &[i32::from(slot)]);
+    let edge = |slot: u16| layout.edge_slot(mark::DASHED, slot, slot + 1, &[]);
     RunnerInput {
-        nodes: (0..=LAST).flat_map(node).collect(),
-        edges: (0..LAST).flat_map(edge).collect(),
-        records: RECORDS,
+        nodes: (0..=last).flat_map(node).collect(),
+        edges: (0..last).flat_map(edge).collect(),
+        records: layout.most_records as u16,
         fuel: 1000,
         program: encode::program(&Program::without_procedures(
             vec![one_step()],
@@ -216,29 +245,30 @@ fn one_step() -> Rule {
 }
 
 /// The greatest node table, all free, which one rule fills until it is full or the journal is.
-fn filled_up(random: &mut Random) -> RunnerInput {
+fn filled_up(random: &mut Random, layout: &'static Layout) -> RunnerInput {
     let new_nodes = vec![root(mark::GREY, &[Element::Constant(-1)]); random.between(1, 3)];
     let rule = node_rule(&[], &new_nodes, 0);
+    let nodes = layout.most_nodes;
     RunnerInput {
-        nodes: vec![0; NODE_SLOTS * LAYOUT.node_length()],
+        nodes: vec![0; nodes * layout.node_length()],
         edges: vec![],
-        records: random.pick(&[511, 512, RECORDS]),
+        records: random.pick(&[nodes - 1, nodes, layout.most_records]) as u16,
         fuel: 1000,
         program: encode::program(&Program::without_procedures(vec![rule], looped(call(0)))),
     }
 }
 
 /// An input of the greatest length that the corpus holds; its program is too long.
-fn longest_program(random: &mut Random) -> RunnerInput {
-    let mut input = small_draft(random).input();
+fn longest_program(random: &mut Random, layout: &'static Layout) -> RunnerInput {
+    let mut input = small_draft(random, layout).input();
     let missing = MOST_BYTES - runner_input(&input).len();
     input.program.extend(vec![0x55; missing]);
     input
 }
 
 /// An input of the greatest length that the corpus holds; one of its tables is too long.
-fn longest_table(random: &mut Random) -> RunnerInput {
-    let mut input = small_draft(random).input();
+fn longest_table(random: &mut Random, layout: &'static Layout) -> RunnerInput {
+    let mut input = small_draft(random, layout).input();
     let missing = MOST_BYTES - runner_input(&input).len();
     let table = if random.chance(50) {
         &mut input.nodes
@@ -250,9 +280,9 @@ fn longest_table(random: &mut Random) -> RunnerInput {
 }
 
 /// As many rules as there may be.
-fn many_rules(random: &mut Random) -> RunnerInput {
+fn many_rules(random: &mut Random, layout: &'static Layout) -> RunnerInput {
     loop {
-        let palette = Palette::draw(random);
+        let palette = Palette::draw(random, layout);
         let nodes = random.between(6, 9);
         let size = Size {
             nodes,

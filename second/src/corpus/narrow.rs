@@ -1,21 +1,20 @@
 //! Room and fuel cut to what a run needs, or to one less: the bounds at which the answer changes.
 
-use super::LAYOUT;
 use crate::encode::RunnerInput;
-use crate::layout::place;
-use crate::listing::run_input;
+use crate::layout::{place, Layout};
+use crate::listing::run_input_at;
 use crate::random::Random;
 
-pub fn narrow(random: &mut Random, input: &mut RunnerInput) {
-    input.records = LAYOUT.most_records as u16;
-    let outcome = run_input(input);
+pub fn narrow(random: &mut Random, layout: &Layout, input: &mut RunnerInput) {
+    input.records = layout.most_records as u16;
+    let outcome = run_input_at(layout, input);
     let (steps, records) = outcome.reported();
     let less = random.pick(&[0, 0, 0, 1, 2]);
     match random.weighted(&[28, 18, 27, 27]) {
         0 => input.fuel = steps.saturating_sub(less),
         1 => input.records = records.saturating_sub(less) as u16,
-        2 => cut(&mut input.nodes, &outcome.nodes, LAYOUT.node_length(), less),
-        _ => cut(&mut input.edges, &outcome.edges, LAYOUT.edge_length(), less),
+        2 => cut(&mut input.nodes, &outcome.nodes, layout.node_length(), less),
+        _ => cut(&mut input.edges, &outcome.edges, layout.edge_length(), less),
     }
 }
 

@@ -1,22 +1,27 @@
 //! A palette: the few marks, atoms and label lengths that one image is drawn from. Host and rules share it, so
 //! that what a rule asks for occurs in the host, and what a rule makes can be asked for again.
 
-use super::LAYOUT;
+use crate::layout::Layout;
 use crate::random::Random;
 use crate::tree::mark;
 
 const NODE_MARKS: [u8; 5] = [mark::NONE, mark::RED, mark::GREEN, mark::BLUE, mark::GREY];
 const EDGE_MARKS: [u8; 5] = [mark::NONE, mark::RED, mark::GREEN, mark::BLUE, mark::DASHED];
 
-/// How often a label of each length comes, in percent: node labels, then edge labels.
-const NODE_LENGTHS: [usize; LAYOUT.atoms + 1] = [14, 36, 18, 11, 7, 4, 3, 2, 5];
-const EDGE_LENGTHS: [usize; LAYOUT.atoms + 1] = [48, 23, 9, 7, 4, 2, 2, 2, 3];
+/// How often a label of each length that the layout can hold comes, by weight: node labels, then edge labels.
+const NODE_LENGTHS: [usize; Layout::BASE.atoms + 1] = [14, 36, 18, 11, 7, 4, 3, 2, 5];
+const EDGE_LENGTHS: [usize; Layout::BASE.atoms + 1] = [48, 23, 9, 7, 4, 2, 2, 2, 3];
+
+/// The lengths of a label of which node labels differ in the last atom alone, as often as they come.
+const PATTERN_LENGTHS: [usize; 10] = [2, 2, 3, 3, 4, 4, 5, 6, 7, Layout::BASE.atoms];
 
 /// Atoms at which a sum or difference leaves 32 bits easily.
 const EXTREMES: [i32; 5] = [i32::MAX, i32::MIN, i32::MAX - 1, i32::MIN + 1, 0x4000_0000];
 
 #[derive(Clone, Debug)]
 pub struct Palette {
+    /// The layout that the image is for.
+    pub layout: &'static Layout,
     pub node_marks: Vec<u8>,
     pub edge_marks: Vec<u8>,
     pub atoms: Vec<i32>,
@@ -30,18 +35,19 @@ pub struct Palette {
 }
 
 impl Palette {
-    pub fn draw(random: &mut Random) -> Palette {
+    pub fn draw(random: &mut Random, layout: &'static Layout) -> Palette {
         let atoms = some_atoms(random);
         let node_kinds = random.between(1, 3);
         let edge_kinds = random.between(1, 2);
         Palette {
+            layout,
             node_marks: some_marks(random, NODE_MARKS, node_kinds),
             edge_marks: some_marks(random, EDGE_MARKS, edge_kinds),
-            pattern: pattern(random, &atoms),
+            pattern: pattern(random, layout, &atoms),
             extreme: atoms.iter().any(|atom| EXTREMES.contains(atom)),
             atoms,
-            node_lengths: lengths(random, &NODE_LENGTHS),
-            edge_lengths: lengths(random, &EDGE_LENGTHS),
+            node_lengths: lengths(random, &NODE_LENGTHS[..=layout.atoms]),
+            edge_lengths: lengths(random, &EDGE_LENGTHS[..=layout.atoms]),
             root_percent: random.pick(&[0, 0, 10, 30, 60]),
         }
     }
@@ -112,8 +118,8 @@ fn some_atoms(random: &mut Random) -> Vec<i32> {
     atoms
 }
 
-fn pattern(random: &mut Random, atoms: &[i32]) -> Option<Vec<i32>> {
-    let length = random.pick(&[2, 2, 3, 3, 4, 4, 5, 6, 7, LAYOUT.atoms]);
+fn pattern(random: &mut Random, layout: &Layout, atoms: &[i32]) -> Option<Vec<i32>> {
+    let length = random.pick(&PATTERN_LENGTHS).min(layout.atoms);
     let drawn = (0..length).map(|_| random.pick(atoms)).collect();
     random.chance(20).then_some(drawn)
 }

@@ -7,6 +7,7 @@ use super::lefts::{Left, Value};
 use super::palette::Palette;
 use super::rights::{right, Goal};
 use super::values::{atoms, new_label};
+use crate::layout::Layout;
 use crate::random::Random;
 use crate::tree::*;
 
@@ -64,7 +65,7 @@ fn draw(random: &mut Random, palette: &Palette, host: &Host, most: usize) -> (Dr
         _ => ordinary_rule(random, palette, host, &left),
     };
     drawn.rule.mode = mode;
-    let after = applied(host, &left, &drawn.rule);
+    let after = applied(palette.layout, host, &left, &drawn.rule);
     let mut drawn = spoilt(random, palette, drawn);
     if left.values.len() < limit::VARIABLES && random.chance(4) {
         let unused = random.pick(&[VariableType::Int, VariableType::List]);
@@ -209,10 +210,10 @@ fn raises_marks(rule: &Rule) -> bool {
 }
 
 /// Puts the right nodes where they stood or in free slots; the slot of each.
-fn put_nodes(after: &mut Host, host: &Host, left: &Left, rule: &Rule) -> Option<Vec<usize>> {
+fn put_nodes(layout: &Layout, after: &mut Host, host: &Host, left: &Left, rule: &Rule) -> Option<Vec<usize>> {
     let mut slots = Vec::new();
     for (index, node) in rule.right.nodes.iter().enumerate() {
-        let label = atoms(&node.label, &left.values)?;
+        let label = atoms(layout, &node.label, &left.values)?;
         let kept = left.nodes[..left.interface].get(index).copied();
         let slot = match kept {
             Some(slot) => slot,
@@ -236,7 +237,7 @@ fn put_nodes(after: &mut Host, host: &Host, left: &Left, rule: &Rule) -> Option<
 }
 
 /// The host after the rule is applied at the placement, if there is room for it and its labels can be held.
-fn applied(host: &Host, left: &Left, rule: &Rule) -> Option<Host> {
+fn applied(layout: &Layout, host: &Host, left: &Left, rule: &Rule) -> Option<Host> {
     let mut after = host.clone();
     for slot in &left.edges {
         after.edges[*slot] = None;
@@ -244,9 +245,9 @@ fn applied(host: &Host, left: &Left, rule: &Rule) -> Option<Host> {
     for slot in &left.nodes[left.interface..] {
         after.nodes[*slot] = None;
     }
-    let slots = put_nodes(&mut after, host, left, rule)?;
+    let slots = put_nodes(layout, &mut after, host, left, rule)?;
     for edge in &rule.right.edges {
-        let label = atoms(&edge.label, &left.values)?;
+        let label = atoms(layout, &edge.label, &left.values)?;
         let slot = after.edges.iter().position(Option::is_none)?;
         let (source, target) = (slots[edge.source as usize], slots[edge.target as usize]);
         after.edges[slot] = Some(Edge {

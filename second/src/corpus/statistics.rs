@@ -1,15 +1,15 @@
-//! What running a corpus exercises: how often each answer occurs, and the counters of the second interpreter.
+//! What running the images of a core exercises: how often each answer occurs, and the counters of the second interpreter.
 
 use super::lengths::Lengths;
-use super::LAYOUT;
 use crate::decode;
 use crate::encode::RunnerInput;
 use crate::exercised::{Exercised, TestCounts, FIRST_LONG};
+use crate::layout::{Core, Layout};
 use crate::listing::{call_of, read_input};
 use crate::tree::{Command, Program};
 use std::collections::BTreeMap;
-use std::fmt;
 
+/// Of the images of one core.
 #[derive(Clone, Debug, Default, PartialEq, Eq)]
 pub struct Statistics {
     pub images: u64,
@@ -33,34 +33,34 @@ pub struct Counter {
 const FIRST_REFUSAL: u32 = 9;
 
 impl Statistics {
-    pub fn of(images: &[&[u8]]) -> Statistics {
+    pub fn of<'a>(core: Core, images: impl IntoIterator<Item = &'a [u8]>) -> Statistics {
         let mut statistics = Statistics::default();
         let (exercised, lengths) = (Exercised::default(), Lengths::default());
         statistics.add_counters(&exercised, Procedures::default(), lengths);
         for image in images {
-            statistics.add(image);
+            statistics.add(core.layout(), image);
         }
         statistics
     }
 
-    fn add(&mut self, image: &[u8]) {
+    fn add(&mut self, layout: &Layout, image: &[u8]) {
         self.images += 1;
         self.bytes += image.len() as u64;
         match read_input(image) {
-            Some(input) => self.add_run(&input),
+            Some(input) => self.add_run(layout, &input),
             None => self.refused += 1,
         }
     }
 
-    fn add_run(&mut self, input: &RunnerInput) {
+    fn add_run(&mut self, layout: &Layout, input: &RunnerInput) {
         let mut exercised = Exercised::default();
-        let outcome = call_of(LAYOUT, input).outcome_at(LAYOUT, &mut exercised);
+        let outcome = call_of(layout, input).outcome_at(layout, &mut exercised);
         let started = outcome.answer < FIRST_REFUSAL;
         *self.answers.entry(outcome.answer).or_default() += 1;
         self.started += u64::from(started);
         let program = decode::program(&input.program).ok();
         let procedures = program.filter(|_| started).map(|it| Procedures::of(&it));
-        let lengths = Lengths::of(input, outcome.answer);
+        let lengths = Lengths::of(layout, input, outcome.answer);
         self.add_counters(&exercised, procedures.unwrap_or_default(), lengths);
     }
 
@@ -160,8 +160,10 @@ fn named(exercised: &Exercised) -> Vec<(String, u64)> {
     named.extend(named_numbers("loop, in-degree", 0, &e.in_degree_at_loops));
     named.extend(named_numbers("loop, in-degree not", 0, &e.not_in_degree_at_loops));
     named.extend(named_numbers("left elements", FIRST_LONG, &e.left_elements));
+    named.extend(named_numbers("variable atoms", 0, &e.short_values));
     named.extend(named_numbers("list variable atoms", FIRST_LONG, &e.list_atoms));
     named.extend(named_numbers("right elements", FIRST_LONG, &e.right_elements));
+    named.extend(named_numbers("right label atoms", 0, &e.short_label_atoms));
     named.extend(named_numbers("right label atoms", FIRST_LONG, &e.label_atoms));
     named
 }
@@ -183,28 +185,4 @@ fn named_tests(outcome: &str, counts: &TestCounts) -> [(String, u64); 5] {
         ("less", counts.less),
     ];
     kinds.map(|(kind, count)| (format!("{kind} tests {outcome}"), count))
-}
-
-impl fmt::Display for Statistics {
-    fn fmt(&self, out: &mut fmt::Formatter) -> fmt::Result {
-        writeln!(
-            out,
-            "{} images, {} bytes, {} runs started",
-            self.images, self.bytes, self.started
-        )?;
-        writeln!(out, "\n{:<26} {:>7}", "answer", "images")?;
-        for (answer, count) in &self.answers {
-            writeln!(out, "{answer:<26} {count:>7}")?;
-        }
-        writeln!(out, "{:<26} {:>7}", "input refused", self.refused)?;
-        writeln!(out, "\n{:<26} {:>7} {:>9}", "exercised", "images", "times")?;
-        for counter in &self.counters {
-            writeln!(
-                out,
-                "{:<26} {:>7} {:>9}",
-                counter.name, counter.images, counter.total
-            )?;
-        }
-        Ok(())
-    }
 }

@@ -3,12 +3,12 @@
 
 use super::lefts::{Left, Value};
 use super::palette::Palette;
-use super::LAYOUT;
+use crate::layout::Layout;
 use crate::random::Random;
 use crate::tree::*;
 
 /// The atoms of a label, or nothing if a sum or difference leaves 32 bits or there are too many of them.
-pub fn atoms(label: &[Element], values: &[Value]) -> Option<Vec<i32>> {
+pub fn atoms(layout: &Layout, label: &[Element], values: &[Value]) -> Option<Vec<i32>> {
     let mut atoms = Vec::new();
     for element in label {
         match element {
@@ -23,7 +23,7 @@ pub fn atoms(label: &[Element], values: &[Value]) -> Option<Vec<i32>> {
             }
         }
     }
-    LAYOUT.holds(atoms.len()).then_some(atoms)
+    layout.holds(atoms.len()).then_some(atoms)
 }
 
 /// The number of an operand. Operands name int variables alone.
@@ -55,7 +55,7 @@ const ELEMENTS: [usize; limit::ELEMENTS + 1] = [10, 43, 26, 11, 5, 2, 1, 1, 1];
 /// A label for the right side that nearly always can be held in the placement.
 pub fn new_label(random: &mut Random, palette: &Palette, left: &Left) -> Vec<Element> {
     if random.chance(6) {
-        let atoms = LAYOUT.atoms + usize::from(random.chance(30));
+        let atoms = palette.layout.atoms + usize::from(random.chance(30));
         return label_of_atoms(random, palette, left, atoms);
     }
     let careless = random.chance(if palette.extreme { 30 } else { 7 });
@@ -64,7 +64,7 @@ pub fn new_label(random: &mut Random, palette: &Palette, left: &Left) -> Vec<Ele
         let label: Vec<Element> = (0..length)
             .map(|_| new_element(random, palette, left))
             .collect();
-        if careless || atoms(&label, &left.values).is_some() {
+        if careless || atoms(palette.layout, &label, &left.values).is_some() {
             return label;
         }
     }

@@ -1,5 +1,6 @@
-//! The refusals of the calls widen and narrow.
+//! The refusals of the calls widen, narrow, pack and unpack.
 
+use super::packing;
 use super::slots::{damages, Damage, Zeros};
 use super::{refusal, Refusal, UNTOUCHED};
 use crate::carrying::{CarryCall, Way};
@@ -17,12 +18,17 @@ pub struct Carrying {
 impl Carrying {
     /// Of a host that both tables of the layout can hold, to as many slots of bytes that a change shows in.
     pub fn of(way: Way, host: &Host) -> Carrying {
+        Carrying::to_slots(way, host, host.nodes.len(), host.edges.len())
+    }
+
+    /// The same, to so many node and edge slots.
+    pub fn to_slots(way: Way, host: &Host, node_slots: usize, edge_slots: usize) -> Carrying {
         let (from, to) = (way.from(), way.to());
         let call = CarryCall {
             nodes: host.node_table(from),
             edges: host.edge_table(from),
-            to_nodes: vec![UNTOUCHED; host.nodes.len() * to.node_length()],
-            to_edges: vec![UNTOUCHED; host.edges.len() * to.edge_length()],
+            to_nodes: vec![UNTOUCHED; node_slots * to.node_length()],
+            to_edges: vec![UNTOUCHED; edge_slots * to.edge_length()],
         };
         Carrying { way, call }
     }
@@ -33,40 +39,68 @@ impl Carrying {
     }
 }
 
-/// Nodes 0 and 2 of three slots live, edges 0 and 2 of three likewise.
-fn host() -> Host {
-    let node = |mark, root, atoms: &[i32]| Node { mark, root, label: Label::of(atoms) };
-    let edge = |mark, source, target, atoms: &[i32]| Edge { mark, source, target, label: Label::of(atoms) };
+/// Nodes 0 and 2 of three slots live, edges 0 and 2 of three likewise. Their labels have two and three atoms where both layouts can
+/// hold as many.
+pub(super) fn host(way: Way) -> Host {
+    let most = most_atoms(way);
+    let label = |atoms: &[i32]| Label::of(&atoms[..atoms.len().min(most)]);
+    let node = |mark, root, atoms: &[i32]| Node { mark, root, label: label(atoms) };
+    let edge = |mark, source, target, atoms: &[i32]| Edge { mark, source, target, label: label(atoms) };
     Host {
         nodes: vec![Some(node(mark::NONE, false, &[])), None, Some(node(mark::GREY, true, &[7, -7]))],
         edges: vec![Some(edge(mark::NONE, 0, 2, &[])), None, Some(edge(mark::DASHED, 2, 2, &[1, 2, 3]))],
     }
 }
 
-fn accepted(way: Way) -> Carrying {
-    Carrying::of(way, &host())
+/// The most atoms of a label that both layouts can hold.
+fn most_atoms(way: Way) -> usize {
+    way.from().atoms.min(way.to().atoms)
 }
 
-/// The refusals of both calls, each beside an accepted carrying.
+fn accepted(way: Way) -> Carrying {
+    Carrying::of(way, &host(way))
+}
+
+/// The refusals of the calls, each beside an accepted carrying: of widen and narrow, then of pack and unpack.
 pub fn of_carrying() -> Vec<Refusal<Carrying>> {
     let mut refusals = Vec::new();
-    for way in Way::BOTH {
-        refusals.extend(tables(way).iter().flat_map(|table| lengths(way, table)));
+    for way in Way::OLD {
+        refusals.extend(tables(way).iter().flat_map(|table| lengths(way, table, &SLOTS)));
         refusals.push(too_many_nodes(way));
         refusals.extend(layout(way));
     }
-    refusals.extend(labels());
+    refusals.extend(labels(Way::Narrow, 26, &[5, 6, 7, 8]));
+    for way in Way::PACKING {
+        refusals.extend(tables(way).iter().flat_map(|table| lengths(way, table, &[])));
+        refusals.extend(packing::too_many_slots(way));
+        refusals.extend(layout(way));
+        refusals.extend(packing::live_slots(way));
+    }
+    refusals.extend(labels(Way::Pack, 29, &[2, 8]));
     refusals
 }
 
-/// A carrying that is refused for each of the numbers 10, 11, 15 and 26 given, and for no other. Only narrow is refused for 26.
+/// The numbers that can refuse a carrying of this way, in their order.
+pub fn numbers_of(way: Way) -> &'static [u32] {
+    match way {
+        Way::Widen => &[10, 11, 15],
+        Way::Narrow => &[10, 11, 15, 26],
+        Way::Pack | Way::Unpack => &[10, 11, 15, 29],
+    }
+}
+
+/// A carrying that is refused for each of these numbers of its way, and for no other.
 pub fn carrying_refused_for(way: Way, numbers: &[u32]) -> Carrying {
     let given = |number: u32| numbers.contains(&number);
-    let mut host = host();
-    if given(26) {
+    let mut host = host(way);
+    let unfit = given(26) || given(29);
+    if unfit && way.from().atoms > way.to().atoms {
         host.nodes[0] = Some(Node { mark: mark::NONE, root: false, label: Label::of(&[5; Layout::BASE.atoms]) });
     }
     let mut carrying = Carrying::of(way, &host);
+    if unfit && way == Way::Unpack {
+        carrying.call.to_nodes.truncate(2 * way.to().node_length());
+    }
     if given(15) {
         carrying.call.edges[place::MARK] = mark::GREY;
     }
@@ -98,8 +132,11 @@ fn tables(way: Way) -> [Table; 4] {
     ]
 }
 
-/// Lengths that are no multiple of a slot, or of another number of slots.
-fn lengths(way: Way, table: &Table) -> Vec<Refusal<Carrying>> {
+/// Slots more or less than the other side has, in words and their number. They refuse only where as many are asked for.
+const SLOTS: [(&str, isize); 4] = [("with a slot more", 1), ("with a slot less", -1), ("with two slots less", -2), ("of no slots", -3)];
+
+/// Lengths that are no multiple of a slot, or of another number of slots by these.
+fn lengths(way: Way, table: &Table, slots: &[(&str, isize)]) -> Vec<Refusal<Carrying>> {
     let slot = table.slot as isize;
     let changed = |name: &str, more: isize| {
         let refused = accepted(way).with(|call| {
@@ -109,15 +146,13 @@ fn lengths(way: Way, table: &Table) -> Vec<Refusal<Carrying>> {
         });
         refusal(&format!("{way:?}, {} {name}", table.words), table.answer, accepted(way), refused)
     };
-    vec![
+    let mut list = vec![
         changed("with a byte more", 1),
         changed("with a byte less", -1),
         changed("with all but a byte of a slot more", slot - 1),
-        changed("with a slot more", slot),
-        changed("with a slot less", -slot),
-        changed("with two slots less", -2 * slot),
-        changed("of no slots", -3 * slot),
-    ]
+    ];
+    list.extend(slots.iter().map(|(words, more)| changed(words, more * slot)));
+    list
 }
 
 /// Both node tables of a slot too many, beside full ones, with edges between the nodes of the greatest numbers. Full edge tables
@@ -145,7 +180,7 @@ fn broken(way: Way, name: &str, edit: impl Fn(&mut CarryCall)) -> Refusal<Carryi
 /// atoms the stored cases would have no room for drawn hosts.
 fn layout(way: Way) -> Vec<Refusal<Carrying>> {
     let broken_by = |damage: &Damage| broken(way, &damage.name, |call| damage.apply(&mut call.nodes, &mut call.edges));
-    let mut list: Vec<Refusal<Carrying>> = damages(way.from(), Zeros::OneOfAnAtom).iter().map(broken_by).collect();
+    let mut list: Vec<Refusal<Carrying>> = damages(way.from(), most_atoms(way), Zeros::OneOfAnAtom).iter().map(broken_by).collect();
     list.push(broken(way, "live edges and no node slots", |call| {
         call.nodes.clear();
         call.to_nodes.clear();
@@ -153,15 +188,16 @@ fn layout(way: Way) -> Vec<Refusal<Carrying>> {
     list
 }
 
-/// The number 26: labels of 5 to 8 atoms, in the first and the last slot of either table, beside labels of four.
-fn labels() -> Vec<Refusal<Carrying>> {
+/// Labels of so many atoms, in the first and the last slot of either table, which this number refuses, beside labels of the most
+/// atoms that are carried.
+fn labels(way: Way, answer: u32, lengths: &[usize]) -> Vec<Refusal<Carrying>> {
     let mut list = Vec::new();
-    for length in Layout::FOUR.atoms + 1..=Layout::BASE.atoms {
+    for length in lengths {
         for slot in [0, 2] {
             for item in ["node", "edge"] {
-                let of_atoms = |atoms: usize| Carrying::of(Way::Narrow, &labelled(item == "node", slot, atoms));
-                let name = format!("Narrow, {item} label of {length} atoms in slot {slot}");
-                list.push(refusal(&name, 26, of_atoms(Layout::FOUR.atoms), of_atoms(length)));
+                let of_atoms = |atoms: usize| Carrying::of(way, &labelled(way, item == "node", slot, atoms));
+                let name = format!("{way:?}, {item} label of {length} atoms in slot {slot}");
+                list.push(refusal(&name, answer, of_atoms(way.to().atoms), of_atoms(*length)));
             }
         }
     }
@@ -169,8 +205,8 @@ fn labels() -> Vec<Refusal<Carrying>> {
 }
 
 /// The host with another label of so many atoms in a live slot.
-fn labelled(of_node: bool, slot: usize, atoms: usize) -> Host {
-    let mut host = host();
+fn labelled(way: Way, of_node: bool, slot: usize, atoms: usize) -> Host {
+    let mut host = host(way);
     let label = Label::of(&vec![-3; atoms]);
     match of_node {
         true => host.nodes[slot].iter_mut().for_each(|node| node.label = label.clone()),

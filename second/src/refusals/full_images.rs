@@ -3,29 +3,30 @@
 use super::{refusal, run_with, Refusal, RunCall};
 use crate::build::{node, node_rule};
 use crate::encode::{self, field};
+use crate::layout::Layout;
 use crate::tree::limit::{COMMANDS, IMAGE_BYTES, RULE_NUMBERS};
 use crate::tree::{mark, Command};
 
 /// The number 14.
-pub(super) fn image_length() -> Refusal<RunCall> {
+pub(super) fn image_length(layout: &Layout) -> Refusal<RunCall> {
     let name = "image of 8,193 bytes full of guarded commands";
-    refusal(name, 14, longest(today), run(image(IMAGE_BYTES + 1, today)))
+    refusal(name, 14, longest(layout, today), run(layout, image(IMAGE_BYTES + 1, today)))
 }
 
 /// The number 16.
-pub(super) fn old_form() -> Refusal<RunCall> {
+pub(super) fn old_form(layout: &Layout) -> Refusal<RunCall> {
     let name = "image of 8,192 bytes in the old form";
-    refusal(name, 16, longest(today), longest(old))
+    refusal(name, 16, longest(layout, today), longest(layout, old))
 }
 
-fn longest(write: Write) -> RunCall {
-    run(image(IMAGE_BYTES, write))
+fn longest(layout: &Layout, write: Write) -> RunCall {
+    run(layout, image(IMAGE_BYTES, write))
 }
 
 /// A run with enough fuel for all commands of an image of the greatest length: each takes 3 bytes or more, and none is
 /// entered twice.
-fn run(program: Vec<u8>) -> RunCall {
-    run_with(|call| {
+fn run(layout: &Layout, program: Vec<u8>) -> RunCall {
+    run_with(layout, |call| {
         call.program = program.clone();
         call.fuel = IMAGE_BYTES as u32 / 3;
     })

@@ -3,6 +3,7 @@
 use super::{refusal, run_with, Refusal, RunCall};
 use crate::build::{self, edge, node};
 use crate::encode;
+use crate::layout::Layout;
 use crate::tree::{
     mark, Command, Element, Operand, Program, Relation, Rule, Test, TestKind, VariableType,
 };
@@ -14,8 +15,8 @@ pub(super) fn images(name: impl Into<String>, accepted: &[u8], refused: &[u8]) -
     (name.into(), accepted.to_vec(), refused.to_vec())
 }
 
-pub(super) fn refusals(answer: u32, images: Vec<Images>) -> Vec<Refusal<RunCall>> {
-    let call = |image: &Vec<u8>| run_with(|call| call.program = image.clone());
+pub(super) fn refusals(layout: &Layout, answer: u32, images: Vec<Images>) -> Vec<Refusal<RunCall>> {
+    let call = |image: &Vec<u8>| run_with(layout, |call| call.program = image.clone());
     let images = images.iter();
     images
         .map(|(name, accepted, refused)| refusal(name, answer, call(accepted), call(refused)))
@@ -23,9 +24,9 @@ pub(super) fn refusals(answer: u32, images: Vec<Images>) -> Vec<Refusal<RunCall>
 }
 
 /// The number 14.
-pub(super) fn image_length() -> Vec<Refusal<RunCall>> {
+pub(super) fn image_length(layout: &Layout) -> Vec<Refusal<RunCall>> {
     let of_bytes = |bytes| {
-        run_with(|call| {
+        run_with(layout, |call| {
             let rule = encode::rule(&rule());
             let command = encode::command(&command_of_bytes(bytes - rule.len()));
             call.program = [rule, command].concat();

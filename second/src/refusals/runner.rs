@@ -1,11 +1,9 @@
 //! Inputs that the runner refuses.
 
-use super::{Refusal, LAYOUT};
+use super::Refusal;
 use crate::encode::{self, field, RunnerInput};
-use crate::listing::INPUT_BYTES;
+use crate::listing::{INPUT_BYTES, INPUT_RECORDS};
 use crate::tree::{mark, Command};
-
-const MOST_RECORDS: u16 = LAYOUT.most_records as u16;
 
 /// Inputs on which the runner prints `input refused`, each beside one that it reads. No call is made, so the
 /// answer has no meaning here.
@@ -37,7 +35,7 @@ fn runner_fields() -> Vec<Vec<u8>> {
     encode::runner_fields(&RunnerInput {
         nodes: encode::node_slot(mark::GREY, true, &[7, -7]).to_vec(),
         edges: encode::edge_slot(mark::DASHED, 0, 0, &[1, 2, 3]).to_vec(),
-        records: MOST_RECORDS,
+        records: INPUT_RECORDS,
         fuel: 100,
         program: encode::command(&Command::Skip),
     })
@@ -89,7 +87,7 @@ fn wrong_numbers() -> Vec<Refusal<Vec<u8>>> {
             with(|f| f[3] = field(0x04, &vec![0; length])),
         ));
     }
-    for records in [MOST_RECORDS + 1, u16::MAX] {
+    for records in [INPUT_RECORDS + 1, u16::MAX] {
         let name = format!("{records} records");
         list.push(refused(
             name,

@@ -1,6 +1,6 @@
 //! Damages that break the layout of lent tables, which every call that reads a host refuses by the number 15. They are stated
 //! for a host of three node slots and three edge slots, those of number 1 free: node 0 and edge 0 have empty labels, node 2 has
-//! a label of two atoms and edge 2 one of three, and edge 0 runs from node 0 to node 2.
+//! a label of two atoms and edge 2 one of three, or of the most that the host's labels have, and edge 0 runs from node 0 to node 2.
 
 use std::ops::Range;
 
@@ -43,9 +43,9 @@ pub(super) enum Zeros {
     OneOfAnAtom,
 }
 
-/// One byte changed in either table, or a node taken away that an edge needs.
-pub(super) fn damages(layout: &Layout, zeros: Zeros) -> Vec<Damage> {
-    let tables = [Table::of_nodes(layout), Table::of_edges(layout)];
+/// One byte changed in either table, or a node taken away that an edge needs, where labels have at most so many atoms.
+pub(super) fn damages(layout: &Layout, most_atoms: usize, zeros: Zeros) -> Vec<Damage> {
+    let tables = [Table::of_nodes(layout, most_atoms), Table::of_edges(layout, most_atoms)];
     let mut list: Vec<Damage> = tables.iter().flat_map(|table| table.damages(zeros)).collect();
     list.extend(damaged_ends(layout));
     list
@@ -65,11 +65,11 @@ struct Table {
     third_bytes: &'static [(&'static str, u8)],
     /// The atoms of the label in slot 2, and a byte of the atom behind them.
     label: usize,
-    behind: (&'static str, usize),
+    behind: usize,
 }
 
 impl Table {
-    fn of_nodes(layout: &Layout) -> Table {
+    fn of_nodes(layout: &Layout, most_atoms: usize) -> Table {
         Table {
             kind: Kind::Node,
             item: "node",
@@ -78,12 +78,12 @@ impl Table {
             most_atoms: layout.atoms,
             foreign_mark: ("dashed node", mark::DASHED),
             third_bytes: &[("node root 2", 2), ("node root 255", 255)],
-            label: 2,
-            behind: ("node label of two atoms with a third", 3),
+            label: most_atoms.min(2),
+            behind: 3,
         }
     }
 
-    fn of_edges(layout: &Layout) -> Table {
+    fn of_edges(layout: &Layout, most_atoms: usize) -> Table {
         Table {
             kind: Kind::Edge,
             item: "edge",
@@ -92,8 +92,8 @@ impl Table {
             most_atoms: layout.atoms,
             foreign_mark: ("grey edge", mark::GREY),
             third_bytes: &[("edge with third byte 1", 1)],
-            label: 3,
-            behind: ("edge label of three atoms with a fourth", 0),
+            label: most_atoms.min(3),
+            behind: 0,
         }
     }
 
@@ -134,14 +134,17 @@ impl Table {
             let name = format!("{} label {words}", self.item);
             self.byte(&name, slot * self.slot + place::LABEL_LENGTH, value)
         };
-        let (behind, byte) = self.behind;
-        let next_atom = 2 * self.slot + self.atoms + self.label * ATOM_BYTES;
-        vec![
+        let mut list = vec![
             length("of an atom too many", 0, self.most_atoms as u8 + 1),
             length("of 255 atoms", 0, 255),
-            self.byte(behind, next_atom + byte, 1),
-            length("cut by an atom", 2, self.label as u8 - 1),
-        ]
+        ];
+        if self.label < self.most_atoms {
+            let next_atom = 2 * self.slot + self.atoms + self.label * ATOM_BYTES;
+            let name = format!("{} label with another atom behind it", self.item);
+            list.push(self.byte(&name, next_atom + self.behind, 1));
+        }
+        list.push(length("cut by an atom", 2, self.label as u8 - 1));
+        list
     }
 
     /// Bytes that must be zero in slot 1, which is free, and in the label of slot 0, which is empty.
@@ -170,13 +173,17 @@ fn damaged_ends(layout: &Layout) -> Vec<Damage> {
     let (source, target) = (layout.edge_source(), layout.edge_target());
     let end = |name: &str, at: usize, value: u8| Damage::of_byte(name, Kind::Edge, at, value);
     let last_node = 2 * layout.node_length()..3 * layout.node_length();
+    let [far_source, far_target] = match layout.width {
+        1 => [end("source 255", source.start, 255), end("target 128", target.start, 128)],
+        _ => [end("source 256", source.start, 1), end("target 258", target.start, 1)],
+    };
     vec![
         end("source in a free slot", source.end - 1, 1),
         end("target in a free slot", target.end - 1, 1),
         end("source behind the table", source.end - 1, 3),
         end("target behind the table", target.end - 1, 3),
-        end("source 256", source.start, 1),
-        end("target 258", target.start, 1),
+        far_source,
+        far_target,
         Damage { name: "ends in a slot that became free".to_string(), kind: Kind::Node, bytes: last_node, value: 0 },
     ]
 }

@@ -1,4 +1,4 @@
-//! Stored cases of the calls widen and narrow, and of the programs of these names.
+//! Stored cases of the calls that carry hosts, and of the programs widen and narrow.
 
 use std::fmt::Write;
 
@@ -12,26 +12,26 @@ use crate::random::Random;
 use crate::refusals::{self, Carrying};
 use crate::tree::mark;
 
+use super::packings::packing_calls;
 use super::{case, hexadecimal, Stored, MOST_BYTES};
 
 /// Drawn hosts that are looked at, and how many slots one may have.
 const DRAWN: u64 = 600;
 const MOST_SLOTS: usize = 14;
 
+/// The most bytes of the carryings between the cores, among which are full tables of the wide one.
+const PACKING_BYTES: usize = 500_000;
+
 /// The seed of the drawn hosts.
 const SEED: u64 = 6;
 
-/// Carryings: a byte that says which way (0 widen, 1 narrow), both tables, and both tables that the host is carried to. The line of a
-/// case has the number and what these two hold then.
+/// Carryings: a byte that says which way (0 widen, 1 narrow, 2 pack, 3 unpack), both tables, and both tables that the host is carried
+/// to. The line of a case has the number and what these two hold then.
 pub fn carry_cases() -> Stored {
     let mut stdin = Vec::new();
     let mut stdout = String::new();
     for carrying in carry_calls() {
-        let case = carry_case(&carrying);
-        if stdin.len() + case.len() > MOST_BYTES {
-            break;
-        }
-        stdin.extend(case);
+        stdin.extend(carry_case(&carrying));
         let left = carrying.call.outcome(carrying.way);
         let (nodes, edges) = (hexadecimal(&left.nodes), hexadecimal(&left.edges));
         writeln!(stdout, "{} {nodes} {edges}", left.answer).expect("a string takes all");
@@ -43,51 +43,76 @@ fn carry_case(carrying: &Carrying) -> Vec<u8> {
     let way = match carrying.way {
         Way::Widen => 0,
         Way::Narrow => 1,
+        Way::Pack => 2,
+        Way::Unpack => 3,
     };
     let call = &carrying.call;
     case(&[&[way], &call.nodes, &call.edges, &call.to_nodes, &call.to_edges])
 }
 
-/// Every refusal with its accepted twin, refusals for several numbers, telling hosts, then drawn ones; each once.
+/// The stored carryings of old tables, then those between the cores.
 pub fn carry_calls() -> Vec<Carrying> {
-    let mut calls: Vec<Carrying> = Vec::new();
-    for refusal in refusals::of_carrying() {
-        calls.extend([refusal.accepted, refusal.refused]);
+    let mut calls = as_many_as_fit(MOST_BYTES, old_calls());
+    calls.extend(as_many_as_fit(PACKING_BYTES, packing_calls()));
+    calls
+}
+
+/// The first of these carryings, each once and as many as have so many bytes as cases.
+fn as_many_as_fit(most_bytes: usize, calls: Vec<Carrying>) -> Vec<Carrying> {
+    let mut once: Vec<Carrying> = Vec::new();
+    let mut bytes = 0;
+    for call in calls {
+        if once.contains(&call) {
+            continue;
+        }
+        bytes += carry_case(&call).len();
+        if bytes > most_bytes {
+            break;
+        }
+        once.push(call);
     }
-    calls.extend(refused_for_several());
-    for way in Way::BOTH {
+    once
+}
+
+/// Every refusal with its accepted twin, refusals for several numbers, telling hosts, then drawn ones.
+fn old_calls() -> Vec<Carrying> {
+    let mut calls = refused_and_accepted(&Way::OLD);
+    calls.extend(refused_for_several(&Way::OLD));
+    for way in Way::OLD {
         let hosts = [every_kind(), Host::default(), without_edges(), many_edges()];
         calls.extend(hosts.iter().map(|host| Carrying::of(way, host)));
     }
     calls.push(Carrying::of(Way::Narrow, &long_label_behind()));
     calls.extend(drawn());
-    let mut once: Vec<Carrying> = Vec::new();
-    for call in calls {
-        if !once.contains(&call) {
-            once.push(call);
-        }
-    }
-    once
+    calls
 }
 
-/// Carryings to which two numbers apply, or more.
-fn refused_for_several() -> Vec<Carrying> {
+/// Every refusal of these ways behind its accepted twin.
+pub(super) fn refused_and_accepted(ways: &[Way]) -> Vec<Carrying> {
+    let refusals = refusals::of_carrying().into_iter();
+    let of_ways = refusals.filter(|it| ways.contains(&it.refused.way));
+    of_ways.flat_map(|it| [it.accepted, it.refused]).collect()
+}
+
+/// Carryings of these ways to which one number applies, or more.
+pub(super) fn refused_for_several(ways: &[Way]) -> Vec<Carrying> {
     let mut calls = Vec::new();
-    for (way, numbers) in [(Way::Widen, &[10, 11, 15][..]), (Way::Narrow, &[10, 11, 15, 26])] {
+    for way in ways {
+        let numbers = refusals::numbers_of(*way);
         for set in 1u32..1 << numbers.len() {
             let given = numbers.iter().enumerate().filter(|(bit, _)| set >> bit & 1 == 1);
             let given: Vec<u32> = given.map(|(_, number)| *number).collect();
-            calls.push(refusals::carrying_refused_for(way, &given));
+            calls.push(refusals::carrying_refused_for(*way, &given));
         }
     }
     calls
 }
 
-fn node(mark: u8, root: bool, atoms: &[i32]) -> Option<Node> {
+pub(super) fn node(mark: u8, root: bool, atoms: &[i32]) -> Option<Node> {
     Some(Node { mark, root, label: Label::of(atoms) })
 }
 
-fn edge(mark: u8, source: u16, target: u16, atoms: &[i32]) -> Option<Edge> {
+pub(super) fn edge(mark: u8, source: u16, target: u16, atoms: &[i32]) -> Option<Edge> {
     Some(Edge { mark, source, target, label: Label::of(atoms) })
 }
 
@@ -166,11 +191,11 @@ fn of_tables(random: &mut Random, nodes: Vec<u8>, edges: Vec<u8>) -> Vec<Carryin
 }
 
 /// Bytes that aren't zero.
-fn filled(random: &mut Random, bytes: usize) -> Vec<u8> {
+pub(super) fn filled(random: &mut Random, bytes: usize) -> Vec<u8> {
     (0..bytes).map(|_| random.byte() | 1).collect()
 }
 
-fn with_a_byte_changed(random: &mut Random, mut carrying: Carrying) -> Option<Carrying> {
+pub(super) fn with_a_byte_changed(random: &mut Random, mut carrying: Carrying) -> Option<Carrying> {
     let of_nodes = random.chance(50);
     let table = if of_nodes { &mut carrying.call.nodes } else { &mut carrying.call.edges };
     if table.is_empty() {

@@ -7,7 +7,7 @@ use second::carrying::{carried, Way};
 use second::corpus;
 use second::decode;
 use second::encode::{self, RunnerInput};
-use second::layout::Layout;
+use second::layout::{Core, Layout};
 use second::listing::read_input;
 use second::observer::Unobserved;
 use second::tree::*;
@@ -39,7 +39,7 @@ fn both(input: &RunnerInput, old: (Vec<u8>, Vec<u8>)) -> [(Outcome, RunCall); 2]
 
 /// Drawn inputs that could be made at the old layout: no label of host or rules has more than four atoms or elements.
 fn old_inputs() -> impl Iterator<Item = (RunnerInput, (Vec<u8>, Vec<u8>))> {
-    let inputs = corpus::drawn_images(SEED, IMAGES).into_iter().filter_map(|image| read_input(&image));
+    let inputs = corpus::drawn_images(Core::Wide, SEED, IMAGES).into_iter().filter_map(|image| read_input(&image));
     let short = inputs.filter(|input| decode::program(&input.program).is_ok_and(|it| has_short_labels(&it)));
     short.filter_map(|input| {
         let old = carried(Way::Narrow, &input.nodes, &input.edges).ok()?;
