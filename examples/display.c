@@ -1,7 +1,7 @@
 /*
  * A display with little room, on the small core alone: three gauges in tables of 8 and 10 bytes for each slot, and a pass over them that
- * adds a gauge's reading to the one that it feeds. Runs the pass, shows what it leaves, undoes it, and shows that a pass which needs more
- * records than the journal has gives the graph back itself. Exits with 1 where anything is otherwise.
+ * adds the reading of a gauge to the one that it feeds. Runs the pass, shows what it leaves, undoes it, and shows that a pass which needs
+ * more records than the journal has gives the graph back itself. Exits with 1 where anything is otherwise.
  *
  * It takes nhiemavut_small_run and nhiemavut_small_undo, and links the library of these two.
  */
