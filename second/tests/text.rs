@@ -38,3 +38,7 @@ mod renewing_hosts;
 mod round_trips;
 #[path = "text/rules.rs"]
 mod rules;
+#[path = "text/small_core.rs"]
+mod small_core;
+#[path = "text/small_core_command_line.rs"]
+mod small_core_command_line;

@@ -8,9 +8,10 @@ use super::lower_commands::{commands, Obstacle};
 use super::parse_host;
 use super::parse_program;
 use super::scopes::Scopes;
-use super::sizes::{Sizes, USUAL_FUEL, USUAL_RECORDS};
+use super::sizes::{Sizes, USUAL_FUEL};
 use super::syntax::{HostText, ProgramText};
 use crate::encode::{self, RunnerInput};
+use crate::layout::{Core, Layout};
 use crate::listing::INPUT_BYTES;
 use crate::tree::{limit, Program};
 use crate::{decode, depth, placement, references};
@@ -29,18 +30,19 @@ pub struct HostSection {
     pub graph: HostGraph,
 }
 
-/// A program with its host section, if it has one.
+/// A program with its host section, if it has one, for the wide core.
 pub fn assemble(file_name: &str, source: &str) -> Result<Assembly, Complaint> {
-    assemble_as(file_name, source, Procedures::Kept)
+    assemble_as(file_name, source, Procedures::Kept, Core::Wide)
 }
 
-/// The same, where it is said what is to become of procedures.
+/// The same, where it is said what is to become of procedures, and for which core it is.
 pub fn assemble_as(
     file_name: &str,
     source: &str,
     procedures: Procedures,
+    core: Core,
 ) -> Result<Assembly, Complaint> {
-    assembly(source, procedures).map_err(|problem| problem.in_file(file_name))
+    assembly(source, procedures, core.layout()).map_err(|problem| problem.in_file(file_name))
 }
 
 /// The program that a text stands for.
@@ -48,13 +50,14 @@ pub fn assemble_program(file_name: &str, source: &str) -> Result<Program, Compla
     Ok(assemble(file_name, source)?.program)
 }
 
-/// The host graph that a text stands for.
-pub fn read_graph(file_name: &str, source: &str) -> Result<HostGraph, Complaint> {
-    let graph = parse_host::host_graph(source).and_then(|text| host_graph(&text));
+/// The host graph that a text stands for, at a core.
+pub fn read_graph(core: Core, file_name: &str, source: &str) -> Result<HostGraph, Complaint> {
+    let layout = core.layout();
+    let graph = parse_host::host_graph(layout, source).and_then(|text| host_graph(layout, &text));
     graph.map_err(|problem| problem.in_file(file_name))
 }
 
-/// The runner's input for a program and a host graph.
+/// The runner's input for a program and a host graph, at the graph's layout.
 pub fn runner_input(
     program: &Program,
     graph: &HostGraph,
@@ -65,7 +68,7 @@ pub fn runner_input(
     let input = RunnerInput {
         nodes,
         edges,
-        records: sizes.records.unwrap_or(USUAL_RECORDS),
+        records: sizes.records_for(graph),
         fuel: sizes.fuel.unwrap_or(USUAL_FUEL),
         program: encode::program(program),
     };
@@ -79,17 +82,17 @@ pub fn runner_input(
     }
 }
 
-fn assembly(source: &str, procedures: Procedures) -> Result<Assembly, Problem> {
-    let text = parse_program::program(source)?;
+fn assembly(source: &str, procedures: Procedures, layout: &'static Layout) -> Result<Assembly, Problem> {
+    let text = parse_program::program(layout, source)?;
     let program = lower(&text, procedures)?;
-    let host = text.host.as_ref().map(host_section).transpose()?;
+    let host = text.host.as_ref().map(|host| host_section(layout, host)).transpose()?;
     Ok(Assembly { program, host })
 }
 
-fn host_section(text: &HostText) -> Result<HostSection, Problem> {
+fn host_section(layout: &'static Layout, text: &HostText) -> Result<HostSection, Problem> {
     let mut sizes = Sizes::default();
     for number in &text.numbers {
-        let set = sizes.set(&number.name.text, &number.value);
+        let set = sizes.set(layout, &number.name.text, &number.value);
         set.map_err(|reason| {
             Problem::new(
                 number.value_place,
@@ -97,7 +100,7 @@ fn host_section(text: &HostText) -> Result<HostSection, Problem> {
             )
         })?;
     }
-    let graph = host_graph(&text.graph)?;
+    let graph = host_graph(layout, &text.graph)?;
     let (node_slots, edge_slots) = sizes.slots(&graph);
     let fits = graph.tables(node_slots, edge_slots);
     fits.map_err(|reason| Problem::new(text.place, reason))?;

@@ -2,8 +2,7 @@
 
 use super::complaint::Problem;
 use super::syntax::*;
-use super::LAYOUT;
-use crate::encode::{edge_slot, node_slot};
+use crate::layout::Layout;
 use crate::tree::mark;
 use std::collections::HashMap;
 
@@ -13,6 +12,8 @@ pub const FREE_SLOTS: usize = 16;
 /// Nodes and edges in the order read.
 #[derive(Clone, Debug, PartialEq, Eq)]
 pub struct HostGraph {
+    /// The layout of its tables.
+    pub layout: &'static Layout,
     pub nodes: Vec<HostNode>,
     pub edges: Vec<HostEdge>,
     /// How many node slots the text speaks of, those kept free included.
@@ -49,22 +50,23 @@ impl HostGraph {
         node_slots: usize,
         edge_slots: usize,
     ) -> Result<(Vec<u8>, Vec<u8>), String> {
-        check_slots("node", node_slots, self.listed_nodes, LAYOUT.most_nodes)?;
-        check_slots("edge", edge_slots, self.listed_edges, LAYOUT.most_edges)?;
-        let length = LAYOUT.node_length();
+        let layout = self.layout;
+        check_slots("node", node_slots, self.listed_nodes, layout.most_nodes)?;
+        check_slots("edge", edge_slots, self.listed_edges, layout.most_edges)?;
+        let length = layout.node_length();
         let mut nodes = vec![0; node_slots * length];
         for node in &self.nodes {
-            let slot = node_slot(node.mark, node.root, &node.atoms);
+            let slot = layout.node_slot(node.mark, node.root, &node.atoms);
             nodes[node.slot * length..][..length].copy_from_slice(&slot);
         }
-        let length = LAYOUT.edge_length();
+        let length = layout.edge_length();
         let mut edges = vec![0; edge_slots * length];
         for edge in &self.edges {
             let (source, target) = (
                 self.nodes[edge.source].slot as u16,
                 self.nodes[edge.target].slot as u16,
             );
-            let slot = edge_slot(edge.mark, source, target, &edge.atoms);
+            let slot = layout.edge_slot(edge.mark, source, target, &edge.atoms);
             edges[edge.slot * length..][..length].copy_from_slice(&slot);
         }
         Ok((nodes, edges))
@@ -72,12 +74,12 @@ impl HostGraph {
 
     /// As many node slots as the text speaks of and some free ones.
     pub fn usual_node_slots(&self) -> usize {
-        (self.listed_nodes + FREE_SLOTS).min(LAYOUT.most_nodes)
+        (self.listed_nodes + FREE_SLOTS).min(self.layout.most_nodes)
     }
 
     /// As many edge slots as the text speaks of and some free ones.
     pub fn usual_edge_slots(&self) -> usize {
-        (self.listed_edges + FREE_SLOTS).min(LAYOUT.most_edges)
+        (self.listed_edges + FREE_SLOTS).min(self.layout.most_edges)
     }
 }
 
@@ -90,8 +92,10 @@ fn check_slots(kind: &str, slots: usize, least: usize, most: usize) -> Result<()
     ))
 }
 
-pub fn host_graph(text: &HostGraphText) -> Result<HostGraph, Problem> {
+/// The graph of a text, for tables of a layout.
+pub fn host_graph(layout: &'static Layout, text: &HostGraphText) -> Result<HostGraph, Problem> {
     let mut graph = HostGraph {
+        layout,
         nodes: Vec::new(),
         edges: Vec::new(),
         listed_nodes: text.nodes.len(),
@@ -106,7 +110,7 @@ pub fn host_graph(text: &HostGraphText) -> Result<HostGraph, Problem> {
             &node.identifier,
             "node",
         )?;
-        graph.nodes.push(host_node(slot, node)?);
+        graph.nodes.push(host_node(layout, slot, node)?);
     }
     let mut edges = HashMap::new();
     for (slot, edge) in numbered(&text.edges) {
@@ -115,7 +119,7 @@ pub fn host_graph(text: &HostGraphText) -> Result<HostGraph, Problem> {
             &edge.identifier,
             "edge",
         )?;
-        graph.edges.push(host_edge(slot, edge, &nodes)?);
+        graph.edges.push(host_edge(layout, slot, edge, &nodes)?);
     }
     Ok(graph)
 }
@@ -141,8 +145,8 @@ fn check_new(is_new: bool, name: &Name, kind: &str) -> Result<(), Problem> {
     ))
 }
 
-fn host_node(slot: usize, text: &NodeText) -> Result<HostNode, Problem> {
-    let (mark, atoms) = host_label(&text.label)?;
+fn host_node(layout: &Layout, slot: usize, text: &NodeText) -> Result<HostNode, Problem> {
+    let (mark, atoms) = host_label(layout, &text.label)?;
     Ok(HostNode {
         slot,
         identifier: text.identifier.text.clone(),
@@ -153,6 +157,7 @@ fn host_node(slot: usize, text: &NodeText) -> Result<HostNode, Problem> {
 }
 
 fn host_edge(
+    layout: &Layout,
     slot: usize,
     text: &EdgeText,
     nodes: &HashMap<&str, usize>,
@@ -173,7 +178,7 @@ fn host_edge(
             .ok_or_else(|| Problem::new(name.place, message))
     };
     let (source, target) = (end(&text.source)?, end(&text.target)?);
-    let (mark, atoms) = host_label(&text.label)?;
+    let (mark, atoms) = host_label(layout, &text.label)?;
     Ok(HostEdge {
         slot,
         identifier: text.identifier.text.clone(),
@@ -184,17 +189,17 @@ fn host_edge(
     })
 }
 
-fn host_label(label: &LabelText) -> Result<(u8, Vec<i32>), Problem> {
+fn host_label(layout: &Layout, label: &LabelText) -> Result<(u8, Vec<i32>), Problem> {
     if label.mark == mark::ANY {
         return Err(Problem::new(
             label.mark_place,
             "mark any in a host graph, expected another mark or none",
         ));
     }
-    if let Some(extra) = label.elements.get(LAYOUT.atoms) {
+    if let Some(extra) = label.elements.get(layout.atoms) {
         return Err(Problem::new(
             extra.place,
-            format!("an atom too many, expected at most {}", LAYOUT.atoms),
+            format!("an atom too many, expected at most {}", layout.atoms),
         ));
     }
     let atoms: Result<Vec<i32>, Problem> = label.elements.iter().map(atom).collect();

@@ -1,13 +1,12 @@
 //! Reading an image of either kind, with the place and the reason where it can't be read.
 
 use super::offsets::{offset_of_command, offset_of_rule};
-use super::LAYOUT;
 use crate::answer;
 use crate::calls::MOST_FUEL;
 use crate::encode::RunnerInput;
 use crate::host::Host;
-use crate::layout::Layout;
-use crate::listing::INPUT_BYTES;
+use crate::layout::{Core, Layout};
+use crate::listing::{INPUT_BYTES, INPUT_RECORDS};
 use crate::tree::{self, Command, Program};
 use crate::{decode, depth, old_form, placement, references};
 use std::fmt;
@@ -46,12 +45,13 @@ pub fn is_runner_image(bytes: &[u8]) -> bool {
     bytes.first() == Some(&0x01)
 }
 
-/// The runner's five fields, and where the payloads of tables, fuel and program start.
+/// The runner's five fields, and where the payloads start.
 #[derive(Clone, Debug)]
 pub struct RunnerImage {
     pub input: RunnerInput,
     nodes_at: usize,
     edges_at: usize,
+    records_at: usize,
     fuel_at: usize,
     pub program_at: usize,
 }
@@ -92,6 +92,7 @@ pub fn runner_image(bytes: &[u8]) -> Result<RunnerImage, Fault> {
         input,
         nodes_at,
         edges_at,
+        records_at,
         fuel_at,
         program_at,
     })
@@ -101,11 +102,15 @@ fn records_number(at: usize, payload: &[u8]) -> Result<u16, Fault> {
     let bytes = <[u8; 2]>::try_from(payload)
         .map_err(|_| input_refused(at, "journal records", "expected two bytes"))?;
     let records = u16::from_be_bytes(bytes);
-    if usize::from(records) > LAYOUT.most_records {
-        let expected = format!("expected at most {} records", grouped(LAYOUT.most_records));
+    if records > INPUT_RECORDS {
+        let expected = expected_records(INPUT_RECORDS.into());
         return Err(input_refused(at, "journal records", &expected));
     }
     Ok(records)
+}
+
+fn expected_records(most: usize) -> String {
+    format!("expected at most {} records", grouped(most))
 }
 
 /// A number below a million as a reader expects it.
@@ -154,23 +159,33 @@ impl<'a> Fields<'a> {
 }
 
 impl RunnerImage {
-    /// Host and program, or the fault with the lowest number.
-    pub fn contents(&self) -> Result<(Host, Program), Fault> {
-        let lengths = self.check_table_lengths(LAYOUT);
-        lengths.map_err(|fault| self.of_old_layout(fault))?;
+    /// Host and program at a core, or the fault with the lowest number.
+    pub fn contents(&self, core: Core) -> Result<(Host, Program), Fault> {
+        let lengths = self.check_table_lengths(core.layout());
+        lengths.map_err(|fault| self.of_other_tables(core, fault))?;
+        self.check_records(core.layout())?;
         if self.input.fuel > MOST_FUEL {
             let expected = format!("expected at most {MOST_FUEL}, found {}", self.input.fuel);
             return Err(fault(self.fuel_at, "fuel", expected, answer::FUEL));
         }
         check_image_length(&self.input.program, self.program_at)?;
-        let host = self.host()?;
+        let host = self.host(core)?;
         Ok((host, program(&self.input.program, self.program_at)?))
     }
 
-    /// The host graph of the tables, whatever the program holds.
-    pub fn host(&self) -> Result<Host, Fault> {
-        let host = self.host_at(LAYOUT);
-        host.map_err(|fault| self.of_old_layout(fault))
+    /// The host graph of the tables at a core, whatever the program holds.
+    pub fn host(&self, core: Core) -> Result<Host, Fault> {
+        let host = self.host_at(core.layout());
+        host.map_err(|fault| self.of_other_tables(core, fault))
+    }
+
+    /// The journal has no more records than there may be.
+    pub fn check_records(&self, layout: &Layout) -> Result<(), Fault> {
+        if usize::from(self.input.records) <= layout.most_records {
+            return Ok(());
+        }
+        let expected = format!("{}, found {}", expected_records(layout.most_records), self.input.records);
+        Err(fault(self.records_at, "journal records", expected, answer::JOURNAL_TABLE))
     }
 
     /// The host graph of the tables read at a layout.
@@ -206,19 +221,26 @@ impl RunnerImage {
         Ok(())
     }
 
-    /// Whether both tables keep the old layout.
-    pub fn keeps_old_layout(&self) -> bool {
-        self.host_at(&Layout::FOUR).is_ok()
-    }
-
-    /// The fault of a host, with the remedy where it keeps the old layout.
-    fn of_old_layout(&self, fault: Fault) -> Fault {
-        match self.keeps_old_layout() {
-            true => Fault {
-                expected: IN_OLD_LAYOUT.to_string(),
+    /// The fault of a host at a core, with the remedy where its tables are others.
+    fn of_other_tables(&self, core: Core, fault: Fault) -> Fault {
+        match self.other_tables(core) {
+            Some(remedy) => Fault {
+                expected: remedy.to_string(),
                 ..fault
             },
-            false => fault,
+            None => fault,
+        }
+    }
+
+    /// What is said of tables that break a core's layout and are others: old ones, or the other core's with a live node.
+    pub fn other_tables(&self, core: Core) -> Option<&'static str> {
+        let keeps = |layout: &Layout| self.host_at(layout).is_ok();
+        let lives = |layout: &Layout| self.host_at(layout).is_ok_and(|host| host.live_nodes().next().is_some());
+        match core {
+            Core::Wide if keeps(&Layout::FOUR) => Some(IN_OLD_LAYOUT),
+            Core::Wide if lives(&Layout::SMALL) => Some(OF_SMALL_CORE),
+            Core::Small if lives(&Layout::BASE) => Some(OF_WIDE_CORE),
+            _ => None,
         }
     }
 }
@@ -227,6 +249,10 @@ impl RunnerImage {
 pub const IN_OLD_LAYOUT: &str = "\
     tables of the old layout, in which labels have at most four atoms; \
     `gp2 renew OLD -o NEW` carries them over";
+
+/// What is said of tables of the core that was not asked for.
+const OF_SMALL_CORE: &str = "tables of the small core, expected --core small";
+const OF_WIDE_CORE: &str = "tables of the wide core, expected no --core small";
 
 fn expected_slots(most: usize, length: usize, found: usize) -> String {
     let most = grouped(most);

@@ -2,7 +2,7 @@
 //!
 //! A text is cut into tokens (`lexer`), read as it is written (`parse_*` into `syntax`), and put in terms of
 //! the image (`scopes`, `keeping`, `lower_*`, `variables`, `bidirectional`, `host_graph`). The other way, `image` reads bytes and
-//! `print_*` and `dot` write text. `renew` makes bytes of bytes.
+//! `print_*` and `dot` write text. `renew` and `packing` make bytes of bytes. Tables are those of the core that is asked for.
 
 mod arguments;
 mod assemble;
@@ -19,6 +19,7 @@ mod lower_commands;
 mod lower_rules;
 mod lower_tests;
 mod offsets;
+mod packing;
 mod parse_commands;
 mod parse_conditions;
 mod parse_host;
@@ -35,8 +36,6 @@ mod syntax;
 mod tools;
 mod variables;
 
-use crate::layout::Layout;
-
 pub use arguments::{task, Task};
 pub use assemble::{
     assemble, assemble_as, assemble_program, read_graph, runner_input, Assembly, HostSection,
@@ -46,11 +45,9 @@ pub use dot::drawing;
 pub use host_graph::{HostEdge, HostGraph, HostNode};
 pub use image::{grouped, Fault};
 pub use keeping::Procedures;
+pub use packing::{pack, unpack};
 pub use print_host::host_graph_text;
 pub use print_program::program_text;
 pub use renew::{renew, HostRenewal, Renewed};
 pub use sizes::Sizes;
 pub use tools::{disassemble, draw, draw_after, image_graph, perform};
-
-/// The layout of the images that the tools read and write.
-const LAYOUT: &Layout = &Layout::BASE;

@@ -5,12 +5,12 @@ use super::cursor::Cursor;
 use super::lexer::Token;
 use super::parse_rules::{edge, node};
 use super::syntax::*;
-use super::LAYOUT;
+use crate::layout::Layout;
 
-/// A text that holds one host graph and nothing else.
-pub fn host_graph(source: &str) -> Result<HostGraphText, Problem> {
+/// A text that holds one host graph, for tables of a layout, and nothing else.
+pub fn host_graph(layout: &Layout, source: &str) -> Result<HostGraphText, Problem> {
     let mut cursor = Cursor::new(source)?;
-    let graph = graph(&mut cursor)?;
+    let graph = graph(layout, &mut cursor)?;
     expect_end(&cursor, "the end of the text behind the host graph")?;
     Ok(graph)
 }
@@ -21,14 +21,14 @@ pub fn at_host_section(cursor: &Cursor) -> bool {
 }
 
 /// `host fuel 10 records 8 nodes 2 edges 1 [ .. | .. ]`, the last part of a program text.
-pub fn host_section(cursor: &mut Cursor) -> Result<HostText, Problem> {
+pub fn host_section(layout: &Layout, cursor: &mut Cursor) -> Result<HostText, Problem> {
     let place = cursor.place();
     cursor.advance();
     let mut numbers = Vec::new();
     while matches!(cursor.peek(), Token::Word(_)) {
         numbers.push(host_number(cursor)?);
     }
-    let graph = graph(cursor)?;
+    let graph = graph(layout, cursor)?;
     expect_end(cursor, "the end of the text behind the host section")?;
     Ok(HostText {
         place,
@@ -68,11 +68,11 @@ fn expect_end(cursor: &Cursor, expected: &str) -> Result<(), Problem> {
     }
 }
 
-fn graph(cursor: &mut Cursor) -> Result<HostGraphText, Problem> {
+fn graph(layout: &Layout, cursor: &mut Cursor) -> Result<HostGraphText, Problem> {
     cursor.expect_symbol("[", "at the start of the host graph")?;
-    let nodes = slots(cursor, node, "a node", LAYOUT.most_nodes)?;
+    let nodes = slots(cursor, node, "a node", layout.most_nodes)?;
     cursor.expect_symbol("|", "behind the nodes, or `(` and a node")?;
-    let edges = slots(cursor, edge, "an edge", LAYOUT.most_edges)?;
+    let edges = slots(cursor, edge, "an edge", layout.most_edges)?;
     cursor.expect_symbol("]", "behind the edges, or `(` and an edge")?;
     Ok(HostGraphText { nodes, edges })
 }

@@ -7,8 +7,10 @@ use super::parse_commands::sequence;
 use super::parse_host::{at_host_section, host_section};
 use super::parse_rules::rule;
 use super::syntax::*;
+use crate::layout::Layout;
 
-pub fn program(source: &str) -> Result<ProgramText, Problem> {
+/// The text of a program, whose host section is for tables of a layout.
+pub fn program(layout: &Layout, source: &str) -> Result<ProgramText, Problem> {
     let mut cursor = Cursor::new(source)?;
     let mut declarations = Vec::new();
     let mut main = None;
@@ -23,7 +25,7 @@ pub fn program(source: &str) -> Result<ProgramText, Problem> {
         return Err(cursor.unexpected("`Main = ..`: a program has one main command sequence"));
     };
     let host = if at_host_section(&cursor) {
-        Some(host_section(&mut cursor)?)
+        Some(host_section(layout, &mut cursor)?)
     } else {
         None
     };

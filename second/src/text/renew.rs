@@ -2,7 +2,6 @@
 //! form alone is asked for: references and placement are the same in both forms, and without calls the depth is a matter of form.
 
 use super::image::{grouped, is_runner_image, runner_image, RunnerImage};
-use super::LAYOUT;
 use crate::carrying::{carried, Way};
 use crate::decode::{self, Damage};
 use crate::encode::{self, RunnerInput};
@@ -69,7 +68,7 @@ fn renewed_tables(image: &RunnerImage) -> Result<(Vec<u8>, Vec<u8>, HostRenewal)
     if let Ok((nodes, edges)) = carried(Way::Widen, nodes, edges) {
         return Ok((nodes, edges, HostRenewal::Widened));
     }
-    match (image.host_at(&Layout::FOUR), image.host_at(LAYOUT)) {
+    match (image.host_at(&Layout::FOUR), image.host_at(&Layout::BASE)) {
         (Err(of_four), Err(of_eight)) => Err(format!(
             "the host's tables keep neither the layout of four atoms ({}) nor that of eight ({})",
             of_four.place_and_reason(),

@@ -1,11 +1,10 @@
 //! The numbers that a runner image needs beside program and graph: fuel, journal records and slots.
 
 use super::host_graph::HostGraph;
-use super::LAYOUT;
 use crate::calls::MOST_FUEL;
+use crate::layout::Layout;
 
 pub const USUAL_FUEL: u32 = 100_000;
-pub const USUAL_RECORDS: u16 = LAYOUT.most_records as u16;
 
 /// The numbers that were asked for; the others take their usual values.
 #[derive(Clone, Debug, Default, PartialEq, Eq)]
@@ -17,16 +16,16 @@ pub struct Sizes {
 }
 
 impl Sizes {
-    /// Sets the number of that name (fuel, records, nodes or edges) from its digits.
-    pub fn set(&mut self, name: &str, digits: &str) -> Result<(), String> {
+    /// Sets the number of that name (fuel, records, nodes or edges) from its digits, which the layout has to allow.
+    pub fn set(&mut self, layout: &Layout, name: &str, digits: &str) -> Result<(), String> {
         match name {
             "fuel" => set_once(&mut self.fuel, number(digits, MOST_FUEL)?),
             "records" => set_once(
                 &mut self.records,
-                number(digits, LAYOUT.most_records as u16)?,
+                number(digits, layout.most_records as u16)?,
             ),
-            "nodes" => set_once(&mut self.nodes, number(digits, LAYOUT.most_nodes as u16)?),
-            "edges" => set_once(&mut self.edges, number(digits, LAYOUT.most_edges as u16)?),
+            "nodes" => set_once(&mut self.nodes, number(digits, layout.most_nodes as u16)?),
+            "edges" => set_once(&mut self.edges, number(digits, layout.most_edges as u16)?),
             _ => Err("no such number, expected fuel, records, nodes or edges".to_string()),
         }
     }
@@ -39,6 +38,11 @@ impl Sizes {
             nodes: self.nodes.or(others.nodes),
             edges: self.edges.or(others.edges),
         }
+    }
+
+    /// Journal records for a host graph: as many as there may be, where no number is asked for.
+    pub fn records_for(&self, graph: &HostGraph) -> u16 {
+        self.records.unwrap_or(graph.layout.most_records as u16)
     }
 
     /// Node and edge slots for a host graph.

@@ -1,51 +1,44 @@
 //! What the subcommands do.
 
-use super::arguments::{AssembleTask, Task, HELP};
+use super::arguments::{AssembleTask, Source, Task, HELP};
 use super::assemble::{assemble_as, read_graph, runner_input, HostSection};
 use super::dot::drawing;
 use super::files::{read_bytes, read_text, say, write_bytes};
-use super::image::{
-    is_runner_image, program, runner_image, RunnerImage, IN_OLD_FORM, IN_OLD_LAYOUT,
-};
+use super::image::{is_runner_image, program, runner_image, RunnerImage, IN_OLD_FORM};
+use super::packing::{pack, unpack};
 use super::print_host::{host_graph_text, host_section_text};
 use super::print_program::program_text;
 use super::renew::renew;
 use super::sizes::Sizes;
-use super::LAYOUT;
 use crate::answer;
 use crate::encode;
 use crate::host::Host;
-use crate::listing::run_input;
+use crate::layout::Core;
+use crate::listing::run_input_at;
 use crate::old_form;
 
 /// Does what a command line asks for, or says why not.
 pub fn perform(task: &Task) -> Result<(), String> {
     match task {
         Task::Assemble(task) => write_bytes(&task.image, &assembled(task)?),
-        Task::Disassemble {
-            image,
-            host_only: true,
-        } => print(image, image_graph),
-        Task::Disassemble {
-            image,
-            host_only: false,
-        } => print(image, disassemble),
+        Task::Disassemble { image, host_only: true } => print(image, image_graph),
+        Task::Disassemble { image, host_only: false } => print(image, disassemble),
         Task::Draw { image, after: true } => print(image, draw_after),
-        Task::Draw {
-            image,
-            after: false,
-        } => print(image, draw),
+        Task::Draw { image, after: false } => print(image, draw),
         Task::Renew { old, new } => renew_file(old, new),
+        Task::Pack { from, to } => write_bytes(to, &made(from, pack)?),
+        Task::Unpack { from, to } => write_bytes(to, &made(from, unpack)?),
         Task::Help => write_bytes("-", HELP.as_bytes()),
     }
 }
 
-/// Prints what a tool makes of an image.
-fn print(image: &str, tool: fn(&[u8]) -> Result<String, String>) -> Result<(), String> {
-    write_bytes("-", made(image, tool)?.as_bytes())
+/// Prints what a tool makes of an image at its core.
+fn print(image: &Source, tool: fn(Core, &[u8]) -> Result<String, String>) -> Result<(), String> {
+    let made = made(&image.file, |bytes| tool(image.core, bytes))?;
+    write_bytes("-", made.as_bytes())
 }
 
-fn made<T>(image: &str, tool: fn(&[u8]) -> Result<T, String>) -> Result<T, String> {
+fn made<T>(image: &str, tool: impl Fn(&[u8]) -> Result<T, String>) -> Result<T, String> {
     tool(&read_bytes(image)?).map_err(|reason| format!("{image}: {reason}"))
 }
 
@@ -62,7 +55,7 @@ fn renew_file(old: &str, new: &str) -> Result<(), String> {
 /// The bytes of the image that a program, and a host graph if there is one, make.
 fn assembled(task: &AssembleTask) -> Result<Vec<u8>, String> {
     let source = read_text(&task.program)?;
-    let assembly = assemble_as(&task.program, &source, task.procedures)
+    let assembly = assemble_as(&task.program, &source, task.procedures, task.core)
         .map_err(|complaint| complaint.to_string())?;
     let Some((file, host)) = host_of(task, assembly.host)? else {
         return Ok(encode::program(&assembly.program));
@@ -88,7 +81,7 @@ fn host_of(
         }
         (Some(file), None) => {
             let graph =
-                read_graph(file, &read_text(file)?).map_err(|complaint| complaint.to_string())?;
+                read_graph(task.core, file, &read_text(file)?).map_err(|complaint| complaint.to_string())?;
             Ok(Some((
                 file.clone(),
                 HostSection {
@@ -105,15 +98,15 @@ fn host_of(
     }
 }
 
-/// The text of a program image, or of a runner image with its host section.
-pub fn disassemble(bytes: &[u8]) -> Result<String, String> {
+/// The text of a program image, or of a core's runner image with its host section.
+pub fn disassemble(core: Core, bytes: &[u8]) -> Result<String, String> {
     if !is_runner_image(bytes) {
         return Ok(program_text(
             &program(bytes, 0).map_err(|fault| fault.to_string())?,
         ));
     }
     let image = runner_image(bytes).map_err(|fault| fault.to_string())?;
-    let (host, program) = image.contents().map_err(|fault| fault.to_string())?;
+    let (host, program) = image.contents(core).map_err(|fault| fault.to_string())?;
     Ok(format!(
         "{}\n{}",
         program_text(&program),
@@ -122,33 +115,32 @@ pub fn disassemble(bytes: &[u8]) -> Result<String, String> {
 }
 
 /// The text of a runner image's host graph alone.
-pub fn image_graph(bytes: &[u8]) -> Result<String, String> {
-    Ok(host_graph_text(&host(&with_host(bytes)?)?))
+pub fn image_graph(core: Core, bytes: &[u8]) -> Result<String, String> {
+    Ok(host_graph_text(&host(core, &with_host(bytes)?)?))
 }
 
 /// A runner image's host graph as Graphviz text.
-pub fn draw(bytes: &[u8]) -> Result<String, String> {
-    Ok(drawing(&host(&with_host(bytes)?)?))
+pub fn draw(core: Core, bytes: &[u8]) -> Result<String, String> {
+    Ok(drawing(&host(core, &with_host(bytes)?)?))
 }
 
 /// The graph that a run of the image results in, as Graphviz text.
-pub fn draw_after(bytes: &[u8]) -> Result<String, String> {
+pub fn draw_after(core: Core, bytes: &[u8]) -> Result<String, String> {
     let image = with_host(bytes)?;
-    let outcome = run_input(&image.input);
+    let outcome = run_input_at(core.layout(), &image.input);
     match outcome.answer {
         answer::RESULT => {
-            let after = Host::read(LAYOUT, &outcome.nodes, &outcome.edges)?;
+            let after = Host::read(core.layout(), &outcome.nodes, &outcome.edges)?;
             Ok(drawing(&after))
         }
         answer::FORM if old_form::program(&image.input.program).is_ok() => {
             Err(IN_OLD_FORM.to_string())
         }
-        answer::NODE_TABLE | answer::EDGE_TABLE | answer::LAYOUT if image.keeps_old_layout() => {
-            Err(IN_OLD_LAYOUT.to_string())
+        number => {
+            let of_tables = [answer::NODE_TABLE, answer::EDGE_TABLE, answer::LAYOUT].contains(&number);
+            let remedy = image.other_tables(core).filter(|_| of_tables).map(str::to_string);
+            Err(remedy.unwrap_or(format!("the run answers {number}, expected a result (0) to draw")))
         }
-        number => Err(format!(
-            "the run answers {number}, expected a result (0) to draw"
-        )),
     }
 }
 
@@ -159,6 +151,6 @@ fn with_host(bytes: &[u8]) -> Result<RunnerImage, String> {
     runner_image(bytes).map_err(|fault| fault.to_string())
 }
 
-fn host(image: &RunnerImage) -> Result<Host, String> {
-    image.host().map_err(|fault| fault.to_string())
+fn host(core: Core, image: &RunnerImage) -> Result<Host, String> {
+    image.host(core).map_err(|fault| fault.to_string())
 }

@@ -9,7 +9,7 @@ use std::path::PathBuf;
 use std::process::{Command, Output, Stdio};
 
 const CASE_P_HOST: &str = "[ (0, 5 # grey) (1, 7 # grey) | (0, 0, 1, empty) ]";
-const CASE_P_LISTING: &str = "\
+pub const CASE_P_LISTING: &str = "\
 answer 0 steps 3 records 4
 node 0 red plain 5
 node 1 blue plain 12
@@ -65,9 +65,14 @@ impl Place {
     }
 
     /// Assembles case P with its host to `p.run`.
-    fn assemble_case_p(&self) {
+    pub fn assemble_case_p(&self) {
+        self.assemble_case_p_at(&[]);
+    }
+
+    /// The same with more options.
+    pub fn assemble_case_p_at(&self, options: &[&str]) {
         let files = ["asm", "p.gp2", "--host", "p.host", "-o", "p.run"];
-        assert_done(&self.gp2(&[&files[..], &CASE_P_SIZES].concat()));
+        assert_done(&self.gp2(&[&files[..], &CASE_P_SIZES, options].concat()));
     }
 
     pub fn gp2_with_input(&self, arguments: &[&str], input: &[u8]) -> Output {
@@ -245,6 +250,8 @@ fn files_that_are_no_text_or_not_there() {
         &["dis", "none"],
         &["dot", "none"],
         &["renew", "none", "-o", "x"],
+        &["pack", "none", "-o", "x"],
+        &["unpack", "none", "-o", "x"],
     ] {
         assert_refused_by_system(&place.gp2(arguments), "none: can't be read: ");
     }
@@ -279,11 +286,11 @@ fn numbers_need_a_host_and_a_host_stands_once() {
 const MISUSES: &[(&[&str], &str)] = &[
     (
         &[],
-        "no subcommand, expected asm, dis, dot, renew or --help",
+        "no subcommand, expected asm, dis, dot, renew, pack, unpack or --help",
     ),
     (
         &["run"],
-        "no subcommand `run`, expected asm, dis, dot, renew or --help",
+        "no subcommand `run`, expected asm, dis, dot, renew, pack, unpack or --help",
     ),
     (&["asm", "-o", "x"], "no PROGRAM, expected a file or -"),
     (&["asm", "p.gp2"], "no -o, expected the image's file or -"),
@@ -301,7 +308,7 @@ const MISUSES: &[(&[&str], &str)] = &[
     ),
     (
         &["asm", "p.gp2", "--slots", "x"],
-        "no option `--slots`, expected --host, --fuel, --records, --nodes, --edges, --write-out or -o",
+        "no option `--slots`, expected --host, --fuel, --records, --nodes, --edges, --core, --write-out or -o",
     ),
     (
         &["asm", "p.gp2", "--fuel", "1000001"],
@@ -331,11 +338,11 @@ const MISUSES: &[(&[&str], &str)] = &[
     (&["dis", "x", "y"], "`y` beside another IMAGE, expected one"),
     (
         &["dis", "x", "--after"],
-        "no option `--after`, expected --host",
+        "no option `--after`, expected --host or --core",
     ),
     (
         &["dot", "x", "--host"],
-        "no option `--host`, expected --after",
+        "no option `--host`, expected --after or --core",
     ),
     (&["renew", "-o", "x"], "no OLD, expected a file or -"),
     (&["renew", "x"], "no -o, expected the image's file or -"),
@@ -350,6 +357,25 @@ const MISUSES: &[(&[&str], &str)] = &[
     (
         &["renew", "x", "--host", "-o", "y"],
         "no option `--host`, expected -o",
+    ),
+    (&["pack", "-o", "x"], "no IMAGE, expected a file or -"),
+    (&["pack", "x", "--core", "small", "-o", "y"], "no option `--core`, expected -o"),
+    (&["unpack", "-o", "x"], "no SMALL, expected a file or -"),
+    (&["unpack", "x"], "no -o, expected the image's file or -"),
+    (&["asm", "p.gp2", "--core", "tiny"], "--core: no core `tiny`, expected wide or small"),
+    (&["dis", "x", "--core"], "nothing behind `--core`, expected its value"),
+    (&["dot", "x", "--core", "small", "--core", "wide"], "--core: given twice, expected once"),
+    (
+        &["asm", "p.gp2", "--nodes", "129", "--core", "small"],
+        "--nodes: 129 is out of range, expected a number from 0 to 128",
+    ),
+    (
+        &["asm", "p.gp2", "--core", "small", "--edges", "256"],
+        "--edges: 256 is out of range, expected a number from 0 to 255",
+    ),
+    (
+        &["asm", "p.gp2", "--core", "small", "--records", "256"],
+        "--records: 256 is out of range, expected a number from 0 to 255",
     ),
 ];
 
@@ -384,6 +410,9 @@ fn help_is_printed_on_the_standard_output() {
             "gp2 dis IMAGE",
             "gp2 dot IMAGE",
             "gp2 renew OLD -o NEW",
+            "gp2 pack IMAGE -o SMALL",
+            "gp2 unpack SMALL -o IMAGE",
+            "--core small",
             "--write-out",
             "--after",
             "100000",

@@ -1,7 +1,7 @@
 //! Short ways to assemble a text and to build what it should give.
 
 pub use second::build::{call, edge, if_command, looped, node, try_command};
-use second::layout::Layout;
+use second::layout::{Core, Layout};
 use second::text::{assemble_as, assemble_program, Procedures};
 use second::tree::*;
 
@@ -33,7 +33,7 @@ pub fn program(source: &str) -> Program {
 
 /// The program with its procedures written out.
 pub fn written_out(source: &str) -> Program {
-    let assembly = assemble_as("test", source, Procedures::WrittenOut);
+    let assembly = assemble_as("test", source, Procedures::WrittenOut, Core::Wide);
     assembly
         .unwrap_or_else(|complaint| panic!("{complaint}\n{source}"))
         .program

@@ -2,15 +2,16 @@
 
 use super::helpers::{EDGE, NODE, THREE_RULES};
 use second::encode;
+use second::layout::Core;
 use second::text::{assemble, read_graph, runner_input, HostGraph, Sizes};
 use second::tree::{mark, Command, Program};
 
 fn graph(source: &str) -> HostGraph {
-    read_graph("test", source).unwrap_or_else(|complaint| panic!("{complaint}"))
+    read_graph(Core::Wide, "test", source).unwrap_or_else(|complaint| panic!("{complaint}"))
 }
 
 fn refusal(source: &str) -> String {
-    let complaint = read_graph("host", source).expect_err("not refused");
+    let complaint = read_graph(Core::Wide, "host", source).expect_err("not refused");
     complaint.to_string()["host:".len()..].to_string()
 }
 

@@ -6,14 +6,14 @@ use second::build::{call, if_command, looped, node, node_rule};
 use second::calls;
 use second::corpus;
 use second::encode::{self, RunnerInput};
-use second::layout::Layout;
+use second::layout::{Core, Layout};
 use second::listing::{read_input, run_input};
 use second::random::Random;
 use second::text::{assemble_program, disassemble, draw, draw_after, image_graph};
 use second::tree::*;
 
 fn refusal(image: &[u8]) -> String {
-    disassemble(image).expect_err("not refused")
+    disassemble(Core::Wide, image).expect_err("not refused")
 }
 
 /// A rule that deletes one unmarked, unlabelled, plain node, in 24 bytes.
@@ -249,7 +249,7 @@ fn each_changed_byte_is_refused_with_the_runs_answer_or_comes_back() {
             if changed[0] == 1 {
                 continue;
             }
-            match disassemble(&changed) {
+            match disassemble(Core::Wide, &changed) {
                 Err(reason) => assert_eq!(
                     named_answer(&reason),
                     answer_before_running(&changed),
@@ -267,7 +267,7 @@ fn each_changed_byte_is_refused_with_the_runs_answer_or_comes_back() {
 
 /// Checks that the text of a runner image comes back to it, or is refused as the runner refuses the image.
 fn check_runner_image(image: &[u8]) {
-    match (disassemble(image), read_input(image)) {
+    match (disassemble(Core::Wide, image), read_input(image)) {
         (Err(reason), None) => assert!(reason.ends_with("`input refused`"), "{reason}"),
         (Err(reason), Some(input)) => {
             let answer = run_input(&without_running(input)).answer;
@@ -367,8 +367,8 @@ const DRAWING: &str = r#"digraph host {
 #[test]
 fn a_drawing_has_a_line_for_each_live_slot() {
     let image = encode::runner_input(&drawn());
-    assert_eq!(draw(&image).as_deref(), Ok(DRAWING));
-    assert_eq!(draw_after(&image).as_deref(), Ok(DRAWING));
+    assert_eq!(draw(Core::Wide, &image).as_deref(), Ok(DRAWING));
+    assert_eq!(draw_after(Core::Wide, &image).as_deref(), Ok(DRAWING));
 }
 
 #[test]
@@ -390,7 +390,7 @@ fn the_graph_alone_is_text_with_slot_numbers() {
 ]
 ";
     assert_eq!(
-        image_graph(&encode::runner_input(&drawn())).as_deref(),
+        image_graph(Core::Wide, &encode::runner_input(&drawn())).as_deref(),
         Ok(expected)
     );
 }
@@ -399,7 +399,7 @@ fn the_graph_alone_is_text_with_slot_numbers() {
 fn a_drawing_after_the_run_shows_the_result() {
     let mut input = runner(image(vec![delete()], call(0)));
     input.edges = vec![];
-    let after = draw_after(&encode::runner_input(&input)).expect("a result");
+    let after = draw_after(Core::Wide, &encode::runner_input(&input)).expect("a result");
     assert_eq!(
         after,
         "digraph host {\n  node [shape=circle, style=filled, fillcolor=white];\n}\n"
@@ -409,23 +409,23 @@ fn a_drawing_after_the_run_shows_the_result() {
 #[test]
 fn there_is_no_drawing_without_a_result_or_a_host() {
     let failing = encode::runner_input(&runner(image(vec![], Command::Fail)));
-    assert!(draw(&failing).is_ok());
+    assert!(draw(Core::Wide, &failing).is_ok());
     let expected = "the run answers 1, expected a result (0) to draw";
-    assert_eq!(draw_after(&failing), Err(expected.to_string()));
+    assert_eq!(draw_after(Core::Wide, &failing), Err(expected.to_string()));
     let alone = image(vec![], Command::Skip);
     let expected = "offset 0: no host graph, expected a runner image (tag 0x01)";
     for tool in [draw, draw_after, image_graph] {
-        assert_eq!(tool(&alone), Err(expected.to_string()));
+        assert_eq!(tool(Core::Wide, &alone), Err(expected.to_string()));
     }
 }
 
 #[test]
 fn a_damaged_program_leaves_its_host_to_draw() {
     let input = runner(vec![0xff]);
-    assert!(draw(&encode::runner_input(&input)).is_ok());
+    assert!(draw(Core::Wide, &encode::runner_input(&input)).is_ok());
     let expected = "the run answers 16, expected a result (0) to draw";
     assert_eq!(
-        draw_after(&encode::runner_input(&input)),
+        draw_after(Core::Wide, &encode::runner_input(&input)),
         Err(expected.to_string())
     );
 }

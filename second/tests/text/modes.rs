@@ -3,6 +3,7 @@
 use super::helpers::*;
 use second::build::with_mode;
 use second::encode;
+use second::layout::Core;
 use second::text::{assemble_program, disassemble, renew};
 use second::tree::*;
 
@@ -145,7 +146,7 @@ fn every_mode_is_printed_and_comes_back_byte_for_byte() {
         (PRESERVING, "roots = preserving\n"),
     ];
     for (mode, clause) in printed {
-        let text = disassemble(&image(mode)).expect("legal");
+        let text = disassemble(Core::Wide, &image(mode)).expect("legal");
         let rule = "r0()\n[ | ]\n=>\n[ | ]\ninterface = {}\n";
         assert_eq!(text, format!("Main = skip\n\n{rule}{clause}"));
         let again = assemble_program("again", &text).expect("legal");
@@ -157,7 +158,7 @@ fn every_mode_is_printed_and_comes_back_byte_for_byte() {
 fn the_clause_is_printed_behind_the_condition() {
     let text = "r0()\n[ | ]\n=>\n[ | ]\ninterface = {}\nwhere 1 < 2\nroots = preserving\n";
     let whole = format!("Main = skip\n\n{text}");
-    assert_eq!(disassemble(&encode::program(&program(&whole))), Ok(whole));
+    assert_eq!(disassemble(Core::Wide, &encode::program(&program(&whole))), Ok(whole));
 }
 
 #[test]
@@ -208,7 +209,7 @@ fn a_damaged_mode_is_refused_with_its_place() {
         (&[0x17, 0, 1, 1], format!("offset 19, rule: {END}")),
     ];
     for (more, expected) in cases {
-        let found = disassemble(&by_hand(more)).expect_err("not refused");
+        let found = disassemble(Core::Wide, &by_hand(more)).expect_err("not refused");
         assert_eq!(found, format!("{expected}; a run answers 16"), "{more:?}");
     }
 }
@@ -218,7 +219,7 @@ fn a_mode_before_the_tests_is_refused_there() {
     let mut fields = encode::rule_fields(&with_mode(PRESERVING, Rule::default()));
     fields.swap(4, 5);
     let rule = encode::field(0x10, &fields.concat());
-    let found = disassemble(&[&rule[..], &[0x55, 0, 0]].concat());
+    let found = disassemble(Core::Wide, &[&rule[..], &[0x55, 0, 0]].concat());
     let expected = "offset 16, rule: expected a field with tag 0x15, tests; a run answers 16";
     assert_eq!(found, Err(expected.to_string()));
 }

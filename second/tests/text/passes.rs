@@ -1,6 +1,7 @@
 //! The runs that docs/PASSES.md shows: each program on the host of its section comes to the listing behind it.
 
 use second::encode;
+use second::layout::Core;
 use second::listing::listing;
 use second::text::{assemble, assemble_as, runner_input, Assembly, Procedures};
 
@@ -54,7 +55,7 @@ fn calls_written_out_cost_no_steps() {
         word.and_then(|word| word.parse().ok()).expect("a number")
     };
     let text = format!("{program}host fuel 1000 [ (1(R), 1) (2, 2) | ]");
-    let assembly = assemble_as("page", &text, Procedures::WrittenOut).expect("a legal text");
+    let assembly = assemble_as("page", &text, Procedures::WrittenOut, Core::Wide).expect("a legal text");
     let written_out = run(assembly);
     assert_eq!(steps(&written_out), steps(listing) - 2);
     let graph = |text: &str| text.split_once('\n').expect("lines").1.to_string();

@@ -3,6 +3,7 @@
 use super::helpers::{program, written_out, THREE_RULES};
 use second::build::{call, if_command, looped, node, node_rule, try_command};
 use second::encode::{self, field};
+use second::layout::Core;
 use second::text::{assemble_program, disassemble, renew};
 use second::tree::Command::{self, Break, Fail, Procedure, Sequence, Skip};
 use second::tree::{limit, mark, Program, Rule};
@@ -18,7 +19,7 @@ fn image(rules: &[Rule], procedures: &[Command], main: Command) -> Vec<u8> {
 /// Checks that an image without rules comes back from its text.
 fn check(procedures: &[Command], main: Command) {
     let image = image(&[], procedures, main);
-    let text = disassemble(&image).expect("a legal image");
+    let text = disassemble(Core::Wide, &image).expect("a legal image");
     let program = assemble_program("again", &text);
     let program = program.unwrap_or_else(|complaint| panic!("{complaint}\n{text}"));
     assert_eq!(encode::program(&program), image, "{text}");
@@ -51,7 +52,7 @@ r0()
 [ | ]
 interface = {}
 ";
-    assert_eq!(disassemble(&image).expect("legal"), expected);
+    assert_eq!(disassemble(Core::Wide, &image).expect("legal"), expected);
     let again = assemble_program("again", expected).expect("a legal text");
     assert_eq!(encode::program(&again), image);
 }
@@ -115,7 +116,7 @@ fn long_procedures_come_back_from_broken_lines() {
         limit::COMMANDS
     ]);
     let image = image(&[], &[row.clone(), Fail], Sequence(vec![row, Procedure(0)]));
-    let text = disassemble(&image).expect("legal");
+    let text = disassemble(Core::Wide, &image).expect("legal");
     assert!(text.lines().all(|line| line.len() <= 90), "{text}");
     let program = assemble_program("again", &text).expect("a legal text");
     assert_eq!(encode::program(&program), image);
@@ -124,7 +125,7 @@ fn long_procedures_come_back_from_broken_lines() {
 #[test]
 fn a_text_is_printed_with_its_procedures_or_without() {
     let text = format!("Main = Both; Both\nBoth = a; b{THREE_RULES}");
-    let printed = |program: &Program| disassemble(&encode::program(program)).expect("legal");
+    let printed = |program: &Program| disassemble(Core::Wide, &encode::program(program)).expect("legal");
     let kept = printed(&program(&text));
     assert!(
         kept.starts_with("Main = P0; P0\nP0 = r0; r1\n\nr0()"),
@@ -139,7 +140,7 @@ fn a_text_is_printed_with_its_procedures_or_without() {
 
 /// The message about an image that is refused.
 fn refusal(image: &[u8]) -> String {
-    disassemble(image).expect_err("not refused")
+    disassemble(Core::Wide, image).expect_err("not refused")
 }
 
 const COMMAND: &str = "expected a command: tag 0x50, 0x51, or 0x54 to 0x59; a run answers 16";

@@ -1,6 +1,7 @@
 //! Each refusal of a program and its commands, with its place and the start of its message.
 
 use super::helpers::*;
+use second::layout::Core;
 use second::text::{assemble_as, Procedures};
 use second::tree::limit;
 
@@ -250,7 +251,7 @@ fn procedures_that_grow_without_end() {
         .collect();
     let source = format!("Main = P0{wide}\nP3 = skip");
     assert_eq!(program(&source).procedures.len(), 4);
-    let complaint = assemble_as("test", &source, Procedures::WrittenOut).expect_err("not refused");
+    let complaint = assemble_as("test", &source, Procedures::WrittenOut, Core::Wide).expect_err("not refused");
     let message = "the image gets too long here, expected at most 8192 bytes";
     assert_eq!(complaint.message, message);
 }

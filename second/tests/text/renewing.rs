@@ -8,6 +8,7 @@ use second::calls;
 use second::carrying::{carried, Way};
 use second::corpus;
 use second::encode::{self, RunnerInput};
+use second::layout::Core;
 use second::random::Random;
 use second::text::{assemble_as, disassemble, draw, draw_after, Procedures};
 use second::tree::*;
@@ -115,7 +116,7 @@ fn published_programs_are_renewed() {
     for name in names.filter(|name| name != "README.md") {
         let source =
             std::fs::read_to_string(format!("{folder}/{name}/{name}.gp2")).expect("a text");
-        let assembly = assemble_as(&name, &source, Procedures::WrittenOut);
+        let assembly = assemble_as(&name, &source, Procedures::WrittenOut, Core::Wide);
         let program = assembly.expect("a legal program").program;
         guarded += guarded_commands(&program.main);
         check(&program);
@@ -319,14 +320,14 @@ const IN_OLD_FORM: &str = "\
 fn dis_says_of_an_old_image_what_it_is() {
     let [old, _] = BY_HAND;
     assert_eq!(
-        disassemble(old),
+        disassemble(Core::Wide, old),
         Err(format!(
             "offset 11, sequence: {IN_OLD_FORM}; a run answers 16"
         ))
     );
     let runner = runner_around(old);
     assert_eq!(
-        disassemble(&runner),
+        disassemble(Core::Wide, &runner),
         Err(format!(
             "offset 68, sequence: {IN_OLD_FORM}; a run answers 16"
         ))
@@ -336,9 +337,9 @@ fn dis_says_of_an_old_image_what_it_is() {
 #[test]
 fn the_graph_of_an_old_image_is_drawn_before_the_run_alone() {
     let [old, today] = BY_HAND.map(runner_around);
-    assert_eq!(draw(&old), draw(&today));
-    assert!(draw(&old).is_ok());
-    assert_eq!(draw_after(&old), Err(IN_OLD_FORM.to_string()));
+    assert_eq!(draw(Core::Wide, &old), draw(Core::Wide, &today));
+    assert!(draw(Core::Wide, &old).is_ok());
+    assert_eq!(draw_after(Core::Wide, &old), Err(IN_OLD_FORM.to_string()));
 }
 
 #[test]

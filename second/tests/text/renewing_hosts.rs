@@ -3,7 +3,7 @@
 use super::round_trips::random_runner_input;
 use second::carrying::{carried, Way};
 use second::encode::{self, RunnerInput};
-use second::layout::Layout;
+use second::layout::{Core, Layout};
 use second::listing::run_input;
 use second::random::Random;
 use second::text::{disassemble, draw, draw_after, renew, HostRenewal, Renewed};
@@ -166,11 +166,11 @@ const IN_OLD_LAYOUT: &str = "\
 fn dis_and_dot_say_of_old_tables_what_they_are() {
     let image = encode::runner_input(&runner(&OLD, &SKIP));
     let said = Err(format!("offset 3, node table: {IN_OLD_LAYOUT}; a run answers 10"));
-    assert_eq!((disassemble(&image), draw(&image)), (said.clone(), said));
-    assert_eq!(draw_after(&image), Err(IN_OLD_LAYOUT.to_string()));
+    assert_eq!((disassemble(Core::Wide, &image), draw(Core::Wide, &image)), (said.clone(), said));
+    assert_eq!(draw_after(Core::Wide, &image), Err(IN_OLD_LAYOUT.to_string()));
     let whole_slots = RunnerInput { nodes: OLD.node_slot(mark::NONE, false, &[7; 4]).repeat(9), edges: vec![], ..runner(&OLD, &SKIP) };
-    let said = disassemble(&encode::runner_input(&whole_slots));
+    let said = disassemble(Core::Wide, &encode::runner_input(&whole_slots));
     assert_eq!(said, Err(format!("offset 3, node slot 0: {IN_OLD_LAYOUT}; a run answers 15")));
     let renewed = renewed(&whole_slots).expect("an image").image;
-    assert!(disassemble(&renewed).is_ok_and(|text| text.contains("7:7:7:7")));
+    assert!(disassemble(Core::Wide, &renewed).is_ok_and(|text| text.contains("7:7:7:7")));
 }

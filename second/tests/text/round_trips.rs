@@ -3,7 +3,7 @@
 use super::legal_programs;
 use second::build::*;
 use second::encode::{self, RunnerInput};
-use second::layout::Layout;
+use second::layout::{Core, Layout};
 use second::random::Random;
 use second::text::{assemble, assemble_program, disassemble, runner_input};
 use second::tree::*;
@@ -11,14 +11,14 @@ use second::{decode, depth, placement, references};
 
 /// The program image that the text of an image assembles to.
 fn program_again(image: &[u8]) -> Vec<u8> {
-    let text = disassemble(image).expect("a legal image");
+    let text = disassemble(Core::Wide, image).expect("a legal image");
     let program = assemble_program("again", &text);
     encode::program(&program.unwrap_or_else(|complaint| panic!("{complaint}\n{text}")))
 }
 
 /// The runner image that the text of a runner image assembles to.
 pub fn runner_again(image: &[u8]) -> Vec<u8> {
-    let text = disassemble(image).expect("a legal image");
+    let text = disassemble(Core::Wide, image).expect("a legal image");
     let assembly =
         assemble("again", &text).unwrap_or_else(|complaint| panic!("{complaint}\n{text}"));
     let host = assembly.host.expect("a host section");
@@ -102,7 +102,7 @@ fn long_programs_come_back_from_broken_lines() {
     let main = Command::Sequence(vec![one, branching, looped(inner), guarded]);
     let program = Program::without_procedures(vec![Rule::default()], main);
     check(&program);
-    let text = disassemble(&encode::program(&program)).expect("legal");
+    let text = disassemble(Core::Wide, &encode::program(&program)).expect("legal");
     assert!(text.lines().all(|line| line.len() <= 90), "{text}");
 }
 
@@ -267,6 +267,6 @@ r0(x0: list; i1, i2: int)
 interface = {n0}
 where not edge(n0, n1) and indeg(n1) != 2 and outdeg(n0) = 0 and i1 >= 5
 ";
-    assert_eq!(disassemble(&image).expect("legal"), expected);
+    assert_eq!(disassemble(Core::Wide, &image).expect("legal"), expected);
     assert_eq!(program_again(&image), image);
 }
