@@ -14,7 +14,10 @@ NAME = $(NAME_$(CORE))
 LIBRARY = target/library/$(ARCH)/lib$(NAME).a
 RUNNER_wide = runner
 RUNNER_small = small_runner
-SMALL_CALLS = nhiemavut_small_run nhiemavut_small_undo
+# the members of the library, each with its calls
+RUN = run=nhiemavut_run,nhiemavut_undo
+SMALL = small=nhiemavut_small_run,nhiemavut_small_undo
+CARRY = carry=nhiemavut_widen,nhiemavut_narrow,nhiemavut_pack,nhiemavut_unpack
 SOURCES = crates.txt $(shell find crates -name '*.rt' -o -name '*.antt')
 
 # What `make run` runs: a runner image, or a program and a host graph in text.
@@ -61,11 +64,11 @@ library: $(LIBRARY)
 
 target/library/%/libnhiemavut.a: target/module/interpreter/module.ll
 	@mkdir -p $(@D)
-	@tools/module library interpreter $* $@
+	@tools/module library interpreter $* $@ $(RUN) $(SMALL) $(CARRY)
 
 target/library/%/libnhiemavut_small.a: target/module/interpreter/module.ll
 	@mkdir -p $(@D)
-	@tools/module library interpreter $* $@ $(SMALL_CALLS)
+	@tools/module library interpreter $* $@ $(SMALL)
 
 # Proved code as the kit's compiler gets it, for either processor.
 .PRECIOUS: target/module/%/module.ll
