@@ -27,6 +27,8 @@ ARCH = run([PROCESSOR, "chosen"]).strip()
 CODE = run([PROCESSOR, "code", ARCH]).strip()
 WORK = ROOT / "target" / "bench" / ARCH
 LIBRARY = ROOT / "target" / "library" / ARCH / "libnhiemavut.a"
+# the small core's calls alone
+SMALL_LIBRARY = LIBRARY.with_name("libnhiemavut_small.a")
 
 
 def ready(*goals):
