@@ -28,7 +28,6 @@ CODE = run([PROCESSOR, "code", ARCH]).strip()
 WORK = ROOT / "target" / "bench" / ARCH
 LIBRARY = ROOT / "target" / "library" / ARCH / "libnhiemavut.a"
 # the small core's calls alone
-SMALL_LIBRARY = LIBRARY.with_name("libnhiemavut_small.a")
 
 
 def ready(*goals):
