@@ -91,8 +91,8 @@ pub const STORED_COUNT: u64 = 2939;
 
 /// How many drawn images of the small core are looked at for the stored corpus, and how long one of them may be: long programs are
 /// among those of the wide core.
-const SMALL_LOOKED_AT: u64 = 1500;
-const SMALL_LONGEST: usize = 450;
+const SMALL_LOOKED_AT: u64 = 1700;
+const SMALL_LONGEST: usize = 430;
 
 /// One drawn image among so many is for the small core.
 const SMALL_EVERY: u64 = 4;

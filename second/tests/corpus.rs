@@ -9,6 +9,7 @@ use second::corpus::{
     stored_images, Figures, Image, Statistics, STORED_COUNT, STORED_SEED as SEED,
 };
 use second::encode;
+use second::families::{assembled, PROGRAMS};
 use second::layout::Core;
 use second::listing::{call_of, listing, read_input};
 use second::random::Random;
@@ -95,7 +96,7 @@ fn is_for_the_wide_core(name: &str) -> bool {
 fn the_stored_corpus_exercises_the_small_core() {
     let Figures { small, .. } = Figures::of(&split(&stored("stdin")).unwrap());
     assert!(small.images >= 700, "{} images", small.images);
-    let least = [(0, 300), (1, 90), (2, 25), (3, 15), (4, 15), (5, 15), (6, 50), (12, 15)];
+    let least = [(0, 300), (1, 70), (2, 25), (3, 15), (4, 15), (5, 15), (6, 50), (12, 15)];
     for (answer, least) in least {
         assert!(small.answers[&answer] >= least, "answer {answer}: {:?}", small.answers);
     }
@@ -146,6 +147,18 @@ fn the_stored_corpus_reaches_the_limits() {
         .iter()
         .any(|input| input.nodes.len() == 128 * 8 && input.edges.len() == 255 * 10));
     assert!([255, 256, 1024].iter().all(|records| small.iter().any(|input| input.records == *records)));
+}
+
+#[test]
+fn every_published_program_is_among_the_small_images() {
+    let images = split(&stored("stdin")).unwrap();
+    let small = images.iter().filter(|image| image.core == Core::Small);
+    let programs: Vec<Vec<u8>> = small.filter_map(|image| Some(read_input(&image.bytes)?.program)).collect();
+    for published in PROGRAMS {
+        let program = encode::program(&assembled(&published));
+        let hosts = programs.iter().filter(|found| **found == program);
+        assert_eq!(hosts.count(), 5, "{}", published.name);
+    }
 }
 
 #[test]

@@ -60,14 +60,21 @@ pub fn case_p() -> Vec<u8> {
     runner_input(&packed(&case).expect("its labels have one atom"))
 }
 
-/// The longest image of a published program that is among the stored ones.
-const LONGEST_PUBLISHED: usize = 600;
+/// How many hosts of a published program are among the stored images.
+const HOSTS: usize = 5;
 
-/// Every published program on those of its hosts that can be packed, where the image is no longer than that.
+/// Every published program on some of its hosts that can be packed, spread over their list.
 pub fn program_images() -> Vec<Vec<u8>> {
     let inputs = families::program_images().into_iter().filter_map(|image| listing::read_input(&image));
-    let images = inputs.filter_map(|input| Some(runner_input(&packed(&input)?)));
-    images.filter(|image| image.len() <= LONGEST_PUBLISHED).collect()
+    let packed: Vec<RunnerInput> = inputs.filter_map(|input| packed(&input)).collect();
+    let of_programs = packed.chunk_by(|one, next| one.program == next.program);
+    of_programs.flat_map(spread).map(runner_input).collect()
+}
+
+/// Some of these inputs, from the first to the last.
+fn spread(inputs: &[RunnerInput]) -> Vec<&RunnerInput> {
+    let count = HOSTS.min(inputs.len());
+    (0..count).map(|number| &inputs[number * (inputs.len() - 1) / (HOSTS - 1)]).collect()
 }
 
 /// A program without procedures on tables, with ample fuel.
@@ -167,8 +174,9 @@ fn last_edges_dangle() -> RunnerInput {
     input(nodes, edges, vec![deleting], call(0))
 }
 
-/// The atoms of a host label, the elements of the left label as a text, those of the right one, and the answer: `l` is a list, `i` an
-/// int, `c` the constant 5 and `s` the sum of 5 and 1. The host label has the atom 5 where it has one.
+/// Labels of a node and of a loop at it, as texts: the host's and the left side's in one, then the right side's, and the answer. The
+/// first begins with 5 where the host's label is the atom 5, which is empty else; of elements `l` is a list, `i` an int, `c` the
+/// constant 5 and `s` the sum of 5 and 1.
 const LABELS: [(&str, &str, u32); 18] = [
     ("", "c", 0),
     ("", "cc", 6),
