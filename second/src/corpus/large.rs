@@ -78,7 +78,7 @@ fn with_result(random: &mut Random, layout: &'static Layout, draw: Draw) -> Runn
     input
 }
 
-fn small_draft(random: &mut Random, layout: &'static Layout) -> Draft {
+fn draft_of_few_nodes(random: &mut Random, layout: &'static Layout) -> Draft {
     let size = Size {
         nodes: random.between(2, 6),
         ..Size::draw(random)
@@ -174,7 +174,7 @@ fn over(random: &mut Random, palette: &Palette, host: Host) -> RunnerInput {
 /// A program of exactly so many bytes: what is missing stands where no run comes to.
 fn program_of(random: &mut Random, layout: &'static Layout, bytes: usize) -> RunnerInput {
     loop {
-        let mut draft = small_draft(random, layout);
+        let mut draft = draft_of_few_nodes(random, layout);
         let main = draft.program.main.clone();
         draft.program.main = if_command(Command::Skip, main.clone(), Command::Skip);
         let length = encode::program(&draft.program).len();
@@ -260,7 +260,7 @@ fn filled_up(random: &mut Random, layout: &'static Layout) -> RunnerInput {
 
 /// An input of the greatest length that the corpus holds; its program is too long.
 fn longest_program(random: &mut Random, layout: &'static Layout) -> RunnerInput {
-    let mut input = small_draft(random, layout).input();
+    let mut input = draft_of_few_nodes(random, layout).input();
     let missing = MOST_BYTES - runner_input(&input).len();
     input.program.extend(vec![0x55; missing]);
     input
@@ -268,7 +268,7 @@ fn longest_program(random: &mut Random, layout: &'static Layout) -> RunnerInput 
 
 /// An input of the greatest length that the corpus holds; one of its tables is too long.
 fn longest_table(random: &mut Random, layout: &'static Layout) -> RunnerInput {
-    let mut input = small_draft(random, layout).input();
+    let mut input = draft_of_few_nodes(random, layout).input();
     let missing = MOST_BYTES - runner_input(&input).len();
     let table = if random.chance(50) {
         &mut input.nodes

@@ -159,13 +159,21 @@ fn named(exercised: &Exercised) -> Vec<(String, u64)> {
     named.extend(named_numbers("matches, mode", 0, &e.modes_matched));
     named.extend(named_numbers("loop, in-degree", 0, &e.in_degree_at_loops));
     named.extend(named_numbers("loop, in-degree not", 0, &e.not_in_degree_at_loops));
-    named.extend(named_numbers("left elements", FIRST_LONG, &e.left_elements));
-    named.extend(named_numbers("variable atoms", 0, &e.short_values));
-    named.extend(named_numbers("list variable atoms", FIRST_LONG, &e.list_atoms));
-    named.extend(named_numbers("right elements", FIRST_LONG, &e.right_elements));
-    named.extend(named_numbers("right label atoms", 0, &e.short_label_atoms));
-    named.extend(named_numbers("right label atoms", FIRST_LONG, &e.label_atoms));
+    named.extend(named_lengths(e));
     named
+}
+
+/// Labels and values by their length.
+fn named_lengths(e: &Exercised) -> Vec<(String, u64)> {
+    [
+        named_numbers("left elements", FIRST_LONG, &e.left_elements),
+        named_numbers("variable atoms", 0, &e.short_values),
+        named_numbers("list variable atoms", FIRST_LONG, &e.list_atoms),
+        named_numbers("right elements", FIRST_LONG, &e.right_elements),
+        named_numbers("right label atoms", 0, &e.short_label_atoms),
+        named_numbers("right label atoms", FIRST_LONG, &e.label_atoms),
+    ]
+    .concat()
 }
 
 /// Counts by a number, from the first one on.
