@@ -2,7 +2,7 @@
 //! answers 0 or 1 on the small one gives the same on the wide one.
 
 use super::report::numbers;
-use second::calls::Outcome;
+use second::calls::{Outcome, UndoCall};
 use second::carrying::{CarryCall, Way};
 use second::corpus;
 use second::encode::RunnerInput;
@@ -75,4 +75,23 @@ fn a_result_or_fail_of_the_small_core_is_the_wide_cores() {
     assert!(compared[0] > 2_500 && compared[1] > 500, "{compared:?}");
     assert!(changed > 2_000, "{changed} results with changes");
     assert!(held_by_the_wide_core > 100, "{held_by_the_wide_core} runs give a result at eight atoms alone");
+}
+
+#[test]
+fn undo_at_the_small_core_gives_the_host_back() {
+    let mut undone = 0;
+    for input in inputs() {
+        let left = run_input_at(&Layout::SMALL, &input);
+        let (_, records) = left.reported();
+        if left.answer != 0 || records == 0 {
+            continue;
+        }
+        let journal = vec![0; left.journal.len()];
+        let undo = UndoCall { nodes: left.nodes, edges: left.edges, journal: left.journal, count: records, report: left.report };
+        let back = undo.outcome_at(&Layout::SMALL);
+        assert_eq!(numbers(&back), (0, 0, records));
+        assert_eq!((back.nodes, back.edges, back.journal), (input.nodes, input.edges, journal));
+        undone += 1;
+    }
+    assert!(undone > 2_000, "{undone}");
 }
