@@ -40,7 +40,7 @@ pub record Carries (c : Carried) (number : ℕ) (nodes edges : List ℕ) : Type 
   pub nodesReturned : nodes ≡ c .nodes
   pub edgesReturned : edges ≡ c .edges
 
--- Slot counts: what is asked of a table and of the one that it is carried to.
+-- Slot counts of a table and of the one that it is carried to: exactly, they are the same; packing, there may be any.
 
 unfoldable pub countsAgree : Manner → ℕ → ℕ → Bool
 countsAgree Exact n m = eqb n m
