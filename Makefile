@@ -1,7 +1,7 @@
 # `make run` runs the main job, `make test` runs everything that is checked. The others: `make library`, `make driver`,
 # `make bench`, `make fuzz`, `make memory`, `make carriers`, `make map`, `make install PREFIX=..`. ARCH=aarch64 or ARCH=x86_64 says for which
 # processor; without it, for this machine's own. CORE=small says that the library is to have the small core's calls alone, and that
-# `make run` runs on it.
+# `make run` runs on it. OPTIMIZE=s or OPTIMIZE=z says that the library is to be small in the place of fast.
 
 CARGO = cargo --quiet
 SECOND = second/target/release/second
@@ -11,13 +11,10 @@ CORE ?= wide
 NAME_wide = nhiemavut
 NAME_small = nhiemavut_small
 NAME = $(NAME_$(CORE))
-LIBRARY = target/library/$(ARCH)/lib$(NAME).a
+OPTIMIZE ?= 3
+LIBRARY = target/library/$(ARCH)$(addprefix -O,$(filter s z,$(OPTIMIZE)))/lib$(NAME).a
 RUNNER_wide = runner
 RUNNER_small = small_runner
-# the members of the library, each with its calls
-RUN = run=nhiemavut_run,nhiemavut_undo
-SMALL = small=nhiemavut_small_run,nhiemavut_small_undo
-CARRY = carry=nhiemavut_widen,nhiemavut_narrow,nhiemavut_pack,nhiemavut_unpack
 SOURCES = crates.txt $(shell find crates -name '*.rt' -o -name '*.antt')
 
 # What `make run` runs: a runner image, or a program and a host graph in text.
@@ -58,17 +55,25 @@ runner:
 carriers:
 	@tools/prove check widen narrow
 
-# The static library for C, built again when a source of it is newer: all calls, or the small core's alone.
+# The static library for C, built again when a source of it is newer: all calls, or the small core's alone. A linker takes those of its
+# members whose calls are used, so each is compiled with no others.
 library: $(LIBRARY)
 	@:
 
-target/library/%/libnhiemavut.a: target/module/interpreter/module.ll
-	@mkdir -p $(@D)
-	@tools/module library interpreter $* $@ $(RUN) $(SMALL) $(CARRY)
+target/library/%/libnhiemavut.a: target/library/%/run.o target/library/%/small.o target/library/%/carry.o
+	@tools/module archive $@ $^
 
-target/library/%/libnhiemavut_small.a: target/module/interpreter/module.ll
+target/library/%/libnhiemavut_small.a: target/library/%/small.o
+	@tools/module archive $@ $^
+
+target/library/%/run.o: CALLS = nhiemavut_run nhiemavut_undo
+target/library/%/small.o: CALLS = nhiemavut_small_run nhiemavut_small_undo
+target/library/%/carry.o: CALLS = nhiemavut_widen nhiemavut_narrow nhiemavut_pack nhiemavut_unpack
+
+.PRECIOUS: target/library/%.o
+target/library/%.o: target/module/interpreter/module.ll
 	@mkdir -p $(@D)
-	@tools/module library interpreter $* $@ $(SMALL)
+	@tools/module object interpreter $(*D) $@ $(CALLS)
 
 # Proved code as the kit's compiler gets it, for either processor.
 .PRECIOUS: target/module/%/module.ll

@@ -1,8 +1,10 @@
 """What the benchmarks share: the processor whose code they measure, and C and proved code built for it.
 
-ARCH says which (aarch64 or x86_64); without it, this machine's own.
+ARCH says which (aarch64 or x86_64); without it, this machine's own. OPTIMIZE, s or z, says that the library is to be small in the place
+of fast.
 """
 import functools
+import os
 import pathlib
 import re
 import shutil
@@ -24,10 +26,11 @@ def run(words, **more):
 
 
 ARCH = run([PROCESSOR, "chosen"]).strip()
-CODE = run([PROCESSOR, "code", ARCH]).strip()
 WORK = ROOT / "target" / "bench" / ARCH
-LIBRARY = ROOT / "target" / "library" / ARCH / "libnhiemavut.a"
-# the small core's calls alone
+# compiled to be fast, or by OPTIMIZE, s or z, to be small
+OPTIMIZED = {"s": "-Os", "z": "-Oz"}.get(os.environ.get("OPTIMIZE", ""), "")
+LIBRARY = ROOT / "target" / "library" / f"{ARCH}{OPTIMIZED}" / "libnhiemavut.a"
+CODE = run([PROCESSOR, "code", ARCH]).strip() + (f" at {OPTIMIZED}" if OPTIMIZED else "")
 
 
 def ready(*goals):
