@@ -17,7 +17,7 @@ pub resized-same : {A : Type 0} (t : List (Slot A)) → resized (length t) t ≡
 resized-same t = rw (take-length t, sub-self (length t)) (append-nil t)
 
 -- free slots behind a table are those that it has not
-free-behind : {A : Type 0} (t : List (Slot A)) (n i : ℕ) → getD (t ++ replicate n free) i free ≡ getD t i free
+pub free-behind : {A : Type 0} (t : List (Slot A)) (n i : ℕ) → getD (t ++ replicate n free) i free ≡ getD t i free
 free-behind [] zero i = refl
 free-behind [] (suc n) zero = refl
 free-behind [] (suc n) (suc i) = free-behind [] n i

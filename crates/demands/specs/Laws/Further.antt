@@ -15,6 +15,7 @@ use Rattle.meaning.specs.Matching.{leftNodes, leftEdges, Match}
 use Rattle.meaning.specs.Applying.{Right, rightSide, Ledger, standing, store, stores, lowestFree, freeSlots, edgesGo, nodesChange, Added, addNodes, between, addEdges, changed, newNodes, goneNodes, recordsOf, hindrance, Applied, applied, hindered, unhindered, apply, ledgerAt}
 use Rattle.meaning.specs.Laws.Every.{Every, Every-then}
 use Rattle.laws.specs.Records.{Every-append}
+use Rattle.laws.specs.Resized.{free-behind}
 use Rattle.meaning.specs.Laws.Slots.{lowestFree-lt, freeSlots-append, come-free, put-nodes, put-edges, liveAt-lt}
 use Rattle.demands.specs.Laws.Hindrance.{labels-first, nodes-second, edges-third, records-last, unhindered-of}
 use Rattle.meaning.specs.Laws.Applying.{store-host, rightSide-some}
@@ -30,11 +31,7 @@ abbrev pub further : {A : Type 0} → ℕ → List (Slot A) → List (Slot A)
 further n t = t ++ replicate n free
 
 pub further-at : {A : Type 0} (n : ℕ) (t : List (Slot A)) (i : ℕ) → getD (further n t) i free ≡ getD t i free
-further-at zero [] i = refl
-further-at (suc n) [] zero = refl
-further-at (suc n) [] (suc i) = further-at n [] i
-further-at n (s ∷ t) zero = refl
-further-at n (s ∷ t) (suc i) = further-at n t i
+further-at n t i = free-behind t n i
 
 all-free : (A : Type 0) (n : ℕ) → freeSlots {A = A} (replicate n free) ≡ n
 unfolding freeSlots
