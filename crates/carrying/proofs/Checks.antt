@@ -6,9 +6,9 @@ use mathlib.Core.List.{List}
 use Prim.Native.Nat.{ℕ, _*_, _/_, _≤_}
 use lib.ListN.{length}
 use Rattle.meaning.specs.Basics.{choose, both, clauses, firstFailing}
-use Rattle.meaning.specs.Layout.{Sized, mostAtoms, nodeLength, edgeLength, fitsTable, readNodes, readEdges, writeNodes, writeEdges, keepsLayout}
+use Rattle.meaning.specs.Layout.{Sized, mostAtoms, nodeLength, edgeLength, fitsTable, keepsLayout}
 use Rattle.meaning.specs.Calls.{answerNumber}
-use Rattle.meaning.specs.Carrying.{LentTables, lendingTables, Carries, countsAgree, lengthsAgree, slotsFit, hostFits, unfit, resized, carryRefusal, carryOn, carry}
+use Rattle.meaning.specs.Carrying.{LentTables, Carries, countsAgree, lengthsAgree, slotsFit, hostFits, unfit, carryRefusal, carryOn, carry}
 use Rattle.meaning.specs.Laws.Tests.{both-true}
 use Rattle.laws.specs.Pieces.{fits-whole}
 use Rattle.meaning.specs.declared.Layout.{Layout}
@@ -18,7 +18,7 @@ use Rattle.meaning.specs.declared.Refusal.the-variants.{NodeTableLength, EdgeTa
 use Rattle.meaning.specs.declared.Answer.the-variants.{Result, Refused}
 use Rattle.meaning.specs.declared.Table.the-variants.{Nodes, Edges}
 use Rattle.graph.specs.Graph.{Legal}
-use Rattle.carrying.specs.Tables.{labelsFitIn, fitsIn}
+use Rattle.carrying.specs.Tables.{labelsFitIn, fitsIn, tableCarried}
 use Rattle.laws.specs.Carrying.{lengths-agree, Taken, taken}
 
 -- Lengths.
@@ -53,21 +53,18 @@ fits-not a b e = rw e
 
 -- The checks in their order.
 
-module _ (k : Manner) (L M : Layout) (nodes edges toNodes toEdges : List ℕ) where
-  abbrev x : LentTables
-  x = lendingTables nodes edges toNodes toEdges
-
+module _ (k : Manner) (L M : Layout) (x : LentTables) where
   abbrev nodesAgree : Bool
-  nodesAgree = lengthsAgree k (nodeLength L) (L .nodes) nodes (nodeLength M) (M .nodes) toNodes
+  nodesAgree = lengthsAgree k (nodeLength L) (L .nodes) (x .nodes) (nodeLength M) (M .nodes) (x .toNodes)
 
   abbrev edgesAgree : Bool
-  edgesAgree = lengthsAgree k (edgeLength L) (L .edges) edges (edgeLength M) (M .edges) toEdges
+  edgesAgree = lengthsAgree k (edgeLength L) (L .edges) (x .edges) (edgeLength M) (M .edges) (x .toEdges)
 
   abbrev nodesFit : Bool
-  nodesFit = fitsIn L nodes edges Nodes (M .atoms) (length toNodes / nodeLength M)
+  nodesFit = fitsIn L (x .nodes) (x .edges) Nodes (M .atoms) (length (x .toNodes) / nodeLength M)
 
   abbrev edgesFit : Bool
-  edgesFit = fitsIn L nodes edges Edges (M .atoms) (length toEdges / edgeLength M)
+  edgesFit = fitsIn L (x .nodes) (x .edges) Edges (M .atoms) (length (x .toEdges) / edgeLength M)
 
   pub other-nodes : nodesAgree ≡ false → some NodeTableLength ≡ carryRefusal k L M x
   unfolding carryRefusal firstFailing choose
@@ -79,12 +76,12 @@ module _ (k : Manner) (L M : Layout) (nodes edges toNodes toEdges : List ℕ) wh
     other-edges e = rw (n, e)
 
     module _ (e : edgesAgree ≡ true) where
-      pub damaged : keepsLayout L nodes edges ≡ false → some BadHost ≡ carryRefusal k L M x
+      pub damaged : keepsLayout L (x .nodes) (x .edges) ≡ false → some BadHost ≡ carryRefusal k L M x
       unfolding carryRefusal firstFailing choose
       damaged l = rw (n, e, l)
 
-      module _ (l : keepsLayout L nodes edges ≡ true) where
-        pub legal : Sized L → L .atoms ≤ mostAtoms → Legal L nodes edges
+      module _ (l : keepsLayout L (x .nodes) (x .edges) ≡ true) where
+        pub legal : Sized L → L .atoms ≤ mostAtoms → Legal L (x .nodes) (x .edges)
         legal s a =
             record { sized = s; few = a; nodesFit = lengths-agree _ _ _ _ _ _ _ n .from; edgesFit = lengths-agree _ _ _ _ _ _ _ e .from; keeps = l }
 
@@ -101,23 +98,24 @@ module _ (k : Manner) (L M : Layout) (nodes edges toNodes toEdges : List ℕ) wh
           unfolding carryRefusal firstFailing choose hostFits slotsFit both
           fine g = rw (n, e, l, f, g)
 
-  -- slots are as long as the layouts say
+  -- A test b of the code, in whose layouts slots are as long as they say.
   module _ (s : Sized L) (t : Sized M) (b : Bool) where
-    pub nodes-told : b ≡ lengthsAgree k (L .node) (L .nodes) nodes (M .node) (M .nodes) toNodes → b ≡ nodesAgree
-    nodes-told e = e ∙ (λ i. lengthsAgree k (s .node i) (L .nodes) nodes (t .node i) (M .nodes) toNodes)
+    pub nodes-told : b ≡ lengthsAgree k (L .node) (L .nodes) (x .nodes) (M .node) (M .nodes) (x .toNodes) → b ≡ nodesAgree
+    nodes-told e = e ∙ (λ i. lengthsAgree k (s .node i) (L .nodes) (x .nodes) (t .node i) (M .nodes) (x .toNodes))
 
-    pub edges-told : b ≡ lengthsAgree k (L .edge) (L .edges) edges (M .edge) (M .edges) toEdges → b ≡ edgesAgree
-    edges-told e = e ∙ (λ i. lengthsAgree k (s .edge i) (L .edges) edges (t .edge i) (M .edges) toEdges)
+    pub edges-told : b ≡ lengthsAgree k (L .edge) (L .edges) (x .edges) (M .edge) (M .edges) (x .toEdges) → b ≡ edgesAgree
+    edges-told e = e ∙ (λ i. lengthsAgree k (s .edge i) (L .edges) (x .edges) (t .edge i) (M .edges) (x .toEdges))
 
-    pub nodes-fit-told : b ≡ fitsIn L nodes edges Nodes (M .atoms) (length toNodes / M .node) → b ≡ nodesFit
-    nodes-fit-told e = e ∙ (λ i. fitsIn L nodes edges Nodes (M .atoms) (length toNodes / t .node i))
+    pub nodes-fit-told : b ≡ fitsIn L (x .nodes) (x .edges) Nodes (M .atoms) (length (x .toNodes) / M .node) → b ≡ nodesFit
+    nodes-fit-told e = e ∙ (λ i. fitsIn L (x .nodes) (x .edges) Nodes (M .atoms) (length (x .toNodes) / t .node i))
 
-    pub edges-fit-told : b ≡ fitsIn L nodes edges Edges (M .atoms) (length toEdges / M .edge) → b ≡ edgesFit
-    edges-fit-told e = e ∙ (λ i. fitsIn L nodes edges Edges (M .atoms) (length toEdges / t .edge i))
+    pub edges-fit-told : b ≡ fitsIn L (x .nodes) (x .edges) Edges (M .atoms) (length (x .toEdges) / M .edge) → b ≡ edgesFit
+    edges-fit-told e = e ∙ (λ i. fitsIn L (x .nodes) (x .edges) Edges (M .atoms) (length (x .toEdges) / t .edge i))
 
   -- What is left by the refusal.
 
-  pub left-refused : (w : Refusal) → some w ≡ carryRefusal k L M x → Carries (carry k L M x) (answerNumber (Refused w)) toNodes toEdges
+  pub left-refused : (w : Refusal) → some w ≡ carryRefusal k L M x
+      → Carries (carry k L M x) (answerNumber (Refused w)) (x .toNodes) (x .toEdges)
   unfolding carry carryOn
   left-refused w e = rw (← e) (record { numbered = refl; nodesReturned = refl; edgesReturned = refl })
 
@@ -125,32 +123,30 @@ module _ (k : Manner) (L M : Layout) (nodes edges toNodes toEdges : List ℕ) wh
     its : Taken k L M x
     its = taken k L M x (sym e)
 
-    pub left-taken : (ns es : List ℕ) → ns ≡ writeNodes M (resized (length toNodes / nodeLength M) (readNodes L nodes))
-        → es ≡ writeEdges M (resized (length toEdges / edgeLength M) (readEdges L edges)) → Carries (carry k L M x) (answerNumber Result) ns es
-    unfolding carry carryOn
-    left-taken ns es p q = rw (← e) (record { numbered = refl; nodesReturned = p; edgesReturned = q })
-
-    pub taken-legal : Sized L → L .atoms ≤ mostAtoms → Legal L nodes edges
+    pub taken-legal : Sized L → L .atoms ≤ mostAtoms → Legal L (x .nodes) (x .edges)
     taken-legal s a = record { sized = s; few = a; nodesFit = its .nodes .from; edgesFit = its .edges .from; keeps = its .layout }
 
-    pub nodes-labels : labelsFitIn L nodes edges Nodes (M .atoms) ≡ true
+    pub nodes-labels : labelsFitIn L (x .nodes) (x .edges) Nodes (M .atoms) ≡ true
     unfolding hostFits slotsFit
     nodes-labels = both-true _ _ (both-true _ _ (its .fits) .0) .0
 
-    pub edges-labels : labelsFitIn L nodes edges Edges (M .atoms) ≡ true
+    pub edges-labels : labelsFitIn L (x .nodes) (x .edges) Edges (M .atoms) ≡ true
     unfolding hostFits slotsFit
     edges-labels = both-true _ _ (both-true _ _ (its .fits) .1) .0
 
-    -- slots are as long as the layout says
     module _ (t : Sized M) where
-      pub nodes-size : length toNodes ≡ length toNodes / M .node * nodeLength M
-      nodes-size = rw (t .node) (sym (fits-whole (nodeLength M) (M .nodes) toNodes (its .nodes .into)))
+      pub nodes-size : length (x .toNodes) ≡ length (x .toNodes) / M .node * nodeLength M
+      nodes-size = rw (t .node) (sym (fits-whole (nodeLength M) (M .nodes) (x .toNodes) (its .nodes .into)))
 
-      pub edges-size : length toEdges ≡ length toEdges / M .edge * edgeLength M
-      edges-size = rw (t .edge) (sym (fits-whole (edgeLength M) (M .edges) toEdges (its .edges .into)))
+      pub edges-size : length (x .toEdges) ≡ length (x .toEdges) / M .edge * edgeLength M
+      edges-size = rw (t .edge) (sym (fits-whole (edgeLength M) (M .edges) (x .toEdges) (its .edges .into)))
 
-      pub nodes-there : writeNodes M (resized (length toNodes / M .node) (readNodes L nodes)) ≡ writeNodes M (resized (length toNodes / nodeLength M) (readNodes L nodes))
-      nodes-there = λ i. writeNodes M (resized (length toNodes / t .node i) (readNodes L nodes))
-
-      pub edges-there : writeEdges M (resized (length toEdges / M .edge) (readEdges L edges)) ≡ writeEdges M (resized (length toEdges / edgeLength M) (readEdges L edges))
-      edges-there = λ i. writeEdges M (resized (length toEdges / t .edge i) (readEdges L edges))
+      -- both tables, at the counts of slots that the code has
+      pub left-taken : (ns es : List ℕ) → ns ≡ tableCarried L M (x .nodes) (x .edges) Nodes (length (x .toNodes) / M .node)
+          → es ≡ tableCarried L M (x .nodes) (x .edges) Edges (length (x .toEdges) / M .edge)
+          → Carries (carry k L M x) (answerNumber Result) ns es
+      unfolding carry carryOn
+      left-taken ns es p q =
+          let n = p ∙ (λ i. tableCarried L M (x .nodes) (x .edges) Nodes (length (x .toNodes) / t .node i)) in
+          let m = q ∙ (λ i. tableCarried L M (x .nodes) (x .edges) Edges (length (x .toEdges) / t .edge i)) in
+          rw (← e) (record { numbered = refl; nodesReturned = n; edgesReturned = m })

@@ -25,7 +25,9 @@ is-live-requires : tie.Need-is-live-requires Inv-loop μ-loop
 is-live-requires c κs = search needs
 
 returns : tie.Need-returns Inv-loop μ-loop
-returns c = let a = c .before .before .before .before .before .before .before .args in free-not (a .l) (a .nodes .now) (a .edges .now) (a .which) (a .n) (c .before .before .before .loop .x) (c .before .before .before .loop .inv .0) (omega (arith, c .before .before .before .before .slots-in .ensures, c .before .before .loop-test .taken)) (sym (c .before .is-live .ensures) ∙ c .if1 .taken)
+returns c =
+    let a = c .before .before .before .before .before .before .before .args in
+    free-not (a .l) (a .nodes .now) (a .edges .now) (a .which) (a .n) (c .before .before .before .loop .x) (c .before .before .before .loop .inv .0) (omega (arith, c .before .before .before .before .slots-in .ensures, c .before .before .loop-test .taken)) (sym (c .before .is-live .ensures) ∙ c .if1 .taken)
 
 add-x : tie.Need-add-x Inv-loop μ-loop
 add-x c = search needs
@@ -34,10 +36,14 @@ loop-less : tie.Need-loop-less Inv-loop μ-loop
 loop-less c = omega arith
 
 loop-again : tie.Need-loop-again Inv-loop μ-loop
-loop-again c = let a = c .before .before .before .before .before .before .before .args in (omega (arith, c .before .before .before .loop .inv .0), one-further (λ i. liveIn (a .l) (a .nodes .now) (a .edges .now) (a .which) i ≡ false) (a .n) (c .before .before .before .loop .x) (c .before .before .before .loop .inv .1) (sym (c .before .is-live .ensures) ∙ c .if1 .left))
+loop-again c =
+    let a = c .before .before .before .before .before .before .before .args in
+    (omega (arith, c .before .before .before .loop .inv .0), one-further (λ i. liveIn (a .l) (a .nodes .now) (a .edges .now) (a .which) i ≡ false) (a .n) (c .before .before .before .loop .x) (c .before .before .before .loop .inv .1) (sym (c .before .is-live .ensures) ∙ c .if1 .left))
 
 returns-2 : tie.Need-returns-2 Inv-loop μ-loop
-returns-2 c = let a = c .before .before .before .before .before .args in sym (free-of (a .l) (a .nodes .now) (a .edges .now) (a .which) (a .n) (λ i h k. c .before .loop .inv .1 i h (omega (arith, c .before .before .slots-in .ensures, c .loop-test .left))))
+returns-2 c =
+    let a = c .before .before .before .before .before .args in
+    sym (free-of (a .l) (a .nodes .now) (a .edges .now) (a .which) (a .n) (λ i h k. c .before .loop .inv .1 i h (omega (arith, c .before .before .slots-in .ensures, c .loop-test .left))))
 
 pub free-from-spec : {M : Type 1} → statement M
 free-from-spec =

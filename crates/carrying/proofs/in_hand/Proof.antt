@@ -45,7 +45,8 @@ returns : tie.Need-returns Inv-loop μ-loop
 returns c =
     let s = c .before .before .before .before in
     let a = s .args in
-    let e : c .before .loop .j ≡ c .before .before .count .result = omega (arith, c .loop-test .left, c .before .loop .inv .1) in filled-all (laid (a .a .now)) (c .before .loop .atoms) (c .before .before .count .result) (rw e at (c .before .loop .inv .0)) (omega (arith, c .before .before .count .ensures, s .pre)) (c .before .before .count .ensures)
+    let e : c .before .loop .j ≡ c .before .before .count .result = omega (arith, c .loop-test .left, c .before .loop .inv .1) in
+    filled-all (laid (a .a .now)) (c .before .loop .atoms) (c .before .before .count .result) (rw e at (c .before .loop .inv .0)) (omega (arith, c .before .before .count .ensures, s .pre)) (c .before .before .count .ensures)
 
 pub in-hand-spec : {M : Type 1} → statement M
 in-hand-spec =

@@ -21,10 +21,16 @@ live-slot-requires-2 : tie.Need-live-slot-requires-2
 live-slot-requires-2 c κs = search needs
 
 returns : tie.Need-returns
-returns c = let s = c .before .before .before .before .before in let a = s .args in rw (c .before .enum-told .given .1) (c .live-slot .ensures ∙ ap (λ (w : ℕ). liveAt (states w (a .nodes .now)) (a .x)) (s .pre .node) ∙ sym (live-nodes (a .l) (a .nodes .now) (a .x)))
+returns c =
+    let s = c .before .before .before .before .before in
+    let a = s .args in
+    rw (c .before .enum-told .given .1) (c .live-slot .ensures ∙ ap (λ (w : ℕ). liveAt (states w (a .nodes .now)) (a .x)) (s .pre .node) ∙ sym (live-nodes (a .l) (a .nodes .now) (a .x)))
 
 returns-2 : tie.Need-returns-2
-returns-2 c = let s = c .before .before .before .before .before in let a = s .args in rw (c .before .enum-told2 .given .1) (c .live-slot2 .ensures ∙ ap (λ (w : ℕ). liveAt (states w (a .edges .now)) (a .x)) (s .pre .edge) ∙ sym (live-edges (a .l) (a .edges .now) (a .x)))
+returns-2 c =
+    let s = c .before .before .before .before .before in
+    let a = s .args in
+    rw (c .before .enum-told2 .given .1) (c .live-slot2 .ensures ∙ ap (λ (w : ℕ). liveAt (states w (a .edges .now)) (a .x)) (s .pre .edge) ∙ sym (live-edges (a .l) (a .edges .now) (a .x)))
 
 pub is-live-spec : {M : Type 1} → statement M
 is-live-spec =
