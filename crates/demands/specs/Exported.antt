@@ -6,8 +6,7 @@
 use mathlib.Core.Path.{_≡_, refl, sym, _∙_, ap, subst}
 use mathlib.Core.Logic.{_↔_}
 use mathlib.Core.List.{List, [], _∷_}
-use Prim.Native.Nat.{ℕ, _<_}
-use native.Mathlib.Omega.{arith}
+use Prim.Native.Nat.{ℕ}
 use lib.ListN.{length}
 use Rattle.meaning.specs.Layout.{layoutOf}
 use Rattle.meaning.specs.Calls.{Lent, LentUndo, Returned, Yields, run, undo, RunPromise, UndoPromise}
@@ -21,7 +20,6 @@ use Rattle.meaning.specs.Laws.Promises.{yields-one}
 use Rattle.laws.specs.Undoing.{Numbered, core-numbered}
 use Rattle.meaning.specs.declared.Layout.{Layout}
 use Rattle.meaning.specs.declared.Core.{Core}
-use Rattle.meaning.specs.declared.Core.the-variants.{Wide, Small}
 
 pub record Exported (L : Layout) (I : Interpreter) : Type 0 where
   pub run : (x : Lent) → Lendable x
@@ -60,7 +58,7 @@ module _ (L : Layout) (I : Interpreter) (e : Exported L I) where
 
 -- The demands.
 
-module _ (L : Layout) (numbered : Numbered L) (few : L .atoms < 256) where
+module _ (L : Layout) (numbered : Numbered L) where
   module _ (I : Interpreter) (e : Exported L I) where
     same-run : (x : Lent) → Lendable x → I .run x ≡ ours L .run x
     same-run = exported-run L I e
@@ -74,7 +72,7 @@ module _ (L : Layout) (numbered : Numbered L) (few : L .atoms < 256) where
     after-result x b report r z =
         let q = same-run x b in
         let c : ours L .run x .answer ≡ 0 = ap (λ (o : Outcome). o .answer) (sym q) ∙ z in
-        ap (λ (o : Outcome). I .undo (lentAfter o report)) q ∙ same-undo _ (left-lendable L numbered few x b c report r)
+        ap (λ (o : Outcome). I .undo (lentAfter o report)) q ∙ same-undo _ (left-lendable L numbered x b c report r)
 
     exported-1 : Demand1 L I
     exported-1 =
@@ -141,11 +139,6 @@ module _ (L : Layout) (numbered : Numbered L) (few : L .atoms < 256) where
 
 -- Both cores.
 
--- a label's length is a byte
-pub core-few : (c : Core) → layoutOf c .atoms < 256
-core-few Wide = omega arith
-core-few Small = omega arith
-
 pub cores-exported-met : (c : Core) (I : Interpreter) → Exported (layoutOf c) I
     → Demand1 (layoutOf c) I × Demand2 (layoutOf c) I × Demand3 (layoutOf c) I
-cores-exported-met c = exported-met (layoutOf c) (core-numbered c) (core-few c)
+cores-exported-met c = exported-met (layoutOf c) (core-numbered c)

@@ -33,7 +33,7 @@ stated-fits steps records =
     let n = number-lt (drop 4 (reporting steps records)) (Bytes-drop 4 (reporting steps records) (Bytes-append (bytes 4 steps) (bytes 4 records) (Bytes-bytes 4 steps) (Bytes-bytes 4 records))) in
     subst (λ (k : ℕ). number (drop 4 (reporting steps records)) < 256 ^ k) l n
 
-module _ (L : Layout) (numbered : Numbered L) (few : L .atoms < 256) (x : Lent) (k : Lendable x) (a : Good L x) where
+module _ (L : Layout) (numbered : Numbered L) (x : Lent) (k : Lendable x) (a : Good L x) where
   abbrev out : Out
   out = end L x (a .tree)
 
@@ -49,7 +49,7 @@ module _ (L : Layout) (numbered : Numbered L) (few : L .atoms < 256) (x : Lent) 
       let l : length (left .nodes) ≡ length (x .nodes) =
       length-writeNodes L h (legal .host) ∙ ap (λ (n : ℕ). n * nodeLength L) (legal .nodes) ∙ fits-whole _ _ (x .nodes) (a .nodesFit) in
       record {
-        bytewise = Bytes-write (writeNode L) (h .nodes) free (λ i. Bytes-writeNode L few (getD (h .nodes) i free) (legal .host .nodes i));
+        bytewise = Bytes-write (writeNode L) (h .nodes) free (λ i. Bytes-writeNode L (numbered .labels) (getD (h .nodes) i free) (legal .host .nodes i));
         fits = rw l (k .nodes .fits);
       }
 
@@ -59,7 +59,7 @@ module _ (L : Layout) (numbered : Numbered L) (few : L .atoms < 256) (x : Lent) 
       let l : length (left .edges) ≡ length (x .edges) =
       length-writeEdges L h (legal .host) ∙ ap (λ (n : ℕ). n * edgeLength L) (legal .edges) ∙ fits-whole _ _ (x .edges) (a .edgesFit) in
       record {
-        bytewise = Bytes-write (writeEdge L) (h .edges) free (λ i. Bytes-writeEdge L few (getD (h .edges) i free) (legal .host .edges i));
+        bytewise = Bytes-write (writeEdge L) (h .edges) free (λ i. Bytes-writeEdge L (numbered .labels) (getD (h .edges) i free) (legal .host .edges i));
         fits = rw l (k .edges .fits);
       }
 
@@ -67,7 +67,7 @@ module _ (L : Layout) (numbered : Numbered L) (few : L .atoms < 256) (x : Lent) 
   journal-left =
       let js : List (Change (Slot Node) (Slot Edge)) = out .state .ledger .journal in
       record {
-        bytewise = Bytes-padded (length (x .journal)) (concat (map (writeRecord L) (reverse js))) (Bytes-records L few (reverse js) (Every-reverse (LegalChange L) js (legal .records)));
+        bytewise = Bytes-padded (length (x .journal)) (concat (map (writeRecord L) (reverse js))) (Bytes-records L (numbered .labels) (reverse js) (Every-reverse (LegalChange L) js (legal .records)));
         fits = rw (length-padded (length (x .journal)) (concat (map (writeRecord L) (reverse js))) (written-fits L numbered x k a))
             (k .journal .fits);
       }
@@ -89,10 +89,10 @@ module _ (L : Layout) (numbered : Numbered L) (few : L .atoms < 256) (x : Lent) 
   end-lendable report r Broke z = absurd (omega arith)
   end-lendable report r (Stopped w) z = absurd (omega (arith, stop-answer w .1))
 
-pub left-lendable : (L : Layout) → Numbered L → L .atoms < 256 → (x : Lent) → Lendable x → ours L .run x .answer ≡ 0
+pub left-lendable : (L : Layout) → Numbered L → (x : Lent) → Lendable x → ours L .run x .answer ≡ 0
     → (report : List ℕ) → Buffer report → LendableUndo (lentAfter (ours L .run x) report)
-left-lendable L numbered few x k z report r =
+left-lendable L numbered x k z report r =
     let e = run-settled L x (omega arith) in
     let a = good L x e in
     let l = ours-outcome L x (a .tree) e (a .form) in
-    subst (λ (o : Outcome). LendableUndo (lentAfter o report)) (sym l) (end-lendable L numbered few x k a report r (end L x (a .tree) .end) (ap (λ (o : Outcome). o .answer) (sym l) ∙ z))
+    subst (λ (o : Outcome). LendableUndo (lentAfter o report)) (sym l) (end-lendable L numbered x k a report r (end L x (a .tree) .end) (ap (λ (o : Outcome). o .answer) (sym l) ∙ z))

@@ -37,21 +37,22 @@ use Rattle.meaning.specs.declared.Answer.the-variants.{Result}
 use Rattle.meaning.specs.declared.End.{End}
 use Rattle.meaning.specs.declared.End.the-variants.{Done, Failed, Broke, Stopped}
 
--- the slot numbers of the largest tables have the layout's width, and the count of a full journal four bytes
+-- the slot numbers of the largest tables have the layout's width, the length of a label one byte, and the count of a full journal four
 pub record Numbered (L : Layout) : Type 0 where
   pub narrow : 0 < L .width
   pub nodes : L .nodes ≤ 256 ^ L .width
   pub edges : L .edges ≤ 256 ^ L .width
   pub records : L .records < whole
+  pub labels : L .atoms < 256
 
 pub base-numbered : Numbered base
-base-numbered = record { narrow = omega arith; nodes = omega arith; edges = omega arith; records = omega arith }
+base-numbered = record { narrow = omega arith; nodes = omega arith; edges = omega arith; records = omega arith; labels = omega arith }
 
 pub four-numbered : Numbered four
-four-numbered = record { narrow = omega arith; nodes = omega arith; edges = omega arith; records = omega arith }
+four-numbered = record { narrow = omega arith; nodes = omega arith; edges = omega arith; records = omega arith; labels = omega arith }
 
 pub small-numbered : Numbered small
-small-numbered = record { narrow = omega arith; nodes = omega arith; edges = omega arith; records = omega arith }
+small-numbered = record { narrow = omega arith; nodes = omega arith; edges = omega arith; records = omega arith; labels = omega arith }
 
 pub core-numbered : (c : Core) → Numbered (layoutOf c)
 core-numbered Wide = base-numbered
