@@ -1,8 +1,8 @@
 -- From the contracts of the exported calls to the demands. An interpreter is `Exported L` if what it leaves of all that can be lent keeps
 -- the promises `RunPromise L` and `UndoPromise L`. At `base` these are all that the contracts of nhiemavut_run and nhiemavut_undo say,
 -- at `small` all that those of nhiemavut_small_run and nhiemavut_small_undo say. Each promise admits one outcome and no other; an
--- exported interpreter meets all three demands, and one that meets demands 1 and 2 is exported. It holds over every layout whose slots
--- its numbers can name (`Numbered`) and whose labels have a byte for their length. Rests on Met, OneOutcome, Lending and Again.
+-- exported interpreter meets all three demands, and one that meets demands 1 and 2 is exported. It holds over every layout whose numbers
+-- fit their bytes (`Numbered`). Rests on Met, OneOutcome, Lending and Again.
 use mathlib.Core.Path.{_≡_, refl, sym, _∙_, ap, subst}
 use mathlib.Core.Logic.{_↔_}
 use mathlib.Core.List.{List, [], _∷_}

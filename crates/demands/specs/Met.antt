@@ -1,4 +1,4 @@
--- Our two calls meet all three demands, over every layout whose slots its numbers can name; so do the calls of both cores.
+-- Our two calls meet all three demands, over every layout whose numbers fit their bytes; so do the calls of both cores.
 -- Rests on First, Second and Third.
 use Rattle.meaning.specs.Layout.{layoutOf}
 use Rattle.demands.specs.Demands.{Demand1, Demand2, Demand3}
