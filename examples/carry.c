@@ -4,37 +4,18 @@
  * from. Shows that lengths which don't belong together are refused, and that a refused call writes nothing. Exits with 1 where
  * anything is otherwise.
  */
-#include <stdio.h>
 #include <string.h>
 
+#include "checks.h"
+#include "images.h"
 #include "nhiemavut.h"
 
 enum { NODES = 2, EDGES = 1, RECORDS = 2, UNTOUCHED = 0xA5 };
-
-/* A grey node's list of atoms is doubled, and the node is red then. Each field is a tag, a length of two bytes and as many bytes. */
-static const uint8_t image[] = {
-    0x10, 0, 39,                                                    /* a rule */
-    0x11, 0, 1, 2,                                                  /*   one list variable, x */
-    0x12, 0, 9, 0x20, 0, 6, 4, 0, 0x31, 0, 1, 0,                    /*   left: grey x */
-    0x13, 0, 13, 0x20, 0, 10, 1, 0, 0x31, 0, 1, 0, 0x31, 0, 1, 0,   /*   right: red x:x */
-    0x14, 0, 1, 1,                                                  /*   the node is the same */
-    0x15, 0, 0,                                                     /*   no tests */
-    0x50, 0, 1, 0,                                                  /* a call of the rule */
-};
 
 static uint8_t old_nodes[NODES * NHIEMAVUT_OLD_NODE_BYTES], old_edges[EDGES * NHIEMAVUT_OLD_EDGE_BYTES];
 static uint8_t nodes[NODES * NHIEMAVUT_NODE_BYTES], edges[EDGES * NHIEMAVUT_EDGE_BYTES];
 static uint8_t back_nodes[sizeof old_nodes], back_edges[sizeof old_edges];
 static uint8_t journal[RECORDS * NHIEMAVUT_RECORD_BYTES], report[NHIEMAVUT_REPORT_BYTES];
-static int failures = 0;
-
-static void expect(int holds, const char *what)
-{
-    printf("%s: %s\n", holds ? "ok" : "NOT", what);
-    if (!holds) {
-        failures += 1;
-    }
-}
 
 /* A free slot, then a grey node labelled 1:2:3 with a dashed edge to itself. */
 static void put_graph(void)
@@ -51,15 +32,6 @@ static uint32_t narrow(void)
     memset(back_nodes, UNTOUCHED, sizeof back_nodes);
     memset(back_edges, UNTOUCHED, sizeof back_edges);
     return nhiemavut_narrow(nodes, sizeof nodes, edges, sizeof edges, back_nodes, sizeof back_nodes, back_edges, sizeof back_edges);
-}
-
-static int all(const uint8_t *bytes, size_t length, uint8_t byte)
-{
-    while (length > 0 && *bytes == byte) {
-        bytes += 1;
-        length -= 1;
-    }
-    return length == 0;
 }
 
 /* The slot of a wide table is that of the old one with zeros behind it. */
@@ -81,7 +53,7 @@ static void check_there_and_back(void)
                    NHIEMAVUT_OLD_NODE_BYTES) &&
                widened(edges, sizeof edges, old_edges, sizeof old_edges),
            "a live slot has its bytes, and zeros for the atoms that it doesn't use");
-    expect(nhiemavut_run(nodes, sizeof nodes, edges, sizeof edges, journal, sizeof journal, image, sizeof image, 1, report,
+    expect(nhiemavut_run(nodes, sizeof nodes, edges, sizeof edges, journal, sizeof journal, doubling, sizeof doubling, 1, report,
                          sizeof report) == NHIEMAVUT_RESULT,
            "a program comes to a result on them");
     expect(memcmp(nodes + NHIEMAVUT_NODE_BYTES, six, sizeof six) == 0, "with a label of six atoms");

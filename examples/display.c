@@ -8,6 +8,7 @@
 #include <stdio.h>
 #include <string.h>
 
+#include "checks.h"
 #include "nhiemavut.h"
 
 enum { NODES = 3, EDGES = 2, RECORDS = 12, FUEL = 20 };
@@ -50,15 +51,6 @@ static const uint8_t left_nodes[sizeof came_nodes] = {
 
 static uint8_t nodes[sizeof came_nodes], edges[sizeof came_edges];
 static uint8_t journal[RECORDS * NHIEMAVUT_SMALL_RECORD_BYTES], report[NHIEMAVUT_REPORT_BYTES];
-static int failures = 0;
-
-static void expect(int holds, const char *what)
-{
-    printf("%s: %s\n", holds ? "ok" : "NOT", what);
-    if (!holds) {
-        failures += 1;
-    }
-}
 
 static uint32_t run(size_t records)
 {

@@ -7,42 +7,16 @@
 #include <stdio.h>
 #include <string.h>
 
+#include "checks.h"
+#include "images.h"
 #include "nhiemavut.h"
 
 enum { NODES = 2, EDGES = 1, RECORDS = 8 };
-
-/* Each field is a tag, a length of two bytes and as many bytes. */
-static const uint8_t image[] = {
-    0x10, 0, 73,                                                    /* a rule */
-    0x11, 0, 2, 1, 1,                                               /*   two int variables, x and y */
-    0x12, 0, 24,                                                    /*   left: */
-    0x20, 0, 6, 4, 0, 0x31, 0, 1, 0,                                /*     grey x */
-    0x20, 0, 6, 4, 0, 0x31, 0, 1, 1,                                /*     grey y */
-    0x21, 0, 3, 0, 0, 1,                                            /*     an edge from x to y */
-    0x13, 0, 31,                                                    /*   right: */
-    0x20, 0, 6, 1, 0, 0x31, 0, 1, 0,                                /*     red x */
-    0x20, 0, 13, 3, 0, 0x32, 0, 8, 0x31, 0, 1, 0, 0x31, 0, 1, 1,    /*     blue x + y */
-    0x21, 0, 3, 0, 1, 0,                                            /*     the edge turned round */
-    0x14, 0, 1, 2,                                                  /*   both nodes are the interface */
-    0x15, 0, 0,                                                     /*   no tests */
-    0x54, 0, 4,                                                     /* a loop over */
-    0x50, 0, 1, 0,                                                  /*   rule 0 */
-};
 
 static uint8_t nodes[NODES * NHIEMAVUT_NODE_BYTES];
 static uint8_t edges[EDGES * NHIEMAVUT_EDGE_BYTES];
 static uint8_t journal[RECORDS * NHIEMAVUT_RECORD_BYTES];
 static uint8_t report[NHIEMAVUT_REPORT_BYTES];
-
-static int failures = 0;
-
-static void expect(int holds, const char *what)
-{
-    printf("%s: %s\n", holds ? "ok" : "NOT", what);
-    if (!holds) {
-        failures += 1;
-    }
-}
 
 static uint32_t number(const uint8_t *from, int bytes)
 {
@@ -83,7 +57,7 @@ static void list_graph(void)
 
 static uint32_t run(uint32_t fuel)
 {
-    uint32_t answer = nhiemavut_run(nodes, sizeof nodes, edges, sizeof edges, journal, sizeof journal, image, sizeof image, fuel,
+    uint32_t answer = nhiemavut_run(nodes, sizeof nodes, edges, sizeof edges, journal, sizeof journal, adding, sizeof adding, fuel,
                                     report, sizeof report);
     printf("answer %u steps %u records %u\n", (unsigned)answer, (unsigned)number(report, 4), (unsigned)number(report + 4, 4));
     return answer;

@@ -4,42 +4,14 @@
  * tables, a label of two atoms and a live slot that they don't have, and that a refused packing writes nothing; and a program whose
  * label is too large on the small core alone. Exits with 1 where anything is otherwise.
  */
-#include <stdio.h>
 #include <string.h>
 
+#include "checks.h"
+#include "images.h"
 #include "nhiemavut.h"
 
 enum { NODES = 6, EDGES = 4, SMALL_NODES = 4, SMALL_EDGES = 2, RECORDS = 8, FUEL = 10, UNTOUCHED = 0xA5 };
 enum { LIVE = 1, GREY = 4 };
-
-/* Case P of document 01. Each field is a tag, a length of two bytes and as many bytes. */
-static const uint8_t adding[] = {
-    0x10, 0, 73,                                                    /* a rule */
-    0x11, 0, 2, 1, 1,                                               /*   two int variables, x and y */
-    0x12, 0, 24,                                                    /*   left: */
-    0x20, 0, 6, 4, 0, 0x31, 0, 1, 0,                                /*     grey x */
-    0x20, 0, 6, 4, 0, 0x31, 0, 1, 1,                                /*     grey y */
-    0x21, 0, 3, 0, 0, 1,                                            /*     an edge from x to y */
-    0x13, 0, 31,                                                    /*   right: */
-    0x20, 0, 6, 1, 0, 0x31, 0, 1, 0,                                /*     red x */
-    0x20, 0, 13, 3, 0, 0x32, 0, 8, 0x31, 0, 1, 0, 0x31, 0, 1, 1,    /*     blue x + y */
-    0x21, 0, 3, 0, 1, 0,                                            /*     the edge turned round */
-    0x14, 0, 1, 2,                                                  /*   both nodes are the interface */
-    0x15, 0, 0,                                                     /*   no tests */
-    0x54, 0, 4,                                                     /* a loop over */
-    0x50, 0, 1, 0,                                                  /*   rule 0 */
-};
-
-/* A grey node's list of atoms is doubled, and the node is red then. */
-static const uint8_t doubling[] = {
-    0x10, 0, 39,                                                    /* a rule */
-    0x11, 0, 1, 2,                                                  /*   one list variable, x */
-    0x12, 0, 9, 0x20, 0, 6, 4, 0, 0x31, 0, 1, 0,                    /*   left: grey x */
-    0x13, 0, 13, 0x20, 0, 10, 1, 0, 0x31, 0, 1, 0, 0x31, 0, 1, 0,   /*   right: red x:x */
-    0x14, 0, 1, 1,                                                  /*   the node is the same */
-    0x15, 0, 0,                                                     /*   no tests */
-    0x50, 0, 1, 0,                                                  /* a call of the rule */
-};
 
 static uint8_t nodes[NODES * NHIEMAVUT_NODE_BYTES], edges[EDGES * NHIEMAVUT_EDGE_BYTES];
 static uint8_t back_nodes[sizeof nodes], back_edges[sizeof edges];
@@ -47,24 +19,6 @@ static uint8_t journal[RECORDS * NHIEMAVUT_RECORD_BYTES], report[NHIEMAVUT_REPOR
 static uint8_t small_nodes[SMALL_NODES * NHIEMAVUT_SMALL_NODE_BYTES], small_edges[SMALL_EDGES * NHIEMAVUT_SMALL_EDGE_BYTES];
 static uint8_t packed_nodes[sizeof small_nodes], packed_edges[sizeof small_edges];
 static uint8_t small_journal[RECORDS * NHIEMAVUT_SMALL_RECORD_BYTES], small_report[NHIEMAVUT_REPORT_BYTES];
-static int failures = 0;
-
-static void expect(int holds, const char *what)
-{
-    printf("%s: %s\n", holds ? "ok" : "NOT", what);
-    if (!holds) {
-        failures += 1;
-    }
-}
-
-static int all(const uint8_t *bytes, size_t length, uint8_t byte)
-{
-    while (length > 0 && *bytes == byte) {
-        bytes += 1;
-        length -= 1;
-    }
-    return length == 0;
-}
 
 static uint8_t *node(int i)
 {

@@ -3,20 +3,10 @@
  * Shows the call's answer and that both tables are as they were before the pass, and that a damaged journal is
  * refused and changes nothing. Exits with 1 where anything is otherwise.
  */
-#include <stdio.h>
 #include <string.h>
 
+#include "checks.h"
 #include "nhiemavut.h"
-
-static int failures = 0;
-
-static void expect(int holds, const char *what)
-{
-    printf("%s: %s\n", holds ? "ok" : "NOT", what);
-    if (!holds) {
-        failures += 1;
-    }
-}
 
 int main(void)
 {

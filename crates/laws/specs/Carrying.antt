@@ -15,7 +15,7 @@ use Rattle.meaning.specs.declared.Layout.{Layout}
 use Rattle.meaning.specs.declared.Manner.{Manner}
 use Rattle.meaning.specs.declared.Manner.the-variants.{Exact, Packing}
 
--- as many slots agree in each manner, and exactly no others do
+-- the same count agrees in each manner; in the exact one no other does
 pub counts-of : (k : Manner) (n m : ℕ) → n ≡ m → countsAgree k n m ≡ true
 unfolding countsAgree
 counts-of Exact n m e = eq-eqb n m e

@@ -1,6 +1,6 @@
 -- What a carrying answers and leaves, in either manner and between any two layouts: refused, both tables as they were lent; else the same
 -- host in the layout that it is carried to, from which it is carried back to the bytes that it came from.
--- Rests on the meaning's Carrying, on laws' Hosts, Carrying and Resized, and on Resized.
+-- Rests on the meaning's Carrying, on laws' Hosts, Carrying and Resized, and on ResizedHosts.
 use Prim.Native.Nat.{ℕ, _*_, _/_, _^_, _≤_}
 use mathlib.Core.Path.{_≡_, refl, sym, _∙_, ap, subst}
 use mathlib.Core.Bool.{Bool, true}
@@ -28,7 +28,7 @@ use Rattle.meaning.specs.declared.Manner.the-variants.{Exact, Packing}
 use Rattle.meaning.specs.declared.Refusal.{Refusal}
 use Rattle.meaning.specs.declared.Refusal.the-variants.{NodeTableLength, EdgeTableLength, BadHost}
 use Rattle.meaning.specs.declared.Answer.the-variants.{Result, Refused}
-use Rattle.layouts.specs.Resized.{resizedHost, nodeLabel, edgeLabel, FitsHost, host-fits, host-fits-of, legal-fits, resized-back, resized-alike, resized-legal}
+use Rattle.layouts.specs.ResizedHosts.{resizedHost, nodeLabel, edgeLabel, FitsHost, host-fits, host-fits-of, legal-fits, resized-back, resized-alike, resized-legal}
 
 -- How many slots a table of the layout has.
 

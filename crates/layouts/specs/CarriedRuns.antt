@@ -1,6 +1,6 @@
 -- A program on carried tables: what ends with a result or a fail at one layout ends so on the graph carried to another, where there are as
 -- many slots, atoms to a label and records or more, after the same steps; and leaves the graph that it left there, carried.
--- Rests on Resized, Carried and LargerRuns.
+-- Rests on ResizedHosts, Carried and LargerRuns.
 use Prim.Native.Nat.{ℕ, _-_, _/_, _≤_}
 use mathlib.Core.Path.{_≡_, refl, sym, _∙_, ap, subst}
 use mathlib.Core.Bool.{true}
@@ -21,7 +21,7 @@ use Rattle.demands.specs.Laws.Further.{roomier, roomier-alike}
 use Rattle.meaning.specs.declared.Layout.{Layout}
 use Rattle.meaning.specs.declared.Manner.{Manner}
 use Rattle.meaning.specs.declared.Answer.the-variants.{Result}
-use Rattle.layouts.specs.Resized.{resizedHost, resized-further, host-fits-of, legal-fits}
+use Rattle.layouts.specs.ResizedHosts.{resizedHost, resized-further, host-fits-of, legal-fits}
 use Rattle.layouts.specs.Carried.{nodeSlots, edgeSlots, arrived, arriving, carry-taken, result-taken, AsManySlots, as-many, lengths-same, hostIn, host-in, Kept, carry-kept}
 use Rattle.layouts.specs.LargerRuns.{SameRun, RunsAs, run-larger, out-larger}
 
