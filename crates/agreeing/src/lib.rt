@@ -1,6 +1,8 @@
 // Labels of the slots that items are tried at, and how they compare with the labels of a rule's left items: the values that a
 // placement gives the variables, what a label's length and atom tell, and the label compared element by element. All are looked at
 // where they lie. That may be either table, so both are lent at one lifetime.
+#![tactic(auto)]
+
 ghost use Rattle.std.specs.Prelude.{◌≡◌, ◌+◌, ◌<◌, ◌≤◌, length, get_or};
 ghost use Rattle.meaning.specs.Image.{most_items};
 ghost use Rattle.meaning.specs.Basics.{same};
@@ -55,7 +57,7 @@ fn item_label<'a>(
 // The values of variables.
 
 // Atoms of a label: so many from a place on.
-#[derive(Drop)]
+#[derive(Clone, Copy)]
 pub struct Part {
     pub from: usize,
     pub n: usize,

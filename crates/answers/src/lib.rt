@@ -1,4 +1,6 @@
 // What both calls share: the check of the lengths (answers 9 to 12), the report, and the numbers of the answers.
+#![tactic(auto)]
+
 ghost use Rattle.std.specs.Prelude.{◌≡◌, eqb, length};
 ghost use Rattle.meaning.specs.Basics.{choose, first_failing};
 ghost use Rattle.meaning.specs.Layout.{Sized};

@@ -1,4 +1,6 @@
 // Applying a rule at a match: the checks before any change, and the changes in document 01's order with one record each.
+#![tactic(auto)]
+
 ghost use Rattle.std.specs.Prelude.{◌≡◌, ◌/◌, length, take};
 ghost use Rattle.meaning.specs.Layout.{record_length};
 ghost use Rattle.meaning.specs.Matching.{total};

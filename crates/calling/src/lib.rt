@@ -1,4 +1,6 @@
 // A call of a rule set: the first listed rule that has a match is applied; it fails if none has.
+#![tactic(auto)]
+
 ghost use Rattle.std.specs.Prelude.{◌≡◌, length};
 ghost use Rattle.graph.specs.Graph.{Legal};
 ghost use Rattle.values.specs.Values.{Stored};

@@ -17,7 +17,8 @@ use Rattle.laws.specs.Numbers.{Bytes}
 use Rattle.laws.specs.Pieces.{fits-length, fits_whole}
 use Rattle.laws.specs.Carrying.{counts_same, LengthsAgree, Taken, taken}
 use Rattle.laws.specs.Undoing.{base-numbered, four-numbered}
-use Rattle.layouts.specs.Carried.{arriving, result-taken, Kept, carry-kept, carry_back}
+use Rattle.layouts.specs.Carried.{arriving, Kept}
+use Rattle.layouts.proofs.Carried.{result-taken, carry-kept, carry_back}
 use Rattle.carrier.specs.Carried.{tables_in, table_fields, length_for, carried_text, carried_tables, printed, carried_input}
 use Rattle.carrier.specs.Rooms.{InputOf, Between}
 use Rattle.carrier.specs.Laws.{widening, narrowing, tables-again}

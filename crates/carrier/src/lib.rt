@@ -1,5 +1,7 @@
 // An input of two tables carried to as many slots of another layout, from the bytes that are read to those that are printed, in a lent
 // buffer. The definitions that the contracts cite are in specs/.
+#![tactic(auto)]
+
 ghost use Rattle.std.specs.Prelude.{◌≡◌, [], ◌∷◌, ◌+◌, ◌*◌, ◌<◌, ◌≤◌, length, replicate};
 ghost use Rattle.meaning.specs.Layout.{base, four};
 ghost use Rattle.meaning.specs.Carrying.{lending_tables, carry};

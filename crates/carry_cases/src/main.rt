@@ -1,6 +1,7 @@
 // Carries each of the stored cases on standard input and writes what the call leaves, a line a case: the number, then the nodes and
 // the edges that were carried to in hexadecimal digits. A case holds a byte, 0 to widen, 1 to narrow, 2 to pack or 3 to unpack, then
 // nodes and edges, and the nodes and edges to carry to.
+#![tactic(auto)]
 
 // The byte of each call. Any other is to widen.
 #[derive(Drop)]

@@ -1,5 +1,7 @@
 // Carrying a host from two lent tables to two of another layout, slot numbers kept. All that can be refused is asked before the first
 // byte is written; then slots are carried one by one.
+#![tactic(auto)]
+
 ghost use Rattle.std.specs.Prelude.{◌≡◌, true, ◌*◌, ◌/◌, ◌<◌, ◌≤◌, length};
 ghost use Rattle.meaning.specs.Layout.{Sized, most_atoms};
 ghost use Rattle.meaning.specs.Calls.{answer_number};

@@ -1,5 +1,7 @@
 // What the programs over stored cases share. A stored file is a row of cases, each a field 0x07 whose payload is fields in turn
 // and is not empty. One case is read at a time, so that a file may be of any length.
+#![tactic(auto)]
+
 ghost use Rattle.std.specs.Prelude.{◌≡◌, ◌⊎◌, drop};
 ghost use Rattle.std.proofs.Math.Option.{none};
 ghost use Rattle.meaning.specs.Image.{constant};

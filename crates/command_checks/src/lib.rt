@@ -2,6 +2,8 @@
 // procedures they name exist (a part of answer 17), that each break lies in a loop body with no guard between (answer 18), and that
 // with procedures put in for calls they are not nested too deep (answer 19). The parts of the image are walked where they lie, and
 // no call is followed.
+#![tactic(auto)]
+
 ghost use Rattle.std.specs.Prelude.{◌≡◌, true, ◌<◌, ltb, length, get_or};
 ghost use Rattle.meaning.specs.Basics.{every};
 ghost use Rattle.meaning.specs.Image.{limits, only, passes_all, command, Raw, raw_program};
@@ -18,7 +20,7 @@ use meaning::tags::{Limit, Tag};
 mod rounds;
 
 // What is asked of a command and those in it.
-#[derive(Drop)]
+#[derive(Clone, Copy)]
 pub enum Demand {
     // The rules that are named are among so many, and the procedures among so many.
     Names(usize, usize),

@@ -1,5 +1,7 @@
 // Running the program of an image, from bytes that hold a state. Running a command, a row of commands, a guarded command and
 // a loop call each other, over parts of the lent image, procedures among them; what needs no call of these is outside the cycle.
+#![tactic(auto)]
+
 ghost use Rattle.std.specs.Prelude.{◌+◌, ◌≤◌};
 ghost use Rattle.meaning.specs.Tags.{rule_set_tag};
 ghost use Rattle.meaning.specs.Calls.{most_fuel};

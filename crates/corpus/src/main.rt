@@ -1,5 +1,7 @@
 // Reads the images of a corpus on standard input, each behind the head of a field (a tag that names its core, and two bytes of
 // length), and prints their listings one behind the other. One image is read at a time, so that a corpus may be of any length.
+#![tactic(auto)]
+
 use meaning::Core;
 
 // The tags of the images of each core.

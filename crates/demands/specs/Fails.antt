@@ -12,14 +12,23 @@ use Rattle.meaning.specs.Commands.{State}
 use Rattle.demands.specs.Inference
 use Rattle.demands.specs.Inference.{NoMatch, FirstCalled, stepped, Executes, Does}
 use Rattle.meaning.specs.Calls.{Lent}
-use Rattle.demands.specs.Demands.{Outcome, Interpreter, Lendable, run_refused_with, start, outcome_at, Demand2}
-use Rattle.demands.specs.First.{stop-answer}
+use Rattle.demands.specs.Demands.{Outcome, Interpreter, Lendable, stop_answer, run_refused_with, start, outcome_at, Demand2}
 use Rattle.meaning.specs.declared.Layout.{Layout}
+use Rattle.meaning.specs.declared.Stop.{Stop}
+use Rattle.meaning.specs.declared.Stop.TheVariants.{OutOfFuel, NoNodeRoom, NoEdgeRoom, NoRecordRoom, LabelTooLarge}
 use Rattle.meaning.specs.declared.End.{End}
 
 -- the first rule that is called has a match
 has-match : (rules : List Rule) (h : Host) (l : List ℕ) (r : Rule) (p : List ℕ) → FirstCalled rules h l r p → NoMatch rules h l → ⊥
 has-match rules h l r p f n = n f.place f.listed p (subst (λ (q : Rule). Match h q p) f.rule f.match)
+
+-- the answer of a run that is stopped is no fail's
+stop-not-fail : (w : Stop) → 2 ≤ stop_answer w
+stop-not-fail OutOfFuel = omega arith
+stop-not-fail NoNodeRoom = omega arith
+stop-not-fail NoEdgeRoom = omega arith
+stop-not-fail NoRecordRoom = omega arith
+stop-not-fail LabelTooLarge = omega arith
 
 module _ (L : Layout) (x : Lent) (most room : ℕ) (rules : List Rule) where
   -- by the rules of inference, of a rule set that is entered
@@ -29,7 +38,7 @@ module _ (L : Layout) (x : Lent) (most room : ℕ) (rules : List Rule) where
   call-answers (Inference.applies {l = l} {s = s} r p g f a v) =
       (λ e. absurd (omega arith), λ n. absurd (has-match rules s.ledger.host l r p f n))
   call-answers (Inference.hinders {l = l} {s = s} r p w f a) =
-      (λ e. absurd (omega (arith, (stop-answer w).1)), λ n. absurd (has-match rules s.ledger.host l r p f n))
+      (λ e. absurd (omega (arith, stop-not-fail w)), λ n. absurd (has-match rules s.ledger.host l r p f n))
 
   -- and of one that is met with fuel
   run-answers : {c : Command} {s t : State} {e : End} (l : List ℕ) → c ≡ rule_set l → 1 ≤ s.fuel → Executes most room rules c s e t

@@ -7,5 +7,4 @@ pub mod LargerLabels
 pub mod Further
 pub mod FurtherCommands
 pub mod FurtherTables
-pub mod Inference
 pub mod Written

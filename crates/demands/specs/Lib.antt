@@ -2,15 +2,9 @@ pub mod Inference
 pub mod Demands
 pub mod Laws
 pub mod Ours
-pub mod Undone
 pub mod First
 pub mod Started
-pub mod Second
-pub mod OneOutcome
 pub mod Larger
-pub mod Third
-pub mod Met
-pub mod Lending
 pub mod Again
 pub mod Exported
 pub mod Fails

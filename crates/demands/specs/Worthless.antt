@@ -1,8 +1,7 @@
 -- Worthless interpreters at document 01's layout, each with the demand that it does not meet and an input that shows it: a case of
 -- document 01, or of our own where document 01 names none. At every layout demands 1 and 2 leave one outcome (OneOutcome).
 -- Rests on Cases.
-use Rattle.std.specs.Prelude.{ℕ, ◌+◌, ◌*◌, ◌/◌, refl, Bool, List, [], ◌∷◌, ◌++◌, length, get_or, take, drop, replicate}
-use Rattle.std.proofs.Common.{ap, arith}
+use Rattle.std.specs.Prelude.{ℕ, ◌+◌, ◌*◌, ◌/◌, Bool, List, [], ◌∷◌, ◌++◌, length, take, drop, replicate}
 use Rattle.meaning.specs.Basics.{choose}
 use Rattle.meaning.specs.Numbers.{number}
 use Rattle.meaning.specs.Tags.{procedure_tag, call_tag}
@@ -10,15 +9,11 @@ use Rattle.meaning.specs.Layout.{Slot, free, live, Node, base}
 use Rattle.meaning.specs.Image.{Rule}
 use Rattle.meaning.specs.Procedures.{Command, rule_set, sequence, guarded, loop, skip, fail, break, called, Commands, no_more, then}
 use Rattle.meaning.specs.Commands.{State, Out, ends, back, enter, first_rule, next, rounds, rule_call, exec}
-use Rattle.meaning.specs.Computing.{computing}
 use Rattle.meaning.specs.ProvedSet.{Case, plain_node, on_plain_node, results, no_result, field_bytes, rule_set_field, marks_red, skip_field, fail_field}
-use Rattle.demands.specs.Demands.{Outcome, Interpreter, reporting, Roomier, Demand1, Demand2, Demand3}
+use Rattle.demands.specs.Demands.{Outcome, Interpreter, reporting}
 use Rattle.demands.specs.Ours.{ours}
-use Rattle.demands.specs.First.{run_settled}
-use Rattle.demands.specs.Cases.{lent, case_at, lendable, running, runs_on, by, breaks2, at_case, breaks3}
-use Rattle.laws.specs.Undoing.{base-numbered}
-use Rattle.demands.specs.Third.{entered-is}
-use Rattle.laws.specs.Procedures.{written, all_written}
+use Rattle.demands.specs.Cases.{running, by}
+use Rattle.laws.specs.Procedures.{written}
 use Rattle.meaning.specs.declared.Stop.TheVariants.{OutOfFuel, NoNodeRoom, NoEdgeRoom, NoRecordRoom, LabelTooLarge}
 use Rattle.meaning.specs.declared.End.{End}
 use Rattle.meaning.specs.declared.End.TheVariants.{Done, Failed, Broke, Stopped}
@@ -30,10 +25,6 @@ refuses_all =
     running
     (λ x. record { answer = 16; nodes = x.nodes; edges = x.edges; journal = x.journal; report = reporting 0 0 })
 
-pub refusing-all : Demand2 base refuses_all → ⊥
-unfolding computing
-refusing-all = at_case 0 refl (omega arith) refuses_all (λ e. let z = ap (λ (o : Outcome). o.answer) e in omega arith)
-
 -- One that answers 1 always breaks demand 2 at case 1.
 
 abbrev pub fails_always : Interpreter
@@ -41,10 +32,6 @@ fails_always =
     running
     (λ x.
     record { answer = 1; nodes = x.nodes; edges = x.edges; journal = replicate (length x.journal) 0; report = reporting 1 0 })
-
-pub failing_always : Demand2 base fails_always → ⊥
-unfolding computing
-failing_always = at_case 0 refl (omega arith) fails_always (λ e. let z = ap (λ (o : Outcome). o.answer) e in omega arith)
 
 -- One that never changes the graph breaks demand 2 at case 6.
 
@@ -54,10 +41,6 @@ never_changes =
     (λ x.
     let o : Outcome = (ours base).run x in
     record { answer = o.answer; nodes = x.nodes; edges = x.edges; journal = o.journal; report = o.report })
-
-pub never_changing : Demand2 base never_changes → ⊥
-unfolding computing
-never_changing = at_case 6 refl (omega arith) never_changes (λ e. let z = ap (λ (o : Outcome). get_or o.nodes 0 0) e in omega arith)
 
 -- One that runs only the first command of a sequence breaks demand 2 at case 10.
 
@@ -79,24 +62,14 @@ unfoldable mutual
 abbrev pub runs_first : Interpreter
 runs_first = by (λ most room rules c s. exec most room rules (first_only c) s)
 
-pub running-first : Demand2 base runs_first → ⊥
-unfolding computing runs_on first_only only_first
-running-first = at_case 10 refl (omega arith) runs_first (λ e. let z = ap (λ (o : Outcome). get_or o.nodes 1 0) e in omega arith)
-
 -- One that enters calls for free breaks demand 2 at a call of a procedure of skip.
 
 abbrev pub calls_freely : Interpreter
 calls_freely = by (λ most room rules c s. exec most room rules (written c) s)
 
 -- ours enters two commands
-abbrev call_of_skip : Case
+abbrev pub call_of_skip : Case
 call_of_skip = on_plain_node 100 (field_bytes procedure_tag skip_field ++ field_bytes call_tag (0 ∷ [])) (results 2 0 plain_node [] [])
-
-pub calling_freely : Demand2 base calls_freely → ⊥
-unfolding computing runs_on written all_written
-calling_freely =
-    breaks2 base base-numbered calls_freely (lent call_of_skip) refl (omega arith)
-    (λ e. let z = ap (λ (o : Outcome). get_or o.report 3 0) e in omega arith)
 
 -- One that answers 0 with what it had when the fuel ran out breaks demand 2 at case 2.
 
@@ -115,10 +88,6 @@ made_done (Stopped w) = elim w [
 abbrev pub answers_anyway : Interpreter
 answers_anyway =
     by (λ most room rules c s. let o : Out = exec most room rules c s in ends (made_done o.end) o.state)
-
-pub answering_anyway : Demand2 base answers_anyway → ⊥
-unfolding computing runs_on made_done
-answering_anyway = at_case 1 refl (omega arith) answers_anyway (λ e. let z = ap (λ (o : Outcome). o.answer) e in omega arith)
 
 -- One that keeps the marks of a failed try breaks demand 2 at `try (M; fail) then skip else skip`.
 
@@ -174,15 +143,9 @@ abbrev pub keeps_marks : Interpreter
 keeps_marks = by (λ most room rules c s. enter (λ t. carelessly most room rules c t) s)
 
 -- on one plain node; ours leaves it unmarked
-abbrev failed_try : Case
+abbrev pub failed_try : Case
 failed_try =
     on_plain_node 100 (marks_red ++ field_bytes 0x59 (1 ∷ field_bytes 0x51 (rule_set_field 0 ++ fail_field) ++ skip_field ++ skip_field)) (results 5 0 plain_node [] [])
-
-pub keeping_marks : Demand2 base keeps_marks → ⊥
-unfolding computing runs_on carelessly all_carelessly after_guard with_mark with_marks
-keeping_marks =
-    breaks2 base base-numbered keeps_marks (lent failed_try) refl (omega arith)
-    (λ e. let z = ap (λ (o : Outcome). get_or o.nodes 1 0) e in omega arith)
 
 -- One that invents a step breaks demand 3 at case 1.
 
@@ -198,12 +161,6 @@ invents_steps =
       journal = o.journal;
       report = reporting (number (take 4 o.report) + 1) (number (drop 4 o.report));
     })
-
-pub inventing_steps : Demand3 base invents_steps → ⊥
-unfolding computing
-inventing_steps =
-    breaks3 base base-numbered invents_steps (lent (case_at 0)) refl (omega arith) refl
-    (λ e. let z = ap (λ (l : List ℕ). get_or l 3 0) e in omega arith)
 
 -- So does one that takes two fuel for a command and counts two steps, with as much fuel as it needs.
 
@@ -222,41 +179,6 @@ counts_twice =
       report = reporting (number (take 4 o.report) * 2) (number (drop 4 o.report));
     })
 
-pub counting-twice : Demand3 base counts_twice → ⊥
-unfolding computing
-counting-twice =
-    breaks3 base base-numbered counts_twice (lent (on_plain_node 2 skip_field (results 1 0 plain_node [] []))) refl (omega arith) refl
-    (λ e. let z = ap (λ (l : List ℕ). get_or l 3 0) e in omega arith)
-
--- One that answers 0 with what it had when the fuel ran out breaks demand 3 too: case 2 is case 1 with less fuel.
-
-pub answering_short : Demand3 base answers_anyway → ⊥
-unfolding computing runs_on made_done
-answering_short d =
-    let x = lent (case_at 0) in
-    let y = lent (case_at 1) in
-    let b = lendable x refl in
-    let n = d.settled x b refl in
-    let t = entered-is base base-numbered x b (run_settled base x (omega arith)) n.s n.entered in
-    let one = ap (λ (l : List ℕ). get_or l 3 0) t in
-    let more : Roomier base x y =
-    record {
-      lendable = lendable y refl;
-      nodes_more = 0;
-      edges_more = 0;
-      nodes = refl;
-      edges = refl;
-      journal = omega arith;
-      image = refl;
-      nodes_fit = refl;
-      edges_fit = refl;
-      journal_fits = refl;
-      fuel_fits = omega arith;
-      report_fits = refl;
-    } in
-    let two = n.short y more (omega arith) in
-    omega arith
-
 -- Demand 1: one that leaves the graph as it was when the fuel ran out, and answers 2, at (M; skip) with fuel 2.
 
 abbrev pub leaves_half : Interpreter
@@ -267,12 +189,5 @@ leaves_half =
     let q : Outcome = answers_anyway.run x in
     record { answer = o.answer; nodes = q.nodes; edges = q.edges; journal = o.journal; report = o.report })
 
-abbrev cut_short : Case
+abbrev pub cut_short : Case
 cut_short = on_plain_node 2 (marks_red ++ field_bytes 0x51 (rule_set_field 0 ++ skip_field)) (no_result 2 2 plain_node [])
-
-pub leaving-half : Demand1 base leaves_half → ⊥
-unfolding computing runs_on made_done
-leaving-half d =
-    let b = d.gives_back (lent cut_short) (lendable (lent cut_short) refl) (omega arith) (omega arith) in
-    let z = ap (λ (l : List ℕ). get_or l 1 0) b.nodes in
-    omega arith

@@ -1,5 +1,7 @@
 // What follows a command, by what it is and by how it ended: its kind, whether a row goes on, the part after a guard, and undoing
 // after a guard and after the last round of a loop.
+#![tactic(auto)]
+
 ghost use Rattle.std.specs.Prelude.{◌≡◌, ◌≤◌};
 ghost use Rattle.ledger.specs.Running.{Running};
 ghost use Rattle.ends.specs.Ends.{kind_of, is_done, part_after, Restored, Settled, Closed};
@@ -8,7 +10,7 @@ use meaning::tags::Tag;
 use meaning::{End, Layout, Ran, Tally};
 
 // How a command other than a rule set is run.
-#[derive(Drop)]
+#[derive(Clone, Copy)]
 pub enum Kind {
     // A sequence or a call: what a procedure holds is a row of one command.
     InRow,

@@ -1,5 +1,7 @@
 // A host as text, in a lent buffer. One walk serves twice: each byte is written where the buffer has its place and is counted in any case,
 // so that the text is first counted on no buffer, and is written only where all of it fits.
+#![tactic(auto)]
+
 ghost use Rattle.std.specs.Prelude.{◌≡◌, ◌+◌, ◌*◌, ◌<◌, ◌≤◌, length, get_or};
 ghost use Rattle.std.proofs.Math.Option.{none};
 ghost use Rattle.meaning.specs.Layout.{Sized, most_atoms, free, read_nodes, read_edges};

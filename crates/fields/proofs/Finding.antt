@@ -1,12 +1,9 @@
 -- What a reader found, as a loop over fields takes it. Rests on Fields and Laws.
-use mathlib.Core.Path.{◌≡◌, sym, ◌∙◌}
+use mathlib.Core.Path.{◌≡◌, refl, sym, ◌∙◌}
 use mathlib.Core.Option.{none}
-use mathlib.Core.Logic.{inl, inr}
-use mathlib.Core.List.{List, [], ◌∷◌}
+use mathlib.Core.List.{List}
 use Prim.Native.Nat.{ℕ, ◌-◌, ◌<◌, ◌≤◌}
 use native.Mathlib.Omega.{arith}
-use denote.Enum.Declared
-use package.types.Run
 use lib.ListN.{length, take, drop, length-drop}
 use lib.Seq.{take_all}
 use Rattle.meaning.specs.Image.{field}
@@ -14,15 +11,13 @@ use Rattle.fields.specs.declared.Found.{Found}
 use Rattle.fields.specs.declared.Found.TheVariants.{Field, Short, End}
 use Rattle.fields.specs.Fields.{field_at}
 use Rattle.fields.specs.Laws.{Lies, found-field, short_none, end_none}
-use Rattle.fields.specs.contracts.Found as found
 
 -- what was found is no field
 abbrev pub NoField : Found → Type 0
-NoField f = Run.OneOf (1 ∷ 2 ∷ []) (Declared.tag_of found.the_type f)
+NoField f = (tag start end : ℕ) → f ≡ Field tag start end → ⊥
 
 pub no_field : (bs : List ℕ) (at : ℕ) (f : Found) → f ≡ field_at bs at → NoField f → field (drop at bs) ≡ none
-no_field bs at (Field tag start end) e (inl k) = let z : ◌≡◌ {A = ℕ} 0 1 = k in absurd (omega arith)
-no_field bs at (Field tag start end) e (inr k) = let z : ◌≡◌ {A = ℕ} 0 2 = k in absurd (omega arith)
+no_field bs at (Field tag start end) e k = absurd (k tag start end refl)
 no_field bs at Short e k = short_none bs at e
 no_field bs at End e k = end_none bs at e
 

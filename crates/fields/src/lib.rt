@@ -1,10 +1,12 @@
 // Numbers and tagged fields from bytes: the one reader that serves rules, labels and commands.
+#![tactic(auto)]
+
 ghost use Rattle.std.specs.Prelude.{◌≡◌, ◌+◌, ◌-◌, ◌<◌, ◌≤◌, length, take, drop};
 ghost use Rattle.meaning.specs.Numbers.{number};
 ghost use Rattle.fields.specs.Fields.{field_at, nth_field};
 
 // What reading at a place finds.
-#[derive(Drop)]
+#[derive(Clone, Copy)]
 pub enum Found {
     // A whole field: its tag, and where its payload starts and ends. The next field begins where it ends.
     Field(u8, usize, usize),
@@ -56,7 +58,7 @@ fn field_at(bytes: &[u8], at: usize) -> Found
 }
 
 // The reader of tagged fields: bytes, and a place in them.
-#[derive(Drop)]
+#[derive(Clone, Copy)]
 pub struct Reader<'a> {
     pub bytes: &'a [u8],
     pub place: usize,

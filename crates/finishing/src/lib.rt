@@ -1,4 +1,6 @@
 // What a started run leaves, by its end: after a result its records and the report, after any other end the graph as it came.
+#![tactic(auto)]
+
 ghost use Rattle.std.specs.Prelude.{◌≡◌, length};
 ghost use Rattle.meaning.specs.Calls.{report_of};
 ghost use Rattle.answers.specs.Answers.{report_length};

@@ -1,5 +1,7 @@
 // Candidates of the search by all but label and tests: whether a slot can stand for a left item by the slot alone and beside the
 // items placed so far; and whether a full placement leaves an edge dangling.
+#![tactic(auto)]
+
 ghost use Rattle.std.specs.Prelude.{◌≡◌, true, ◌+◌, ◌-◌, ◌<◌, ◌≤◌, length, get_or, take, drop};
 ghost use Rattle.meaning.specs.Basics.{exists, all, count, absent};
 ghost use Rattle.meaning.specs.Layout.{Host, host_of};

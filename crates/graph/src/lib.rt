@@ -1,4 +1,6 @@
 // The host graph in lent tables, by slot number: marks, roots, labels, ends, and the counts of edges that tests ask for.
+#![tactic(auto)]
+
 ghost use Rattle.std.specs.Prelude.{◌≡◌, ◌<◌, ◌≤◌, length};
 ghost use Rattle.meaning.specs.Basics.{exists, count};
 ghost use Rattle.meaning.specs.Layout.{Sized, most_atoms, live_at, read_nodes, read_edges, host_of};
@@ -11,7 +13,7 @@ use slots::held;
 use slots::held::Place;
 
 // Which edges count at a slot.
-#[derive(Drop)]
+#[derive(Clone, Copy)]
 pub enum Incidence {
     Leaving,
     Arriving,

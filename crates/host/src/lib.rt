@@ -1,4 +1,6 @@
 // The layout test (answer 15): whether host tables in lent bytes keep the layout, in one pass over each.
+#![tactic(auto)]
+
 ghost use Rattle.std.specs.Prelude.{◌≡◌, length};
 ghost use Rattle.meaning.specs.Basics.{every};
 ghost use Rattle.meaning.specs.Layout.{Sized, keeps_node, keeps_edge, keeps_layout, is_edge_mark, live_at, read_nodes, node_length, edge_length, cut};

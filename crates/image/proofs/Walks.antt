@@ -78,7 +78,7 @@ module _ {row : Row} {bs : List ℕ} {at n : ℕ} (r : Along row bs at n) {more 
 
     pub turn-cut : {f : Found} → f ≡ field_at bs at → NoField f → fits row bs ≡ false
     unfolding met
-    turn-cut {f} e k = ap (met _ _) (reading-cut r.reading space passes byte (no_field bs at f e k))
+    turn-cut {f} e k = ap (met (leb (least_of row)) (behind row)) (reading-cut r.reading space passes byte (no_field bs at f e k))
 
     module _ {tag start end : ℕ} {part : List ℕ} {ok : Bool} (l : Lies bs at tag start end) (p : part ≡ take (end - start) (drop start bs)) (o : ok ≡ is_some (read row tag part)) where
       same_item : read row l.whole.tag l.whole.payload ≡ read row tag part
@@ -86,7 +86,7 @@ module _ {row : Row} {bs : List ℕ} {at n : ℕ} (r : Along row bs at n) {more 
 
       pub turn-bad : ok ≡ false → fits row bs ≡ false
       unfolding met
-      turn-bad h = ap (met _ _) (reading-bad r.reading space passes l.whole l.is (same_item ∙ is_some_false _ (sym o ∙ h)))
+      turn-bad h = ap (met (leb (least_of row)) (behind row)) (reading-bad r.reading space passes l.whole l.is (same_item ∙ is_some_false _ (sym o ∙ h)))
 
       pub turn-next : ok ≡ true → Along row bs end (n + 1)
       turn-next h =
@@ -105,7 +105,7 @@ module _ {row : Row} {bs : List ℕ} {at n : ℕ} (r : Along row bs at n) {more 
 
     row_ends : fits row bs ≡ both (leb (least_of row) n) (behind row (drop at bs))
     unfolding met
-    row_ends = ap (met _ _) ends ∙ ap (λ (k : ℕ). both (leb (least_of row) k) (behind row (drop at bs))) r.reading.counted
+    row_ends = ap (met (leb (least_of row)) (behind row)) ends ∙ ap (λ (k : ℕ). both (leb (least_of row) k) (behind row (drop at bs))) r.reading.counted
 
     module _ {least : ℕ} (k : least ≡ least_of row) where
       pub too_few : n < least → fits row bs ≡ false

@@ -1,6 +1,8 @@
 // Checks of a program image: its form (answer 16). An image is made of rows of fields, one row in another; what each row takes is
 // a table in `table`, what an item of it must be is in `items`, and one walk follows the rows. Each check is proved equal to the
 // definition's reader succeeding.
+#![tactic(auto)]
+
 ghost use Rattle.std.specs.Prelude.{◌≡◌};
 ghost use Rattle.meaning.specs.Basics.{is_some};
 ghost use Rattle.meaning.specs.Image.{raw_program};
@@ -12,7 +14,7 @@ pub mod items;
 pub mod table;
 
 // A row of fields that are read alike. Behind some rows another one follows.
-#[derive(Drop)]
+#[derive(Clone, Copy)]
 pub enum Row {
     // An image: its rules, then its procedures; behind them is its main command, `One`.
     Rules,

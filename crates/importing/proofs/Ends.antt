@@ -12,7 +12,7 @@ use Rattle.meaning.specs.Laws.Tests.{both_yes, both-no, both-last}
 use Rattle.meaning.specs.declared.Table.TheVariants.{Nodes, Edges}
 use Rattle.text.specs.Grammar.{EdgeItem, Listed, index, known}
 use Rattle.text.specs.Text.{apart, names_hold}
-use Rattle.text.specs.Closing.{ends_known}
+use Rattle.text.specs.Text.{ends_known}
 use Rattle.lexing.specs.Lexing.{name_at}
 use Rattle.items.specs.Items.{place, At, ReadsEdge}
 use Rattle.items.specs.Again.{edge-again}

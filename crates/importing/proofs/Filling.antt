@@ -15,7 +15,7 @@ use Rattle.laws.specs.Filling.{front_written, front-none, front-all, front-next}
 use Rattle.laws.specs.Resized.{free-behind}
 use Rattle.host.specs.Tables.{slot_length}
 use Rattle.text.specs.Text.{filled}
-use Rattle.text.specs.Closing.{length-filled}
+use Rattle.text.proofs.Closing.{length-filled}
 use Rattle.importing.specs.Names.{names_at}
 use Rattle.importing.specs.Tables.{HeldIn, held_of, write_slot, slot_of, table_of, Items}
 use Rattle.importing.proofs.Slots.{slot-length}

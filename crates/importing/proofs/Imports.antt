@@ -23,7 +23,7 @@ use Rattle.laws.specs.Pieces.{fits-length, fits_whole}
 use Rattle.host.specs.Tables.{slot_length}
 use Rattle.text.specs.Grammar.{gives, graph}
 use Rattle.text.specs.Text.{to_node, to_edge, filled, found, graph_of, labels_fit, fits, text_checks, import_refusal, tables_of, import_on, import_text}
-use Rattle.text.specs.Names.{at_most_exact}
+use Rattle.text.proofs.Names.{at_most_exact}
 use Rattle.parsing.specs.Laws.{from_ok, from-broken}
 use Rattle.items.specs.Items.{place, ItemOf, fits_in, Places, ReadsGraph}
 use Rattle.items.specs.Again.{read}

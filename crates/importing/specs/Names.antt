@@ -1,12 +1,11 @@
 -- Names by the places where they begin, and what is asked of the names of items that are listed at places. Rests on lexing's Lexing, on
--- items' Items and on the text's Text and Closing.
+-- items' Items and on the text's Text.
 use Rattle.std.specs.Prelude.{◌≡◌, Bool, List, map, ℕ, length}
 use Rattle.meaning.specs.Basics.{every}
 use Rattle.meaning.specs.declared.Table.{Table}
 use Rattle.meaning.specs.declared.Table.TheVariants.{Nodes, Edges}
 use Rattle.text.specs.Grammar.{EdgeItem, Listed}
-use Rattle.text.specs.Text.{names_hold}
-use Rattle.text.specs.Closing.{ends_known}
+use Rattle.text.specs.Text.{ends_known, names_hold}
 use Rattle.lexing.specs.Lexing.{name_at}
 use Rattle.items.specs.Items.{ItemOf, At, Places}
 

@@ -1,5 +1,7 @@
 // A text graph as tables. All that can be refused is asked before the first byte is written, over the whole text and in the order of the
 // numbers; then slots are written one by one.
+#![tactic(auto)]
+
 ghost use Rattle.std.specs.Prelude.{◌≡◌, ◌≤◌, leb, length};
 ghost use Rattle.meaning.specs.Basics.{both, first_failing};
 ghost use Rattle.meaning.specs.Layout.{Sized, most_atoms};

@@ -1,5 +1,7 @@
 // The calls, for a driver in C: byte buffers and numbers in, a number out. What each leaves is fixed on all inputs. Those of the small
 // core are the same code at another layout.
+#![tactic(auto)]
+
 ghost use Rattle.meaning.specs.Layout.{base, small};
 ghost use Rattle.meaning.specs.Calls.{lending, lending_undo, RunPromise, UndoPromise};
 ghost use Rattle.meaning.specs.Carrying.{lending_tables, Carries, widen, narrow, pack, unpack};

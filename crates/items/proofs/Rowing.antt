@@ -15,7 +15,7 @@ use Rattle.meaning.specs.declared.Table.{Table}
 use Rattle.meaning.specs.declared.Table.TheVariants.{Nodes, Edges}
 use Rattle.text.specs.Words.{left}
 use Rattle.text.specs.Grammar.{node, edge}
-use Rattle.text.specs.Exact.{node-shorter, edge-shorter}
+use Rattle.text.proofs.Exact.{node-shorter, edge-shorter}
 use Rattle.parsing.specs.Reading.{Reads, Passed}
 use Rattle.parsing.specs.Laws.{was_ok, then}
 use Rattle.parsing.specs.Rows.{Rows, Shortens, row-begins, row-broken, row_ends, row_goes}

@@ -1,12 +1,9 @@
 -- The end of the text, and the whole graph. Rests on Items and on parsing's Laws.
-use mathlib.Core.Path.{◌≡◌, ◌∙◌}
+use mathlib.Core.Path.{◌≡◌, refl, ◌∙◌}
 use mathlib.Core.Bool.{Bool, false}
-use mathlib.Core.Logic.{inl, inr}
-use mathlib.Core.List.{List, [], ◌∷◌}
+use mathlib.Core.List.{List, []}
 use Prim.Native.Nat.{ℕ}
 use native.Mathlib.Omega.{arith}
-use denote.Enum.Declared
-use package.types.Run
 use lib.ListN.{drop}
 use Rattle.meaning.specs.Basics.{choose, is_empty, both}
 use Rattle.meaning.specs.declared.Table.TheVariants.{Nodes, Edges}
@@ -16,7 +13,6 @@ use Rattle.text.specs.Text.{labels_fit}
 use Rattle.lexing.specs.Lexing.{Next}
 use Rattle.lexing.specs.declared.Token.{Token}
 use Rattle.lexing.specs.declared.Token.TheVariants.{End, Sign, Name}
-use Rattle.lexing.specs.contracts.Token as token
 use Rattle.parsing.specs.Reading.{ahead, from, Reads, Passed}
 use Rattle.parsing.specs.Laws.{was_ok, then, done}
 use Rattle.parsing.specs.declared.Cursor.{Cursor}
@@ -25,7 +21,7 @@ use Rattle.items.specs.declared.ItemsAt.{ItemsAt}
 
 -- what was found is a word
 abbrev AWord : Token → Type 0
-AWord t = Run.OneOf (1 ∷ 2 ∷ []) (Declared.tag_of token.the_type t)
+AWord t = t ≡ End → ⊥
 
 module _ (bs : List ℕ) where
   -- The end.
@@ -36,8 +32,7 @@ module _ (bs : List ℕ) where
 
   a_word : (at : ℕ) (t : Token) → Next bs at t → AWord t → is_empty (words (drop at bs)) ≡ false
   unfolding is_empty
-  a_word at End n (inl k) = let z : ◌≡◌ {A = ℕ} 0 1 = k in absurd (omega arith)
-  a_word at End n (inr k) = let z : ◌≡◌ {A = ℕ} 0 2 = k in absurd (omega arith)
+  a_word at End n k = absurd (k refl)
   a_word at (Sign b next) n k = rw n.0
   a_word at (Name from to) n k = rw (n.0, n.1)
 

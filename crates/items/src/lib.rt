@@ -1,5 +1,7 @@
 // The nodes and edges of a text graph, rows of them, and the whole graph, read where they lie. What is kept of a row is how many items it
 // has, whether their labels can be held, and where their identifiers begin, from which each can be read again.
+#![tactic(auto)]
+
 ghost use Rattle.std.specs.Prelude.{◌≡◌, ◌≤◌};
 ghost use Rattle.meaning.specs.Layout.{most_atoms};
 ghost use Rattle.text.specs.Grammar.{ended};
@@ -212,7 +214,7 @@ fn read_end(text: &[u8], c: Cursor) -> Cursor
 }
 
 // A graph that was read, or the cursor where it broke.
-#[derive(Drop)]
+#[derive(Clone, Copy)]
 pub struct GraphAt {
     pub next: Cursor,
     pub nodes: usize,

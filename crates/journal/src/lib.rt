@@ -1,4 +1,6 @@
 // The journal in lent bytes: appending a record, the test of counted records (answer 20), and putting records back.
+#![tactic(auto)]
+
 ghost use Rattle.std.specs.Prelude.{◌≡◌, true, ◌-◌, ◌/◌, ◌<◌, ◌≤◌, length, take, drop};
 ghost use Rattle.meaning.specs.Basics.{every, zeros};
 ghost use Rattle.meaning.specs.Layout.{Sized, node_length, edge_length, record_length, record_bytes, put, read_record, keeps_record};
@@ -9,7 +11,7 @@ ghost use Rattle.journal.specs.Journal.{tables_of, RestKept, records_from, put_b
 use meaning::Layout;
 
 // A record: its kind, filled with zeros to the width of a slot number, the slot number, the bytes before.
-#[derive(Drop)]
+#[derive(Clone, Copy)]
 pub struct Record {}
 
 impl Record {

@@ -1,4 +1,6 @@
 // Labels in hand: those of a rule's right side while they are made, from the values of variables; the height of an atom.
+#![tactic(auto)]
+
 ghost use Rattle.std.specs.Prelude.{◌≡◌, [], ◌∷◌, ◌+◌, ◌<◌, ◌≤◌, length, take, drop};
 ghost use Rattle.meaning.specs.Numbers.{height};
 ghost use Rattle.meaning.specs.Layout.{most_atoms};
@@ -8,7 +10,7 @@ ghost use Rattle.labels.specs.Labels.{Holds};
 pub const MOST: usize = 8;
 
 // A label in hand.
-#[derive(Drop)]
+#[derive(Clone, Copy)]
 pub struct Label {
     pub len: usize,
     pub atoms: [u32; MOST],

@@ -5,7 +5,6 @@ pub mod ResizedHosts
 pub mod Carried
 pub mod LargerRuns
 pub mod CarriedRuns
-pub mod Widening
 pub mod Packing
 pub mod ExampleTables
 pub mod WideningExamples

@@ -1,7 +1,7 @@
 -- Laws of the running state: one slot stored with its record is one change of the ledger. Rests on Running.
 use Rattle.std.specs.Prelude.{◌≡◌, ℕ, zero, suc, ◌+◌, ◌-◌, ◌*◌, ◌/◌, ◌<◌, ◌≤◌, get_or, set, take, drop, replicate}
 use Rattle.std.proofs.Math.Path.{refl, ap}
-use Rattle.std.proofs.Common.{sym, ◌∙◌, suc-mul, add-one, length-append, take_at, drop_at, drop-drop}
+use Rattle.std.proofs.Common.{sym, subst, ◌∙◌, suc-mul, add-one, length-append, take_at, drop_at, drop-drop}
 use mathlib.Core.List.{List, [], ◌∷◌, ◌++◌, map, reverse, reverse-cons, reverse-append, map-append, append-nil}
 use native.Mathlib.Omega.{arith}
 use Rattle.std.proofs.Math.ListN.{length}
@@ -166,6 +166,11 @@ module _ (L : Layout) (nodes edges journal : List ℕ) (used : ℕ) (h : Held L 
         (nodes_legal : (i : ℕ) → OnLive (LegalNode L) (get_or (read_nodes L nodes') i free))
         (edges_legal : (i : ℕ) → OnLive (LegalEdge L) (get_or (read_edges L edges') i free))
       where
+        lasting : (cs : List (Change (Slot Node) (Slot Edge))) → Every (Within (length nodes / node_length L) (length edges / edge_length L)) cs → Every (Within (length nodes' / node_length L) (length edges' / edge_length L)) cs
+        lasting cs =
+            let P : ℕ → ℕ → Type 0 = λ n e. Every (Within (n / node_length L) (e / edge_length L)) cs in
+            λ k. subst (λ (n : ℕ). P n (length edges')) (sym nodes_long) (subst (λ (e : ℕ). P (length nodes) e) (sym edges_long) k)
+
         held_after : Held L nodes' edges' (after L narrow journal used c legal room) (used + 1)
         held_after =
             record {
@@ -183,7 +188,7 @@ module _ (L : Layout) (nodes edges journal : List ℕ) (used : ℕ) (h : Held L 
               nodes_legal = nodes_legal;
               edges_legal = edges_legal;
               records_legal = rw (journal-after L narrow journal used c legal room) (legal, h.records_legal);
-              records_within = rw (journal-after L narrow journal used c legal room, nodes_long, edges_long) (within, h.records_within);
+              records_within = rw (journal-after L narrow journal used c legal room) (lasting (c ∷ journal_of L journal used) (within, h.records_within));
             }
 
     -- a node slot

@@ -1,4 +1,6 @@
 // One change of a slot in a lent table with its record in the journal: a node or an edge comes, changes or goes.
+#![tactic(auto)]
+
 ghost use Rattle.std.specs.Prelude.{◌≡◌, ◌+◌, ◌/◌, ◌<◌, ◌≤◌, length, take, drop};
 ghost use Rattle.meaning.specs.Image.{most_items};
 ghost use Rattle.meaning.specs.Layout.{Sized, free, live, of_node, of_edge, node_length, edge_length, record_length, read_nodes, read_edges};
@@ -12,7 +14,7 @@ use journal::Record;
 use meaning::{Layout, Room, Stop};
 
 // What an application comes to.
-#[derive(Drop)]
+#[derive(Clone, Copy)]
 pub enum Applied {
     Done,
     Stopped(Stop),

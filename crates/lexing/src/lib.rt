@@ -1,4 +1,6 @@
 // The words of a text where they lie: white space and comments passed over, the next word from a place on, names compared.
+#![tactic(auto)]
+
 ghost use Rattle.std.specs.Prelude.{◌≡◌, true, ◌+◌, ◌<◌, ◌≤◌, length, get_or, drop};
 ghost use Rattle.std.proofs.Math.Seq.{slice};
 ghost use Rattle.meaning.specs.Basics.{same};
@@ -6,7 +8,7 @@ ghost use Rattle.text.specs.Words.{within, is_letter, is_digit, is_white, slash}
 ghost use Rattle.lexing.specs.Lexing.{name_at, NameEnd, LineEnd, CommentEnd, AtSlash, Next};
 
 // What stands at a place behind white space and comments: nothing, a sign and the place behind it, or a name between two places.
-#[derive(Drop)]
+#[derive(Clone, Copy)]
 pub enum Token {
     End,
     Sign(u8, usize),
@@ -15,7 +17,7 @@ pub enum Token {
 
 // What a slash is: the beginning of a comment that ends before a place, or a word, and the place behind it. A comment without an end is
 // a slash that goes on to the end of the text.
-#[derive(Drop)]
+#[derive(Clone, Copy)]
 pub enum Slash {
     Comment(usize),
     Alone(usize),

@@ -1,4 +1,6 @@
 // The lines of a listing, in a lent buffer: one for the answer, and after a result one for each live slot.
+#![tactic(auto)]
+
 ghost use Rattle.std.specs.Prelude.{◌≡◌, ◌+◌, ◌*◌, ◌<◌, ◌≤◌, length, get_or, take, drop};
 ghost use Rattle.meaning.specs.Numbers.{number};
 ghost use Rattle.meaning.specs.Layout.{free, read_nodes, read_edges};

@@ -1,4 +1,6 @@
 // The listing of a run, from a run image to text in a lent buffer. The definitions that the contracts cite are in specs/.
+#![tactic(auto)]
+
 ghost use Rattle.std.specs.Prelude.{◌≤◌, length};
 ghost use Rattle.writing.specs.Text.{Lists};
 ghost use Rattle.run_input.specs.Reading.{Inside, input_in};

@@ -29,7 +29,7 @@ use Rattle.parts.specs.Rows.{node, edge, graph_item, item_label}
 use Rattle.values.specs.Values.{values_of, value_in}
 use Rattle.values.specs.Laws.{value-some}
 use Rattle.values.specs.Right.{label_same, node-names, edge-names, node-item, edge-item}
-use Rattle.values.specs.Items.{NodeValue, EdgeValue, node_at, edge_at}
+use Rattle.values.specs.Items.{NodeValue, EdgeValue, node_at_lem, edge_at}
 use Rattle.values.specs.declared.Valued.{Valued}
 use Rattle.ledger.specs.Running.{Leads}
 use Rattle.ledger.specs.Changes.{becomes}
@@ -142,7 +142,7 @@ becomes-at (a ∷ l) (suc i) q = becomes-at l i (omega arith)
 module _ {L : Layout} {bs lens atoms : List ℕ} {k : ℕ} (w : Made L bs lens atoms k) where
   module _ (j : ℕ) (h : j < length w.tree.right.nodes) where
     pub node-value : NodeValue L.atoms w.tree (assigned w.host w.tree w.slots) w.host w.slots j (get_or w.tree.right.nodes j blank_rule) (get_or w.right.nodes j blank_node)
-    node-value = node_at L.atoms w.host w.tree w.slots w.right w.values j h blank_rule blank_node
+    node-value = node_at_lem L.atoms w.host w.tree w.slots w.right w.values j h blank_rule blank_node
 
     -- right node j
     abbrev pub made-node : (p : List ℕ) → rule_node p ≡ some (get_or w.tree.right.nodes j blank_rule) → NodeMade L p lens atoms

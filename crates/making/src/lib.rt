@@ -1,5 +1,7 @@
 // The changes of an application, item by item: left nodes take the values of their right nodes or go, new nodes and right edges
 // come, each with one record.
+#![tactic(auto)]
+
 ghost use Rattle.std.specs.Prelude.{◌≡◌, ◌+◌, ◌/◌, ◌<◌, length, take, drop};
 ghost use Rattle.meaning.specs.Basics.{choose};
 ghost use Rattle.meaning.specs.Layout.{live, of_node, of_edge, node_length, record_length, read_nodes, read_edges};

@@ -1,5 +1,7 @@
 // Asks for the first match of the first rule of the case on standard input as often as the case says, and writes it. A case
 // holds nodes, edges, program and a count. What bench/matching times.
+#![tactic(auto)]
+
 ghost use Rattle.std.specs.Prelude.{◌≡◌, true, length, ◌<◌};
 ghost use Rattle.meaning.specs.Image.{raw_program};
 ghost use Rattle.parts.specs.Series.{For};

@@ -1,5 +1,7 @@
 // Writes, for each of the stored cases on standard input, the first match of each rule of its image on its host, a line a rule;
 // or that a run would be refused. A case holds nodes, edges and program.
+#![tactic(auto)]
+
 ghost use Rattle.std.specs.Prelude.{◌≡◌, true, length, ◌<◌};
 ghost use Rattle.meaning.specs.Image.{raw_program};
 ghost use Rattle.parts.specs.Series.{For};

@@ -1,4 +1,6 @@
 // The search for the first match: nested loops over candidate node and edge slots, left from inside at the first full match.
+#![tactic(auto)]
+
 ghost use Rattle.std.specs.Prelude.{◌≡◌, false, ℕ, ◌+◌, ◌<◌, ◌≤◌, length, get_or, take, replicate};
 ghost use Rattle.meaning.specs.Image.{most_items};
 ghost use Rattle.meaning.specs.FirstMatch.{node_fits, complete as is_complete};
@@ -17,21 +19,21 @@ use plan::{At, Side};
 use slots::laid;
 
 // The next slot that fits, or none.
-#[derive(Drop)]
+#[derive(Clone, Copy)]
 pub enum Next {
     At(usize),
     Nothing,
 }
 
 // What to do at a level: stop at a full match, take a slot, or go back.
-#[derive(Drop)]
+#[derive(Clone, Copy)]
 pub enum Step {
     Full,
     Take(usize),
     Back,
 }
 
-#[derive(Drop)]
+#[derive(Clone, Copy)]
 pub enum Outcome {
     Match,
     NoMatch,

@@ -1,18 +1,20 @@
 // The types that code and definitions share, and the numbers that belong to a kind of table. What they mean is in specs/.
+#![tactic(auto)]
+
 ghost use Rattle.std.specs.Prelude.{◌≡◌};
 ghost use Rattle.meaning.specs.Layout.{base, four, small, layout_of};
 
 pub mod tags;
 
 // A sum's, a difference's or a relation test's operand. An atom is held as its 32-bit word.
-#[derive(Drop)]
+#[derive(Clone, Copy)]
 pub enum Operand {
     Constant(u32),
     Variable(usize),
 }
 
 // An element of a label in a rule.
-#[derive(Drop)]
+#[derive(Clone, Copy)]
 pub enum Element {
     Constant(u32),
     Variable(usize),
@@ -21,7 +23,7 @@ pub enum Element {
 }
 
 // What a test asks of a match, before negation.
-#[derive(Drop)]
+#[derive(Clone, Copy)]
 pub enum Condition {
     Edge(usize, usize),
     InDegree(usize, usize),
@@ -30,14 +32,14 @@ pub enum Condition {
     Less(Operand, Operand),
 }
 
-#[derive(Drop)]
+#[derive(Clone, Copy)]
 pub struct Test {
     pub negated: bool,
     pub condition: Condition,
 }
 
 // Why a run that has started ends at once: nothing catches these.
-#[derive(Drop)]
+#[derive(Clone, Copy)]
 pub enum Stop {
     OutOfFuel,
     NoNodeRoom,
@@ -47,7 +49,7 @@ pub enum Stop {
 }
 
 // What is wrong with the input of a call.
-#[derive(Drop)]
+#[derive(Clone, Copy)]
 pub enum Refusal {
     ReportLength,
     NodeTableLength,
@@ -70,7 +72,7 @@ pub enum Refusal {
 }
 
 // The answer of a call.
-#[derive(Drop)]
+#[derive(Clone, Copy)]
 pub enum Answer {
     Result,
     Fail,
@@ -79,7 +81,7 @@ pub enum Answer {
 }
 
 // How a command ends.
-#[derive(Drop)]
+#[derive(Clone, Copy)]
 pub enum End {
     Done,
     Failed,
@@ -88,7 +90,7 @@ pub enum End {
 }
 
 // The fuel left, the steps taken and the journal records used.
-#[derive(Drop)]
+#[derive(Clone, Copy)]
 pub struct Tally {
     pub fuel: usize,
     pub steps: usize,
@@ -96,7 +98,7 @@ pub struct Tally {
 }
 
 // How a command ended, and the tally then.
-#[derive(Drop)]
+#[derive(Clone, Copy)]
 pub struct Ran {
     pub end: End,
     pub tally: Tally,
@@ -127,14 +129,14 @@ impl Room {
 }
 
 // A table of a host.
-#[derive(Drop)]
+#[derive(Clone, Copy)]
 pub enum Table {
     Nodes,
     Edges,
 }
 
 // How a host is carried to other tables: to as many slots, or to any number of slots that its live ones fit in.
-#[derive(Drop)]
+#[derive(Clone, Copy)]
 pub enum Manner {
     Exact,
     Packing,
@@ -169,7 +171,7 @@ impl JournalTable {
 }
 
 // The cores that programs run on.
-#[derive(Drop)]
+#[derive(Clone, Copy)]
 pub enum Core {
     Wide,
     Small,
@@ -177,7 +179,7 @@ pub enum Core {
 
 // How tables and journal are laid out: the atoms that a label holds at most, the bytes of a slot number, the bytes of a
 // slot of each table (a journal slot holds one change), and the most slots of each.
-#[derive(Drop)]
+#[derive(Clone, Copy)]
 pub struct Layout {
     pub atoms: usize,
     pub width: usize,

@@ -1,5 +1,7 @@
 // Reads two tables with room for eight atoms in a label on standard input, and prints them with room for four, or why not. One byte
 // more than an input may have is read, so that a longer one is refused.
+#![tactic(auto)]
+
 use run_input::RunImage;
 
 fn main() {

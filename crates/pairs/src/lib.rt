@@ -1,4 +1,6 @@
 // A host and a rule of an image: whether a run of the image on the host would start, and then the rule's first match.
+#![tactic(auto)]
+
 ghost use Rattle.std.specs.Prelude.{◌≡◌, true, length, ◌+◌, ◌<◌, ◌≤◌};
 ghost use Rattle.meaning.specs.Layout.{most_atoms};
 ghost use Rattle.meaning.specs.Image.{raw_program};

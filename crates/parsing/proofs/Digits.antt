@@ -15,7 +15,7 @@ use Rattle.meaning.specs.Laws.Tests.{both_of, both_true, not_so, every_append, e
 use Rattle.writing.specs.Words.{digit_zero}
 use Rattle.text.specs.Words.{is_digit, within}
 use Rattle.text.specs.Integers.{value, value_from}
-use Rattle.text.specs.Decimals.{value_snoc}
+use Rattle.text.proofs.Decimals.{value_snoc}
 use Rattle.text.specs.Grammar.{broke, digits}
 use Rattle.parsing.specs.Reading.{ahead}
 use Rattle.parsing.specs.Integers.{Capped, ReadsDigits}

@@ -9,7 +9,7 @@ use lib.ListN.{length}
 use Rattle.text.specs.Words.{colon}
 use Rattle.text.specs.Integers.{Integer}
 use Rattle.text.specs.Grammar.{next_integer, integers}
-use Rattle.text.specs.Exact.{next-shorter}
+use Rattle.text.proofs.Exact.{next-shorter}
 use Rattle.parsing.specs.Reading.{Reads, Passed}
 use Rattle.parsing.specs.Integers.{ReadsInteger}
 use Rattle.parsing.specs.Labels.{Gathers, GathersMore, ReadsList}

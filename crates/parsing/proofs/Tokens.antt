@@ -2,13 +2,11 @@
 -- specs/Laws.
 use mathlib.Core.Path.{◌≡◌, refl, sym, subst}
 use mathlib.Core.Bool.{Bool, true, false}
-use mathlib.Core.Logic.{◌⊎◌, inl, inr}
-use mathlib.Core.List.{List, [], ◌∷◌}
+use mathlib.Core.Logic.{◌⊎◌}
+use mathlib.Core.List.{List}
 use Prim.Native.Nat.{ℕ, ◌<◌, ◌≤◌}
 use native.Mathlib.Omega.{arith}
 use borrow.Author.Tests.{eq-eqb, ne_eqb}
-use denote.Enum.Declared
-use package.types.Run
 use lib.ListN.{length, drop}
 use lib.Seq.{slice}
 use Rattle.meaning.specs.Basics.{choose, same}
@@ -18,17 +16,16 @@ use Rattle.text.specs.Grammar.{broke, begins, expect, named, a_name}
 use Rattle.lexing.specs.Lexing.{Next}
 use Rattle.lexing.specs.declared.Token.{Token}
 use Rattle.lexing.specs.declared.Token.TheVariants.{End, Sign, Name}
-use Rattle.lexing.specs.contracts.Token as token
 use Rattle.parsing.specs.Reading.{ahead, Reads, Passed, ReadsName}
 use Rattle.parsing.specs.Laws.{goes, stays}
 use Rattle.parsing.specs.declared.Cursor.{Cursor}
 
 -- what was found is no sign; no name
 abbrev pub NoSign : Token → Type 0
-NoSign t = Run.OneOf (0 ∷ 2 ∷ []) (Declared.tag_of token.the_type t)
+NoSign t = (b next : ℕ) → t ≡ Sign b next → ⊥
 
 abbrev pub NoName : Token → Type 0
-NoName t = Run.OneOf (0 ∷ 1 ∷ []) (Declared.tag_of token.the_type t)
+NoName t = (from to : ℕ) → t ≡ Name from to → ⊥
 
 pub same-turned : (l m : List ℕ) (b : Bool) → same l m ≡ b → same m l ≡ b
 same-turned l m true e = same_of m l (sym (same_true l m e))
@@ -42,23 +39,20 @@ module _ (bs : List ℕ) (at : ℕ) where
   no_sign : (t : Token) → Next bs at t → NoSign t → (s : ℕ) → begins (sign s) (words (drop at bs)) ≡ false
   unfolding begins same_word
   no_sign End n k s = rw n
-  no_sign (Sign b next) n (inl k) s = let z : ◌≡◌ {A = ℕ} 1 0 = k in absurd (omega arith)
-  no_sign (Sign b next) n (inr k) s = let z : ◌≡◌ {A = ℕ} 1 2 = k in absurd (omega arith)
+  no_sign (Sign b next) n k s = absurd (k b next refl)
   no_sign (Name from to) n k s = rw (n.0, n.1)
 
   no_name : (t : Token) → Next bs at t → NoName t → (w : List ℕ) → begins (name w) (words (drop at bs)) ≡ false
   unfolding begins same_word
   no_name End n k w = rw n
   no_name (Sign b next) n k w = rw n.0
-  no_name (Name from to) n (inl k) w = let z : ◌≡◌ {A = ℕ} 2 0 = k in absurd (omega arith)
-  no_name (Name from to) n (inr k) w = let z : ◌≡◌ {A = ℕ} 2 1 = k in absurd (omega arith)
+  no_name (Name from to) n k w = absurd (k from to refl)
 
   unnamed : (t : Token) → Next bs at t → NoName t → (passes : List ℕ → Bool) → named passes (words (drop at bs)) ≡ broke (words (drop at bs))
   unfolding named
   unnamed End n k passes = rw n
   unnamed (Sign b next) n k passes = rw n.0
-  unnamed (Name from to) n (inl k) passes = let z : ◌≡◌ {A = ℕ} 2 0 = k in absurd (omega arith)
-  unnamed (Name from to) n (inr k) passes = let z : ◌≡◌ {A = ℕ} 2 1 = k in absurd (omega arith)
+  unnamed (Name from to) n k passes = absurd (k from to refl)
 
 module _ (bs : List ℕ) (c : Cursor) (t : Token) (n : Next bs c.at t) where
   -- A sign that is asked for.

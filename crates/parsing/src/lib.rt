@@ -1,5 +1,7 @@
 // The parts of an item of a text graph, read where they lie: signs and names here, integers, labels and positions in files of their own.
 // Each reader takes a cursor and answers with the cursor behind what it read; behind a break nothing more is read, and the cursor stays.
+#![tactic(auto)]
+
 ghost use Rattle.std.specs.Prelude.{◌≡◌, false};
 ghost use Rattle.text.specs.Words.{name, sign};
 ghost use Rattle.parsing.specs.Reading.{Passed, ReadsName};
@@ -11,7 +13,7 @@ pub mod labelling;
 pub mod positions;
 
 // A place in a text up to which all fits, or the place at which it broke.
-#[derive(Drop)]
+#[derive(Clone, Copy)]
 pub struct Cursor {
     pub ok: bool,
     pub at: usize,

@@ -1,6 +1,5 @@
 -- One turn of a loop over fields: what the reader found, as the laws of rows take it. Rests on fields' Finding and on Series.
-use mathlib.Core.Path.{◌≡◌, sym, ◌∙◌}
-use mathlib.Core.Logic.{inl, inr}
+use mathlib.Core.Path.{◌≡◌, refl, sym, ◌∙◌}
 use mathlib.Core.List.{List, []}
 use Prim.Native.Nat.{ℕ, ◌-◌, ◌<◌, ◌≤◌}
 use native.Mathlib.Omega.{arith}
@@ -12,14 +11,12 @@ pub use Rattle.fields.proofs.Finding.{NoField, no_field, a-field, part_in, neare
 use Rattle.parts.specs.Series.{part_of, tag_of, part-short, part_end, tag-short, tag-end, nth_inside}
 
 pub no_part : (bs : List ℕ) (f g : Found) → f ≡ g → NoField f → [] ≡ part_of bs g
-no_part bs (Field tag start end) g e (inl k) = let z : ◌≡◌ {A = ℕ} 0 1 = k in absurd (omega arith)
-no_part bs (Field tag start end) g e (inr k) = let z : ◌≡◌ {A = ℕ} 0 2 = k in absurd (omega arith)
+no_part bs (Field tag start end) g e k = absurd (k tag start end refl)
 no_part bs Short g e k = sym (part-short bs g (sym e))
 no_part bs End g e k = sym (part_end bs g (sym e))
 
 pub no-tag : (f g : Found) → f ≡ g → NoField f → 0 ≡ tag_of g
-no-tag (Field tag start end) g e (inl k) = let z : ◌≡◌ {A = ℕ} 0 1 = k in absurd (omega arith)
-no-tag (Field tag start end) g e (inr k) = let z : ◌≡◌ {A = ℕ} 0 2 = k in absurd (omega arith)
+no-tag (Field tag start end) g e k = absurd (k tag start end refl)
 no-tag Short g e k = sym (tag-short g (sym e))
 no-tag End g e k = sym (tag-end g (sym e))
 

@@ -1,5 +1,7 @@
 // Parts of an image, of a rule and of a graph: the bytes of each where they lie, and what stands there. Readings of elements and
 // tests are in `reading`, walks along a label in `elements`.
+#![tactic(auto)]
+
 ghost use Rattle.std.specs.Prelude.{◌≡◌, List, [], ℕ, ◌+◌, ◌<◌, ◌≤◌, eqb, length, get_or, drop};
 ghost use Rattle.std.proofs.Math.Option.{some, none};
 ghost use Rattle.meaning.specs.Numbers.{number};

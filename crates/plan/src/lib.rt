@@ -1,6 +1,8 @@
 // The plan of a rule, made once for each search: where the left items lie in the rule's bytes, how their labels are compared,
 // which item first has each variable and where, and when each test is decided. An array of numbers that the caller lends.
 // Here is what stands where, and what is read by it; crate `planning` makes one.
+#![tactic(auto)]
+
 ghost use Rattle.std.specs.Prelude.{◌≡◌, [], ◌+◌, ◌<◌, max, length, get_or};
 ghost use Rattle.std.proofs.Math.Option.{some};
 ghost use Rattle.meaning.specs.Image.{most_items, only, passes_all, label, test, limits};
@@ -78,7 +80,7 @@ impl Sorted {
 }
 
 // The ends of an edge.
-#[derive(Drop)]
+#[derive(Clone, Copy)]
 pub enum Side {
     Source,
     Target,

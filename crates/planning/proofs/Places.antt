@@ -23,14 +23,8 @@ pub lying_none : (bs : List ℕ) (at : ℕ) (f : Found) → f ≡ field_at bs at
 lying_none bs at f e k =
     record {
       part = λ n q. place_none bs n f (e ∙ sym q) k;
-      next = λ n tag start end q g. absurd (never f (e ∙ sym q ∙ g) k);
+      next = λ n tag start end q g. absurd (k tag start end (e ∙ sym q ∙ g));
     }
-  where
-    never : (f : Found) {tag start end : ℕ} → f ≡ Field tag start end → NoField f → ⊥
-    never (Field t s x) q (inl k) = let z : ◌≡◌ {A = ℕ} 0 1 = k in omega arith
-    never (Field t s x) q (inr k) = let z : ◌≡◌ {A = ℕ} 0 2 = k in omega arith
-    never Short q k = let z : ◌≡◌ {A = ℕ} 0 1 = cc in omega arith
-    never End q k = let z : ◌≡◌ {A = ℕ} 0 1 = cc in omega arith
 
 pub lying_there : (bs : List ℕ) (at : ℕ) {f : Found} {tag start end : ℕ} → f ≡ field_at bs at → f ≡ Field tag start end → Lying bs at start end
 lying_there bs at e g =

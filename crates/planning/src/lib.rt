@@ -1,4 +1,6 @@
 // Making the plan of a rule, in an array that the caller lends.
+#![tactic(auto)]
+
 ghost use Rattle.std.specs.Prelude.{◌≡◌, List, ◌+◌, ◌<◌, length, get_or};
 ghost use Rattle.std.proofs.Math.Option.{some};
 ghost use Rattle.meaning.specs.Image.{Rule, RuleGraph, rule_graph, element, label};
@@ -179,7 +181,7 @@ fn plan_variables(rule: &[u8], plan: &mut [usize; At::LENGTH])
 }
 
 // How a left label is compared: by its length alone, as one constant, or element by element.
-#[derive(Drop)]
+#[derive(Clone, Copy)]
 pub enum Sort {
     Length,
     Constant(u32),
@@ -279,7 +281,7 @@ fn plan_tests(rule: &[u8], plan: &mut [usize; At::LENGTH])
 }
 
 // Where a part of the rule lies.
-#[derive(Drop)]
+#[derive(Clone, Copy)]
 struct Span {
     start: usize,
     end: usize,

@@ -13,7 +13,8 @@ use Rattle.meaning.specs.declared.Operand.{Operand}
 use Rattle.meaning.specs.declared.Operand.TheVariants.{Constant as constant_operand, Variable as variable_operand}
 use Rattle.meaning.specs.declared.Element.{Element}
 use Rattle.meaning.specs.declared.Element.TheVariants.{Constant, Variable, Sum, Difference}
-use Rattle.published.specs.Integers.{named, named-word}
+use Rattle.published.specs.Integers.{named}
+use Rattle.published.proofs.Integers.{named-word}
 use Rattle.published.specs.RuleApplication.{integer}
 
 -- an operand that is a constant

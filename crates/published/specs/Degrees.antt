@@ -2,19 +2,12 @@
 -- leave it, since the dangling condition lets no other touch it. A loop counts once in each. In document 000 a search checks
 -- these degrees (lemma 3.5); a condition that asks for them changes no match. Rests on RuleApplication and on Application's
 -- Conditions.
-use Rattle.std.specs.Prelude.{◌≡◌, ◌↔◌, Bool, true, false, List, ◌∷◌, map, ℕ, ◌<◌, ◌≤◌, eqb, length, get_or}
-use Rattle.std.proofs.Common.{sym, ◌∙◌, ap, inl, inr, eq-eqb, eqb-true}
-use Rattle.std.proofs.lemmas.List.{length-map}
+use Rattle.std.specs.Prelude.{false, List, ◌∷◌, ℕ, eqb, length}
 use Rattle.meaning.specs.Basics.{count}
 use Rattle.meaning.specs.Image.{Rule}
-use Rattle.meaning.specs.References.{rule_holds}
-use Rattle.laws.specs.Pieces.{get_or-map_in}
-use Rattle.laws.specs.References.{ends}
 use Rattle.meaning.specs.declared.Condition.TheVariants.{InDegree, OutDegree}
 use Rattle.meaning.specs.declared.Test.{Test}
-use Rattle.published.specs.Graphs.{Graph, Edge}
-use Rattle.published.specs.RuleApplication.{edge_of, Incident, Exactly, Leaves, Arrives, True, Matches}
-use Rattle.published.specs.Application.Conditions.{passing, Passing, passing-all}
+use Rattle.published.specs.RuleApplication.{edge_of}
 
 -- the edges of L that arrive at its node j, and those that leave it
 abbrev pub left_in : Rule → ℕ → ℕ
@@ -23,61 +16,10 @@ left_in r j = count (λ k. eqb (edge_of r.left k).target j) (length r.left.edges
 abbrev pub left_out : Rule → ℕ → ℕ
 left_out r j = count (λ k. eqb (edge_of r.left k).source j) (length r.left.edges)
 
-module _ (r : Rule) (holds : rule_holds r ≡ true) (G : Graph) (m : Matches r G) where
-  module _ (j : ℕ) (deleted : r.interface ≤ j) (there : j < length r.left.nodes) where
-    -- of one end of the edges, the source or the target: `end` in G, `left` in L
-    ends-exactly : (end left : ℕ → ℕ)
-        → ((e : ℕ) → end e ≡ m.g.node j → Incident G e (m.g.node j))
-        → ((k : ℕ) → k < length r.left.edges → end (m.g.edge k) ≡ m.g.node (left k))
-        → ((k : ℕ) → k < length r.left.edges → left k < length r.left.nodes)
-        → Exactly (count (λ k. eqb (left k) j) (length r.left.edges)) (λ e. Edge G e × (end e ≡ m.g.node j))
-    ends-exactly end left touches same here =
-        record {
-          list = map m.g.edge (passing f n);
-          size = length-map (passing f n) m.g.edge ∙ p.size;
-          apart = λ i k h l e. p.apart i k h l (m.injective.edges _ _ (p.below i h) (p.below k l) (sym (at i h) ∙ e ∙ at k l));
-          each = λ i h. rw (at i h) (m.g.edges _ (p.below i h), same _ (p.below i h) ∙ ap m.g.node (eqb-true _ _ (p.passes i h)));
-          all = λ e q.
-              let t = m.dangling e j q.0 deleted there (touches e q.1) in
-              let same-node = sym (same t.0 t.1) ∙ ap end t.2 ∙ q.1 in
-              let u = p.all t.0 t.1 (eq-eqb _ _ (m.injective.nodes _ _ (here t.0 t.1) there same-node)) in
-              (u.0, u.1, at u.0 u.1 ∙ ap m.g.edge u.2 ∙ t.2);
-        }
-      where
-        n : ℕ
-        n = length r.left.edges
-
-        f : ℕ → Bool
-        f k = eqb (left k) j
-
-        p : Passing f n (count f n) (passing f n)
-        p = passing-all f n
-
-        at : (i : ℕ) → i < count f n → get_or (map m.g.edge (passing f n)) i 0 ≡ m.g.edge (get_or (passing f n) i 0)
-        at i h = get_or-map_in m.g.edge (passing f n) i 0 0 (rw p.size h)
-
-    pub deleted_in : Exactly (left_in r j) (Arrives G (m.g.node j))
-    deleted_in = ends-exactly G.target _ (λ e. inr) m.g.targets (λ k h. (ends r holds k h).1)
-
-    pub deleted_out : Exactly (left_out r j) (Leaves G (m.g.node j))
-    deleted_out = ends-exactly G.source _ (λ e. inl) m.g.sources (λ k h. (ends r holds k h).0)
-
 -- r with other tests
-abbrev with_tests : Rule → List Test → Rule
+abbrev pub with_tests : Rule → List Test → Rule
 with_tests r t =
     record { variables = r.variables; left = r.left; right = r.right; interface = r.interface; tests = t; preserving = r.preserving }
-
--- a match of r, if these are true there
-retested : (r : Rule) (t : List Test) (G : Graph) (m : Matches r G) → True G m.g.node m.α.of t → Matches (with_tests r t) G
-retested r t G m c =
-    record {
-      g = m.g;
-      injective = m.injective;
-      α = record { of = m.α.of; ints = m.α.ints };
-      compatible = m.compatible;
-      dangling = m.dangling;
-      condition = c;
-    }
 
 -- r with a condition more: node j has the degrees that it has in L
 abbrev pub asking : Rule → ℕ → Rule
@@ -86,11 +28,3 @@ asking r j =
     (record { negated = false; condition = InDegree j (left_in r j) }
     ∷ record { negated = false; condition = OutDegree j (left_out r j) }
     ∷ r.tests)
-
--- it has the matches of r, if r deletes node j
-pub asking-same : (r : Rule) → rule_holds r ≡ true → (j : ℕ) → r.interface ≤ j → j < length r.left.nodes → (G : Graph)
-    → Matches r G ↔ Matches (asking r j) G
-asking-same r holds j deleted there G = (
-  λ m. retested r _ G m (deleted_in r holds G m j deleted there, (deleted_out r holds G m j deleted there, m.condition)),
-  λ m. retested (asking r j) r.tests G m m.condition.1.1,
-)

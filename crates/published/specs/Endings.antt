@@ -28,12 +28,14 @@ module _ {ℓ κ} (Graph : Type ℓ) (Applied : List Rule → Graph → Graph �
 
   fail-results : {G K : Graph} → ⟨ fail ∣ G ⟩ ⟶⁺ result K → ⊥
   fail-results (next [fail] p) = failure-stays p
+  fail-results (last x) = elim x [ ]
 
   -- a result of the check is the graph, on which C fails
   check-fails : {C : ComSeq} {G K : Graph} → ⟨ if C then fail else skip ∣ G ⟩ ⟶⁺ result K → ⟨ C ∣ K ⟩ ⟶⁺ failure
   check-fails (next ([if₁] p) q) = absurd (fail-results q)
   check-fails (next ([if₂] p) (last [skip])) = p
   check-fails (next ([if₂] p) (next [skip] q)) = absurd (result-stays q)
+  check-fails (last x) = elim x [ ]
 
   -- a result of a sequence is one of its second part
   second : {P Q : ComSeq} {G K : Graph} → ⟨ P ⨟ Q ∣ G ⟩ ⟶⁺ result K → (H : Graph) × (⟨ Q ∣ H ⟩ ⟶⁺ result K)
@@ -41,6 +43,7 @@ module _ {ℓ κ} (Graph : Type ℓ) (Applied : List Rule → Graph → Graph �
   second (next ([seq₂] s) p) = (_, p)
   second (next ([seq₃] s) p) = absurd (failure-stays p)
   second (next [break] p) = absurd (break-stays p)
+  second (last x) = elim x [ ]
 
   pub checked : (P C : ComSeq) (G K : Graph) → ⟨ P ⨟ if C then fail else skip ∣ G ⟩ ⟶⁺ result K → ⟨ C ∣ K ⟩ ⟶⁺ failure
   checked P C G K p = let t = second p in check-fails t.1

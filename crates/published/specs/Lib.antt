@@ -2,7 +2,6 @@ pub mod Integers
 pub mod Graphs
 pub mod RuleApplication
 pub mod Constants
-pub mod Isomorphism
 pub mod OneResult
 pub mod SameMatch
 pub mod Application
@@ -17,7 +16,6 @@ pub mod Results
 pub mod Alike
 pub mod Unique
 pub mod Answers
-pub mod OneCall
 pub mod CaseFourteen
 pub mod Conformance
 pub mod Steady

@@ -1,5 +1,7 @@
 // References (answer 17) of the rules of an image that has the form. Each side of a rule and its tests are walked once, where they
 // lie, and once more for each variable.
+#![tactic(auto)]
+
 ghost use Rattle.std.specs.Prelude.{◌≡◌};
 ghost use Rattle.meaning.specs.Basics.{every};
 ghost use Rattle.meaning.specs.Image.{raw_program};
@@ -16,7 +18,7 @@ mod rules;
 
 // What is asked of a graph of a rule or of its tests: of every element of a label and every operand, and of what an item or a
 // test names.
-#[derive(Drop)]
+#[derive(Clone, Copy)]
 pub enum Ask {
     // Of the left side, where there are so many nodes: named variables exist, no label has a sum or a difference or more than one
     // occurrence of a list variable, and the ends of edges are nodes.

@@ -1,4 +1,6 @@
 // What a run refuses before it starts: the lowest applicable number from 9 to 19, over the whole input, changing nothing.
+#![tactic(auto)]
+
 ghost use Rattle.std.specs.Prelude.{◌≡◌};
 ghost use Rattle.meaning.specs.Basics.{first_failing};
 ghost use Rattle.meaning.specs.Layout.{Sized, base};

@@ -1,5 +1,7 @@
 // Writes, for each of the stored cases on standard input, the number that refuses the run, 0 where it would start. A case
 // holds nodes, edges, journal, fuel, program and report.
+#![tactic(auto)]
+
 use answers::Checked;
 use meaning::Answer;
 

@@ -1,1 +1,2 @@
 // A text graph put into the one spacing.
+#![tactic(auto)]

@@ -1,6 +1,8 @@
 // The reading of a run image: five fields, each once in order, the two numbers of their sizes, and nothing behind; and the parts of
 // the input that an image holds. A field of a tag at a place, and its payload, serve the reader of two tables too. The definitions
 // that the contracts cite are in specs/.
+#![tactic(auto)]
+
 ghost use Rattle.std.specs.Prelude.{◌≡◌, ◌+◌, ◌-◌, ◌≤◌, length, take, drop};
 ghost use Rattle.run_input.specs.Input.{most_input, most_records};
 ghost use Rattle.run_input.specs.Reading.{field_head, Expects, Finds, Inside, Reading, Payload, input_of};
@@ -43,7 +45,7 @@ pub enum Place {
 }
 
 // Where the payloads of the five fields of an input end. Each begins behind a head, at the end of the one before.
-#[derive(Drop)]
+#[derive(Clone, Copy)]
 pub struct Ends {
     pub nodes: usize,
     pub edges: usize,

@@ -1,5 +1,7 @@
 // Reads a run image on standard input, and prints the listing of its run. One byte more than an image may have is read, so
 // that a longer one is refused.
+#![tactic(auto)]
+
 use meaning::Core;
 use run_input::RunImage;
 

@@ -42,11 +42,11 @@ unfolding zeros both
 zeros-more i l h k = rw (add-one i, drop-cons l i 0 h, eq-eqb (get_or l i 0) 0 k)
 
 -- one byte more that was looked at: `all` is false where it is not zero, and else as it was
-pub zeros-seen : {A B : Type 0} (i : ℕ) (l : List ℕ) (old all : Bool) → i < length l → (A → get_or l i 0 ≡ 0 → ⊥) → (B → get_or l i 0 ≡ 0)
-    → (A × (all ≡ false)) ⊎ (B × (all ≡ old)) → both all (zeros (drop (i + 1) l)) ≡ both old (zeros (drop i l))
+pub zeros-seen : (i : ℕ) (l : List ℕ) (old all : Bool) → i < length l → ((get_or l i 0 ≡ 0 → ⊥) × (all ≡ false)) ⊎ ((get_or l i 0 ≡ 0) × (all ≡ old))
+    → both all (zeros (drop (i + 1) l)) ≡ both old (zeros (drop i l))
 unfolding both
-zeros-seen i l old all h f g (inl t) = rw (t.1, zeros-other i l h (f t.0)) (sym (both_false old))
-zeros-seen i l old all h f g (inr t) = rw t.1 (ap (both old) (sym (zeros-more i l h (g t.0))))
+zeros-seen i l old all h (inl t) = rw (t.1, zeros-other i l h t.0) (sym (both_false old))
+zeros-seen i l old all h (inr t) = rw t.1 (ap (both old) (sym (zeros-more i l h t.0)))
 
 pub zeros-end : (i : ℕ) (l : List ℕ) → length l ≤ i → zeros (drop i l) ≡ true
 unfolding zeros

@@ -1,6 +1,8 @@
 // Slots of host tables and of the journal in lent bytes: where a slot lies, storing and freeing one, zeroing some in a row, and
 // which are free. What a slot of a host table holds is in `held`, its label where it lies in `laid`, bytes and numbers are in
 // `bytes`. Where a slot starts is reckoned here alone.
+#![tactic(auto)]
+
 ghost use Rattle.std.specs.Prelude.{◌≡◌, [], ◌+◌, ◌*◌, ◌/◌, ◌<◌, ◌≤◌, length, get_or, set, replicate};
 ghost use Rattle.meaning.specs.Layout.{Sized, fits_table, live, write_node, write_edge, live_at, node_length, edge_length, cut};
 ghost use Rattle.meaning.specs.Applying.{lowest_free, free_slots};

@@ -1,5 +1,7 @@
 // The running tally, changed in place: one function for each change of it that running makes. Above each stands the same by
 // value, for callers that are proved without a walk. Rests on the tally of `meaning` alone.
+#![tactic(auto)]
+
 ghost use Rattle.std.specs.Prelude.{◌≡◌, ◌+◌, ◌-◌, ◌<◌, ◌^◌};
 
 use meaning::Tally;

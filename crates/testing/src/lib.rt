@@ -1,5 +1,7 @@
 // Tests of a rule at a placement, evaluated where their bytes lie, and what is left of a candidate's test where the slot is
 // likely: its label, where the label's length and atom leave it open, and the tests that it decides.
+#![tactic(auto)]
+
 ghost use Rattle.std.specs.Prelude.{◌≡◌, true, ◌+◌, length, get_or, take};
 ghost use Rattle.meaning.specs.Image.{most_items};
 ghost use Rattle.meaning.specs.Tags.{relation_tag};

@@ -1,5 +1,5 @@
 -- Where a text breaks: the place, line and column of the first word that no graph goes on with. Rests on Words and Grammar.
-use Rattle.std.specs.Prelude.{Bool, true, false, List, [], ◌∷◌, ◌++◌, ℕ, zero, suc, ◌+◌, ◌-◌, length, get_or, take, eqb}
+use Rattle.std.specs.Prelude.{List, [], ◌∷◌, ◌++◌, ℕ, suc, ◌+◌, ◌-◌, length, get_or, take, eqb}
 use Rattle.meaning.specs.Basics.{choose, either}
 use Rattle.writing.specs.Words.{line_feed}
 use Rattle.text.specs.Words.{Mode, between, naming, slashed, aside, inside, starred, is_letter, is_sign, slash, star, next, words}

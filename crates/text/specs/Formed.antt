@@ -1,9 +1,9 @@
 -- Words that a text can have, and the graphs that a text can list. Rests on Words and Grammar.
-use Rattle.std.specs.Prelude.{◌≡◌, Bool, true, false, List, ℕ, ◌≤◌}
+use Rattle.std.specs.Prelude.{◌≡◌, true, false, List, ℕ, ◌≤◌}
 use Rattle.std.proofs.Math.Option.{Option, some, none}
 use Rattle.meaning.specs.Basics.{every, is_empty}
 use Rattle.meaning.specs.Laws.Every.{Every}
-use Rattle.text.specs.Words.{Word, name, sign, is_digit, is_letter, is_sign, slash}
+use Rattle.text.specs.Words.{Word, name, sign, is_digit, is_letter, is_sign}
 use Rattle.text.specs.Integers.{Integer}
 use Rattle.text.specs.Grammar.{Label, Coordinate, Position, NodeItem, EdgeItem, Listed}
 

@@ -6,13 +6,3 @@ pub mod Text
 pub mod Breaks
 pub mod Closed
 pub mod Formed
-pub mod Reading
-pub mod Parsing
-pub mod Exact
-pub mod Decimals
-pub mod Names
-pub mod Closing
-pub mod Same
-pub mod Theorems
-pub mod Imports
-pub mod Example

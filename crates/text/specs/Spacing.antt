@@ -1,6 +1,6 @@
 -- The one spacing in which words are written: what stands between two of them is decided by the two. Each item is on a line of its own.
 -- Rests on Words.
-use Rattle.std.specs.Prelude.{Bool, true, false, List, [], ◌∷◌, ◌++◌, ℕ, eqb}
+use Rattle.std.specs.Prelude.{Bool, List, [], ◌∷◌, ◌++◌, ℕ, eqb}
 use Rattle.meaning.specs.Basics.{choose, either}
 use Rattle.writing.specs.Words.{line_feed, space}
 use Rattle.text.specs.Words.{Word, name, sign}

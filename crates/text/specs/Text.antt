@@ -1,8 +1,8 @@
 -- Import and export, each a function from all its inputs to all its outputs, refusals in their order included. Rests on the meaning's
 -- Layout, Calls and Carrying, on writing's Words, and on Words, Spacing, Integers and Grammar.
-use Rattle.std.specs.Prelude.{◌≡◌, Bool, true, false, not, List, [], ◌∷◌, ◌++◌, map, ℕ, zero, suc, ◌-◌, ◌/◌, length, drop, replicate, leb}
+use Rattle.std.specs.Prelude.{◌≡◌, Bool, true, false, not, List, [], ◌∷◌, ◌++◌, map, ℕ, suc, ◌-◌, ◌/◌, length, drop, replicate, leb}
 use Rattle.std.proofs.Math.Option.{Option, some, none}
-use Rattle.meaning.specs.Basics.{choose, both, either, clauses, every, is_some, first_failing}
+use Rattle.meaning.specs.Basics.{both, either, clauses, every, first_failing}
 use Rattle.meaning.specs.Layout.{Slot, free, live, Node, Edge, is_node_mark, is_edge_mark, node_length, edge_length, fits_table, read_nodes, read_edges, write_nodes, write_edges, keeps_layout}
 use Rattle.meaning.specs.Calls.{answer_number}
 use Rattle.meaning.specs.Carrying.{Carried}
@@ -14,7 +14,7 @@ use Rattle.meaning.specs.declared.Answer.TheVariants.{Result, Refused}
 use Rattle.writing.specs.Words.{decimal}
 use Rattle.text.specs.Words.{words}
 use Rattle.text.specs.Spacing.{text}
-use Rattle.text.specs.Integers.{Integer, integer_of, is_atom, atom}
+use Rattle.text.specs.Integers.{integer_of, is_atom, atom}
 use Rattle.text.specs.Grammar.{Label, NodeItem, EdgeItem, Listed, index, known, graph_words, Parsed, got, broke, graph}
 
 -- What a text lists, as slots.
@@ -60,6 +60,10 @@ listed nodes edges = record { nodes = numbered node_item 0 nodes; edges = number
 unfoldable pub apart : List (List ℕ) → Bool
 apart [] = true
 apart (a ∷ l) = both (not (known a l)) (apart l)
+
+-- both ends of a listed edge are among the names
+abbrev pub ends_known : List (List ℕ) → EdgeItem → Bool
+ends_known l e = both (known e.source l) (known e.target l)
 
 -- no identifier twice among nodes or among edges, and each end exists
 unfoldable pub names_hold : Listed → Bool

@@ -1,2 +1,3 @@
-// Host graphs as text: the words of a text, the grammar over them, what import and export mean, and theorems about these. All of it is
-// in specs/.
+// Host graphs as text: the words of a text, the grammar over them, and what import and export mean, in specs/; theorems about these, in
+// proofs/.
+#![tactic(auto)]

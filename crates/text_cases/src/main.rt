@@ -1,6 +1,7 @@
 // Imports or exports each of the stored cases on standard input and writes what the call leaves, a line a case: of an import the number,
 // then the nodes and the edges in hexadecimal digits; of an export the number, the length and the buffer. A case holds a byte, 0 to import
 // or 1 to export, then nodes and edges, and the text to import or the buffer to export to.
+#![tactic(auto)]
 
 // The byte of an export. Any other is to import.
 #[derive(Drop)]

@@ -1,4 +1,6 @@
 // The call undo, over a layout: what is refused, and putting the counted records back.
+#![tactic(auto)]
+
 ghost use Rattle.std.specs.Prelude.{◌≡◌};
 ghost use Rattle.meaning.specs.Layout.{Sized};
 ghost use Rattle.meaning.specs.Calls.{answer_number, undo_refusal, undo, lending_undo, Yields};

@@ -1,6 +1,8 @@
 // Undoes each of the stored cases on standard input and writes what the call leaves, a line a case: the number, then report,
 // nodes, edges and journal in hexadecimal digits. A case holds nodes, edges, journal, count and report, and a byte for its core, 0 for
 // the wide one or 1 for the small one.
+#![tactic(auto)]
+
 use meaning::Core;
 
 // The core of a case.

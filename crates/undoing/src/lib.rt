@@ -1,4 +1,6 @@
 // Undoing to an earlier count of records while a program runs.
+#![tactic(auto)]
+
 ghost use Rattle.std.specs.Prelude.{◌≤◌};
 ghost use Rattle.ledger.specs.Running.{Running};
 ghost use Rattle.undoing.specs.Undone.{Undone};

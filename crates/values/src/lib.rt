@@ -1,4 +1,6 @@
 // What the labels of a rule's right side come to under the values of the variables, or that a label can't be held.
+#![tactic(auto)]
+
 ghost use Rattle.std.specs.Prelude.{◌≡◌, ◌++◌, ◌≤◌, get_or};
 ghost use Rattle.meaning.specs.Numbers.{sum, difference};
 ghost use Rattle.meaning.specs.Layout.{most_atoms};

@@ -11,12 +11,9 @@ pub mod Places
 pub mod Rewrapping
 pub mod Coming
 pub mod Writing
-pub mod Replacing
 pub mod Fuelling
 pub mod Tracing
 pub mod Agreement
 pub mod Running
-pub mod Runs
-pub mod WrittenRuns
 pub mod Regrouping
 pub mod Examples

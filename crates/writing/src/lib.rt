@@ -1,5 +1,7 @@
 // Text in a lent buffer: bytes, decimal numbers, and the words of a line. Each writer puts its text at a place, and says where it ends.
 // The definitions that the contracts cite are in specs/.
+#![tactic(auto)]
+
 ghost use Rattle.std.specs.Prelude.{◌∷◌, map, ◌+◌, ◌≤◌, length};
 ghost use Rattle.meaning.specs.Layout.{most_atoms};
 ghost use Rattle.slots.specs.Laid.{laid};

@@ -1,0 +1,47 @@
+-- `carry_tables` meets its contract: refused, nothing is written; else both tables.
+use Rattle.std.proofs.Common.{sym, ap, ◌∙◌}
+use Rattle.meaning.specs.Carrying.{lending_tables}
+use Rattle.answers.specs.Answers.{refusal_of}
+use Rattle.carrying.proofs.Checks.{left-refused, left-taken, taken-legal, nodes-labels, edges-labels, nodes-size, edges-size}
+use Rattle.carrying.proofs.carry_tables.Goals as goal
+
+pub returns-in-Refused : goal.returns-in-Refused
+unfolding refusal_of
+returns-in-Refused c =
+    let a = c.args in
+    let x = lending_tables a.nodes.now a.edges.now a.to_nodes.now a.to_edges.now in
+    left-refused a.manner a.from a.to x _ (sym (ap refusal_of c.in-Refused.is) ∙ c.check-checked.ensures)
+
+pub carry_slots-requires : goal.carry_slots-requires
+unfolding refusal_of
+carry_slots-requires c =
+    let a = c.args in
+    let x = lending_tables a.nodes.now a.edges.now a.to_nodes.now a.to_edges.now in
+    let e = sym (ap refusal_of c.in-Fine.is) ∙ c.check-checked.ensures in
+    record {
+      legal = taken-legal a.manner a.from a.to x e c.requires.sized c.requires.atoms_le_most_atoms;
+      sized = c.requires.sized_2;
+      out_len = nodes-size a.manner a.from a.to x e c.requires.sized_2;
+      atoms_value = nodes-labels a.manner a.from a.to x e;
+    }
+
+pub carry_slots-requires-in-Fine : goal.carry_slots-requires-in-Fine
+unfolding refusal_of
+carry_slots-requires-in-Fine c =
+    let a = c.args in
+    let x = lending_tables a.nodes.now a.edges.now a.to_nodes.now a.to_edges.now in
+    let e = sym (ap refusal_of c.in-Fine.is) ∙ c.check-checked.ensures in
+    record {
+      legal = taken-legal a.manner a.from a.to x e c.requires.sized c.requires.atoms_le_most_atoms;
+      sized = c.requires.sized_2;
+      out_len = edges-size a.manner a.from a.to x e c.requires.sized_2;
+      atoms_value = edges-labels a.manner a.from a.to x e;
+    }
+
+pub returns-in-Fine : goal.returns-in-Fine
+unfolding refusal_of
+returns-in-Fine c =
+    let a = c.args in
+    let x = lending_tables a.nodes.now a.edges.now a.to_nodes.now a.to_edges.now in
+    let e = sym (ap refusal_of c.in-Fine.is) ∙ c.check-checked.ensures in
+    left-taken a.manner a.from a.to x e c.requires.sized_2 _ _ c.carry_slots.ensures c.carry_slots-in-Fine.ensures

@@ -1,0 +1,50 @@
+-- The cycle of `command_holds` and `commands_hold` meets its contracts.
+use Rattle.std.proofs.Common.{◌∙◌, sym, arith}
+use Rattle.command_checks.proofs.Commanding.{break-at, call_at, no-depth, no_room, parting_cut, parting_done, parting_next, parting_start, parting_stop, parts_at, rule-set-at}
+use Rattle.parts.proofs.Loops.{a-field, nearer, no_field, part_in}
+use Rattle.command_checks.proofs.+command_holds_commands_hold.Goals as goal
+
+pub command_holds-returns-then-depth-eq0 : goal.command_holds-returns-then-depth-eq0
+command_holds-returns-then-depth-eq0 t c = no-depth _ _ _ _ _ _ c.if-depth-eq0.true
+
+pub command_holds-returns-then-not-has_room : goal.command_holds-returns-then-not-has_room
+command_holds-returns-then-not-has_room t c = no_room _ _ _ _ _ (sym c.has_room.ensures ∙ c.if-not-has_room.true)
+
+pub command_holds-returns-then-tag-eq-RULE_SET : goal.command_holds-returns-then-tag-eq-RULE_SET
+command_holds-returns-then-tag-eq-RULE_SET t c = rule-set-at _ _ _ _ _ _ c.if-depth-eq0.false (sym c.has_room.ensures ∙ c.if-not-has_room.false) c.rule_set_holds.ensures c.if-tag-eq-RULE_SET.true
+
+pub command_holds-returns-then-tag-eq-BREAK : goal.command_holds-returns-then-tag-eq-BREAK
+command_holds-returns-then-tag-eq-BREAK t c = break-at _ _ _ _ _ _ c.if-depth-eq0.false (sym c.has_room.ensures ∙ c.if-not-has_room.false) c.break_holds.ensures c.if-tag-eq-BREAK.true
+
+pub command_holds-returns-then-tag-eq-CALL : goal.command_holds-returns-then-tag-eq-CALL
+command_holds-returns-then-tag-eq-CALL t c = call_at _ _ _ _ _ _ c.if-depth-eq0.false (sym c.has_room.ensures ∙ c.if-not-has_room.false) _ c.number_at.ensures.0 c.call_holds.ensures c.if-tag-eq-CALL.true
+
+pub command_holds-commands_hold-requires : goal.command_holds-commands_hold-requires
+command_holds-commands_hold-requires t c = (omega (arith, c.decreases), tt)
+
+pub command_holds-returns : goal.command_holds-returns
+command_holds-returns t c = parts_at _ _ _ _ _ _ c.if-depth-eq0.false (sym c.has_room.ensures ∙ c.if-not-has_room.false) _ c.inside-within.ensures _ c.of_first.ensures _ c.inner.ensures c.commands_hold.ensures c.if-tag-eq-RULE_SET.false c.if-tag-eq-BREAK.false c.if-tag-eq-CALL.false
+
+pub commands_hold-loop-at-init : goal.commands_hold-loop-at-init
+commands_hold-loop-at-init t c = parting_start _ _ _ _ _
+
+pub commands_hold-returns-in_default : goal.commands_hold-returns-in_default
+commands_hold-returns-in_default t c = parting_cut c.loop-at.invariant c.loop-at-test.true (no_field _ _ _ c.read_field-found.ensures c.in_default.not-Field)
+
+pub commands_hold-part-requires : goal.commands_hold-part-requires
+commands_hold-part-requires t c = part_in (a-field _ _ c.read_field-found.ensures c.in-Field.is)
+
+pub commands_hold-command_holds-requires : goal.commands_hold-command_holds-requires
+commands_hold-command_holds-requires t c = (omega (arith, c.decreases), tt)
+
+pub commands_hold-loop-at-smaller : goal.commands_hold-loop-at-smaller
+commands_hold-loop-at-smaller t c = nearer (a-field _ _ c.read_field-found.ensures c.in-Field.is)
+
+pub commands_hold-loop-at-preserved : goal.commands_hold-loop-at-preserved
+commands_hold-loop-at-preserved t c = parting_next c.loop-at.invariant c.loop-at-test.true (a-field _ _ c.read_field-found.ensures c.in-Field.is) c.part.ensures c.command_holds.ensures c.if-command_holds.true
+
+pub commands_hold-returns-else-command_holds : goal.commands_hold-returns-else-command_holds
+commands_hold-returns-else-command_holds t c = parting_stop c.loop-at.invariant c.loop-at-test.true (a-field _ _ c.read_field-found.ensures c.in-Field.is) c.part.ensures c.command_holds.ensures c.if-command_holds.false
+
+pub commands_hold-returns : goal.commands_hold-returns
+commands_hold-returns t c = parting_done c.loop-at.invariant c.loop-at-test.false

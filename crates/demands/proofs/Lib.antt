@@ -1,0 +1,17 @@
+pub mod Ours
+pub mod Undone
+pub mod First
+pub mod Started
+pub mod Second
+pub mod OneOutcome
+pub mod Larger
+pub mod Third
+pub mod DemandsMet
+pub mod Lending
+pub mod Again
+pub mod Exported
+pub mod Cases
+pub mod Worthless
+pub mod WorthlessUndo
+pub mod Table
+pub mod Laws

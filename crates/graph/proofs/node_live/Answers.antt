@@ -1,0 +1,12 @@
+-- `node_live` meets its contract: a node's first byte is its state.
+use Rattle.std.proofs.Common.{◌∙◌}
+use Rattle.graph.proofs.Slots.{node-there, node-bytes}
+use Rattle.graph.proofs.node_live.Goals as goal
+
+pub slot-requires : goal.slot-requires
+slot-requires c = node-there c.requires.legal _ c.requires.x_in_bounds
+
+pub returns : goal.returns
+returns c =
+    let p = c.requires in
+    c.is_live.ensures ∙ (node-bytes p.legal _ p.x_in_bounds _ c.slot.ensures.0).state

@@ -1,0 +1,12 @@
+-- `node_mark` meets its contract: a node's second byte is its mark.
+use Rattle.std.proofs.Common.{◌∙◌}
+use Rattle.graph.proofs.Slots.{node-there, node-bytes}
+use Rattle.graph.proofs.node_mark.Goals as goal
+
+pub slot-requires : goal.slot-requires
+slot-requires c = node-there c.requires.legal _ c.requires.x_in_bounds
+
+pub returns : goal.returns
+returns c =
+    let p = c.requires in
+    c.mark.ensures ∙ (node-bytes p.legal _ p.x_in_bounds _ c.slot.ensures.0).mark

@@ -1,0 +1,58 @@
+-- `items::inside` meets its contract, row by row.
+use Rattle.std.proofs.Common.{refl, sym, ℕ, arith, lit<}
+use mathlib.Core.Option.{none}
+use Rattle.fields.specs.Image.{one_byte_ok}
+use Rattle.image.proofs.Insides.{failed}
+use Rattle.image.proofs.Rows.{rule_fits, one-fits, graph-fits, tests-fit}
+use Rattle.image.proofs.items.inside.Goals as goal
+
+pub returns-in-Rules : goal.returns-in-Rules
+returns-in-Rules c = rw c.in-Rules.is (record { lower = lit< tt; inside = omega arith; same = rule_fits _ })
+
+pub returns-in-Procedures : goal.returns-in-Procedures
+returns-in-Procedures c = rw c.in-Procedures.is (record { lower = lit< tt; inside = omega arith; same = one-fits _ _ })
+
+pub returns-in-Variables : goal.returns-in-Variables
+returns-in-Variables c = rw c.in-Variables.is c.types_ok.ensures
+
+pub returns-in-Left : goal.returns-in-Left
+returns-in-Left c = rw c.in-Left.is (record { lower = lit< tt; inside = omega arith; same = graph-fits _ })
+
+pub returns-in-Right : goal.returns-in-Right
+returns-in-Right c = rw c.in-Right.is (record { lower = lit< tt; inside = omega arith; same = graph-fits _ })
+
+pub returns-in-Interface : goal.returns-in-Interface
+returns-in-Interface c = rw c.in-Interface.is (sym (one_byte_ok _))
+
+pub returns-in-Conditions : goal.returns-in-Conditions
+returns-in-Conditions c = rw c.in-Conditions.is (record { lower = lit< tt; inside = omega arith; same = tests-fit _ })
+
+pub returns-in-Modes : goal.returns-in-Modes
+returns-in-Modes c = rw c.in-Modes.is c.mode_ok.ensures
+
+pub returns-in-Nodes : goal.returns-in-Nodes
+returns-in-Nodes c = rw c.in-Nodes.is c.node.ensures
+
+pub returns-in-Edges : goal.returns-in-Edges
+returns-in-Edges c = rw c.in-Edges.is c.edge.ensures
+
+pub returns-in-Tests : goal.returns-in-Tests
+returns-in-Tests c = rw c.in-Tests.is c.test.ensures
+
+pub returns-in-Elements : goal.returns-in-Elements
+returns-in-Elements c = rw c.in-Elements.is c.element.ensures
+
+pub returns-in-Operands : goal.returns-in-Operands
+returns-in-Operands c = rw c.in-Operands.is c.operand_ok.ensures
+
+pub returns-in-Sequence : goal.returns-in-Sequence
+returns-in-Sequence c = rw c.in-Sequence.is c.command.ensures
+
+pub returns-in-Guarded : goal.returns-in-Guarded
+returns-in-Guarded c = rw c.in-Guarded.is c.command-in-Guarded.ensures
+
+pub returns-in-One : goal.returns-in-One
+returns-in-One c = rw c.in-One.is c.command-in-One.ensures
+
+pub returns-in-Nothing : goal.returns-in-Nothing
+returns-in-Nothing c = rw c.in-Nothing.is (failed {A = ℕ} none refl)

@@ -1,0 +1,49 @@
+-- `test_holds` meets its contract: the field of the test's number is read as the test.
+use Rattle.std.proofs.Common.{◌≡◌, sym, ◌∙◌, not}
+use Rattle.meaning.specs.Basics.{choose}
+use Rattle.meaning.specs.Layout.{Host, host_of}
+use Rattle.meaning.specs.Matching.{Assignment, test_holds}
+use Rattle.meaning.specs.Assigned.{assigned}
+use Rattle.meaning.specs.Laws.Tests.{choose_true, choose_false}
+use Rattle.parts.proofs.Loops.{nth_in}
+use Rattle.plan.specs.Plan.{test_of}
+use Rattle.testing.specs.Testing.{HasTest}
+use Rattle.testing.proofs.Conditions.{test-none, test-there, of_test, by_flag}
+use Rattle.testing.proofs.test_holds.Goals as goal
+use Rattle.testing.proofs.test_holds.Goals.{After-flag}
+
+abbrev host : (s : After-flag) → Host
+host s = host_of s.args.l s.args.nodes.now s.args.edges.now
+
+abbrev Has : (s : After-flag) → Type 0
+Has s = HasTest (host s) s.args.rule.now s.args.plan.now s.args.at.now s.args.i s.args.c s.args.t
+
+abbrev α : (s : After-flag) → Has s → Assignment
+α s w = assigned (host s) w.trial.rule w.trial.placed
+
+chosen : (c : After-flag) (w : Has c)
+    → choose c.flag.result (not c.condition_holds-holds.result) c.condition_holds-holds.result
+    ≡ test_holds (host c) w.trial.placed (α c w) (test_of w.trial.rule c.args.t)
+chosen c w =
+    let is = test-there w _ (c.tests-tests.ensures w.trial.rule w.trial.planned.laid) c.nth_field-found.ensures c.in-Field.is c.part-p.ensures in
+    by_flag w is (α c w) _ _ c.flag.ensures (c.condition_holds-holds.ensures (of_test w is c.behind-rest.ensures))
+
+pub returns-in_default : goal.returns-in_default
+returns-in_default c = λ w. absurd (test-none w _ (c.tests-tests.ensures w.trial.rule w.trial.planned.laid) c.nth_field-found.ensures c.in_default.not-Field)
+
+pub part-p-requires : goal.part-p-requires
+part-p-requires c = nth_in _ _ c.nth_field-found.ensures c.in-Field.is
+
+pub condition_holds-holds-requires : goal.condition_holds-holds-requires
+condition_holds-holds-requires c =
+    let w = c.requires.has_test in
+    record {
+      legal = c.requires.legal;
+      has_condition = of_test w (test-there w _ (c.tests-tests.ensures w.trial.rule w.trial.planned.laid) c.nth_field-found.ensures c.in-Field.is c.part-p.ensures) c.behind-rest.ensures;
+    }
+
+pub returns-then-flag : goal.returns-then-flag
+returns-then-flag c = λ w. sym (choose_true _ _ _ c.if-flag.true) ∙ chosen (goal.at.returns-then-flag c).After-flag w
+
+pub returns : goal.returns
+returns c = λ w. sym (choose_false _ _ _ c.if-flag.false) ∙ chosen (goal.at.returns c).After-flag w

@@ -1,0 +1,10 @@
+pub mod Reading
+pub mod Parsing
+pub mod Exact
+pub mod Decimals
+pub mod Names
+pub mod Closing
+pub mod Same
+pub mod Theorems
+pub mod Imports
+pub mod Example

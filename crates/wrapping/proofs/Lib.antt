@@ -1,0 +1,11 @@
+pub mod Forgetting
+pub mod Places
+pub mod Rewrapping
+pub mod Writing
+pub mod Replacing
+pub mod Tracing
+pub mod Running
+pub mod Runs
+pub mod WrittenRuns
+pub mod Regrouping
+pub mod Examples
