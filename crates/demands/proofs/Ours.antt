@@ -6,7 +6,7 @@ use Rattle.std.proofs.Math.Option.{Option, some, none}
 use Rattle.meaning.specs.Basics.{choose, first_failing}
 use Rattle.meaning.specs.Procedures.{Program, program}
 use Rattle.meaning.specs.Commands.{Out}
-use Rattle.meaning.specs.Calls.{stop_number, answer_number, refusal_number, refused, refusal_as, finished, run, undo_refusal as undo_refused, undo_on, undo, Lent, LentUndo}
+use Rattle.meaning.specs.Calls.{stop_number, answer_number, refusal_number, refused, refusal_as, finished, undo_refusal as undo_refused, undo_on, undo, Lent, LentUndo}
 use Rattle.demands.specs.Demands.{stop_answer, run_refused_with, undo_refused_with, as_it_came, outcome_at}
 use Rattle.laws.specs.Calls.{accepted, accepts, run-refused, run-started, undo-refused}
 use Rattle.meaning.specs.declared.Layout.{Layout}
@@ -37,7 +37,6 @@ numbered-some none n e = let z : ◌≡◌ {A = ℕ} 0 1 = cc in absurd (omega a
 numbered-some (some w) n e = (w, refl, cc)
 
 module _ (L : Layout) (x : Lent) where
-
   abbrev refusing : Option Refusal
   refusing = Defs.refusing L x
 
@@ -92,7 +91,6 @@ module _ (L : Layout) (x : Lent) where
   ours-refused w e = ap outcome (run-refused L x w e)
 
 module _ (L : Layout) (y : LentUndo) where
-
   abbrev undoing : Option Refusal
   undoing = Defs.undoing L y
 

@@ -7,7 +7,7 @@ use Rattle.meaning.specs.Layout.{node_length, edge_length, record_length, write_
 use Rattle.meaning.specs.Commands.{State, Out, rule_at}
 use Rattle.meaning.specs.Calls.{Lent}
 use Rattle.demands.specs.Demands.{Outcome, Lendable, reporting, start, outcome_at, Means, Entered}
-use Rattle.demands.specs.Ours.{ours, end, Good}
+use Rattle.demands.specs.Ours.{ours, Good}
 use Rattle.demands.proofs.Ours.{ours-outcome, good-starts}
 use Rattle.laws.specs.Records.{length-written}
 use Rattle.laws.specs.Commands.{exec-room}

@@ -11,7 +11,7 @@ use Rattle.meaning.specs.Procedures.{Program}
 use Rattle.meaning.specs.Commands.{State, Out}
 use Rattle.meaning.specs.Calls.{Lent}
 use Rattle.demands.specs.Demands.{Outcome, Interpreter, stop_answer, In, Lendable, run_refused_with, outcome_at, Means, Roomier, SameWithRoom, Entered, Settled, Demand3}
-use Rattle.demands.specs.Ours.{ours, end, Good}
+use Rattle.demands.specs.Ours.{ours, Good}
 use Rattle.demands.proofs.Ours.{good}
 use Rattle.demands.proofs.First.{run_settled}
 use Rattle.demands.specs.Started.{last}

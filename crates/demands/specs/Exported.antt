@@ -3,7 +3,7 @@
 -- at `small` all that those of nhiemavut_small_run and nhiemavut_small_undo say. Each promise admits one outcome and no other; an
 -- exported interpreter meets all three demands, and one that meets demands 1 and 2 is exported. It holds over every layout whose numbers
 -- fit their bytes (`Numbered`). Rests on Met, OneOutcome, Lending and Again.
-use Rattle.meaning.specs.Calls.{Lent, LentUndo, Returned, Yields, run, undo, RunPromise, UndoPromise}
+use Rattle.meaning.specs.Calls.{Lent, LentUndo, Returned, Yields, RunPromise, UndoPromise}
 use Rattle.demands.specs.Demands.{Lendable, LendableUndo, Outcome, Interpreter}
 use Rattle.meaning.specs.declared.Layout.{Layout}
 

@@ -1,7 +1,7 @@
 -- A run of ours with more room, at the same layout or at one whose labels hold more atoms: what ends for no want of room ends so there
 -- too, with as much fuel as it takes steps, and the added room is free; with less it is out of fuel.
 -- Rests on Started, Laws/FurtherCommands and Laws/Shortage.
-use Rattle.std.specs.Prelude.{ℕ, ◌-◌, ◌/◌, ◌≤◌, ◌≡◌, true, length}
+use Rattle.std.specs.Prelude.{ℕ, ◌/◌, ◌≤◌, ◌≡◌, true, length}
 use Rattle.std.proofs.Common.{◌∙◌, ap, arith}
 use Rattle.meaning.specs.Layout.{node_length, edge_length, record_length, fits_table, host_of, keeps_layout}
 use Rattle.meaning.specs.Image.{raw_program}

@@ -8,6 +8,5 @@ use Rattle.laws.specs.Undoing.{Numbered}
 use Rattle.meaning.specs.declared.Layout.{Layout}
 
 module _ (L : Layout) (k : Numbered L) (x : Lent) (b : Lendable x) (a : Good L x) where
-
   abbrev pub last : Out
   last = end L x a.tree

@@ -8,7 +8,7 @@ use Rattle.meaning.specs.Image.{Rule}
 use Rattle.meaning.specs.Procedures.{Command, rule_set, sequence, guarded, loop, skip, fail, break, called, Commands, no_more, then}
 use Rattle.meaning.specs.Applying.{Applied, applied, hindered, apply}
 use Rattle.meaning.specs.Commands.{State, Out, ends, enter_at, enter, Chosen, after_applying, next, decide, again, rounds, rule_call, work, works, exec}
-use Rattle.meaning.specs.Laws.Applying.{apply-hindered}
+use Rattle.meaning.proofs.Laws.Applying.{apply-hindered}
 use Rattle.laws.specs.Commands.{entered, Kept, call-either, work-kept, works-kept, exec_kept}
 use Rattle.meaning.specs.declared.Stop.{Stop}
 use Rattle.meaning.specs.declared.Stop.TheVariants.{OutOfFuel, NoNodeRoom, NoEdgeRoom, NoRecordRoom, LabelTooLarge}

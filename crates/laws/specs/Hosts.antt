@@ -15,7 +15,8 @@ use Rattle.meaning.specs.Layout.{Slot, free, live, Node, Edge, Host, live_at, is
 use Rattle.meaning.specs.declared.Layout.{Layout}
 use Rattle.meaning.specs.Laws.Tests.{both_of, either_true, zeros_of}
 use Rattle.meaning.specs.Laws.Slots.{OnLive}
-use Rattle.meaning.specs.Laws.Attached.{Attached, layout_attached}
+use Rattle.meaning.specs.Laws.Attached.{Attached}
+use Rattle.meaning.proofs.Laws.Attached.{layout_attached}
 use Rattle.laws.specs.Numbers.{Bytes, Bytes-drop, length-bytes, number-bytes, number-take_lt}
 use Rattle.laws.specs.Pieces.{get_or-map_in, length-pieces, Bytes-pieces, take-first, take_second, drop-both, length-read, length_write, cut_write, read_write, every_write}
 use Rattle.laws.specs.Layout.{length-padded, zeros-padded, get_or-zeros, Words, length-atoms, Words-atoms, length-atom_bytes, atoms-atom_bytes, read_node_free, read_node_live, keeps_node-free, keeps_node-live, keeps_node-of, edge_of, read_edge-free, read_edge-live, keeps_edge-free, keeps_edge-live, keeps_edge-of, kept-node, kept-edge}

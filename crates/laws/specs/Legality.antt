@@ -15,13 +15,15 @@ use Rattle.meaning.specs.Laws.Every.{Every, Every-then}
 use Rattle.laws.specs.Hosts.{LegalNode, LegalEdge, LegalHost}
 use Rattle.laws.specs.Records.{LegalChange, Within, Every-append}
 use Rattle.laws.specs.FirstMatch.{node-inside, edge-inside}
-use Rattle.meaning.specs.Laws.Slots.{lowest_free_lt, come-free, OnLive, live_at_lt, OnLive-set}
+use Rattle.meaning.specs.Laws.Slots.{lowest_free_lt, OnLive, live_at_lt, OnLive-set}
+use Rattle.meaning.proofs.Laws.Slots.{come-free}
 use Rattle.meaning.specs.Laws.Applying.{right_side-some, apply-applied}
 use Rattle.laws.specs.Restoring.{from-nodes, changed-from}
 use Rattle.meaning.specs.Laws.Room.{after_left, after_new, changed-is, after_left-nodes, after_left-edges, add_nodes-edges}
 use Rattle.meaning.specs.Laws.Interface.{interface-left, interface-right}
 use Rattle.laws.specs.Values.{LegalRule, LegalValue, LegalRight, right_side-legal}
-use Rattle.meaning.specs.Laws.Attached.{nodes_after, right_slots, between_attached, all_attached}
+use Rattle.meaning.specs.Laws.Attached.{nodes_after, right_slots}
+use Rattle.meaning.proofs.Laws.Attached.{between_attached, all_attached}
 use Rattle.meaning.specs.declared.Layout.{Layout}
 
 -- Statements of each element of a list.

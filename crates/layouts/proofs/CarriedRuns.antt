@@ -22,7 +22,6 @@ use Rattle.layouts.proofs.Carried.{carry-taken, result-taken, as_many, lengths-s
 use Rattle.layouts.specs.LargerRuns.{SameRun, RunsAs}
 use Rattle.layouts.proofs.LargerRuns.{run_larger, out_larger}
 use Rattle.layouts.specs.CarriedRuns.{CarriedLent, CarriedRun}
-use Rattle.layouts.specs.CarriedRuns as Defs
 
 -- tables that grow have further free slots
 grown : (L M : Layout) (nodes edges to_nodes to_edges : List ℕ) → node_slots L nodes ≤ node_slots M to_nodes
@@ -78,7 +77,7 @@ module _ (k : Manner) (L M : Layout) (numbered_there : Numbered M) (x : Lent) (b
         lendable = c.lendable;
         nodes_more = nodes_more;
         edges_more = edges_more;
-        Defs.host =
+        host =
             kept.host ∙ sym (host_in_lem k L M lent its)
             ∙ (λ i. resized_host (n i / node_length M) (m i / edge_length M) (host_of L x.nodes x.edges))
             ∙ grown L M x.nodes x.edges y.nodes y.edges nodes-many edges-many;
@@ -93,9 +92,8 @@ module _ (k : Manner) (L M : Layout) (numbered_there : Numbered M) (x : Lent) (b
       }
 
   module _ (labels : L.atoms ≤ M.atoms) (o q : Outcome) (same : SameRun L M x y carried_larger o q) where
-
     abbrev host : Host
-    host = Defs.host k L M numbered_there x b y c labels o q same
+    host = host_of L o.nodes o.edges
 
     same-host : host_of M q.nodes q.edges ≡ roomier nodes_more edges_more host
     unfolding carried_larger

@@ -32,7 +32,6 @@ use Rattle.meaning.specs.declared.Stop.TheVariants.{OutOfFuel, NoNodeRoom, NoEdg
 use Rattle.meaning.specs.declared.End.{End}
 use Rattle.meaning.specs.declared.End.TheVariants.{Done, Failed, Broke, Stopped}
 use Rattle.layouts.specs.LargerRuns.{Left, SameRun, RunsAs}
-use Rattle.layouts.specs.LargerRuns as Defs
 
 -- the host that is read where a legal one is written
 written-host : (L : Layout) (h : Host) → LegalHost L h → host_of L (write_nodes L h.nodes) (write_edges L h.edges) ≡ h
@@ -159,24 +158,23 @@ module _ (L M : Layout) (kl : Numbered L) (labels : L.atoms ≤ M.atoms) (x : Le
     out-there : ((ours M).run y).answer ≡ 2
     out-there =
         let there = starts-there L M x y more a in
-        ap (λ (Defs.o : Outcome). Defs.o.answer) (ours-outcome M y p (good-starts M y there) there.form)
+        ap (λ (o : Outcome). o.answer) (ours-outcome M y p (good-starts M y there) there.form)
         ∙ ap (λ (e : End). (outcome_at M y e (end M y p).state).answer) end-there
 
   ours-out : ((ours L).run x).answer ≡ 2 → y.fuel ≡ x.fuel → ((ours M).run y).answer ≡ 2
   ours-out h =
       let a = good L x (run_settled L x (omega arith)) in
-      out-there a (end-out L x _ _ (sym (ap (λ (Defs.o : Outcome). Defs.o.answer) (last-left L kl x b a)) ∙ h))
+      out-there a (end-out L x _ _ (sym (ap (λ (o : Outcome). o.answer) (last-left L kl x b a)) ∙ h))
 
 -- A result or a fail.
 
 module _ (L M : Layout) (kl : Numbered L) (km : Numbered M) (labels : L.atoms ≤ M.atoms) (x : Lent) (b : Lendable x) where
   module _ (h : ((ours L).run x).answer ≤ 1) where
-
     abbrev started : Good L x
-    started = Defs.started L M kl km labels x b h
+    started = good L x (run_settled L x (omega arith))
 
     abbrev o : Out
-    o = Defs.o L M kl km labels x b h
+    o = last L kl x b started
 
     ended : Settling L M o.end
     ended = settling L M x o.end o.state (subst (λ (q : Outcome). q.answer ≤ 1) (last-left L kl x b started) h)
@@ -221,19 +219,19 @@ module _ (L M : Layout) (kl : Numbered L) (km : Numbered M) (labels : L.atoms �
 
     pub run_larger : (I.run x).answer ≤ 1 → RunsAs L I J x (Larger L M x) (λ y more. SameRun L M x y more (I.run x) (J.run y))
     run_larger h =
-        let n = ours_larger (subst (λ (Defs.o : Outcome). Defs.o.answer ≤ 1) is_ours h) in
+        let n = ours_larger (subst (λ (o : Outcome). o.answer ≤ 1) is_ours h) in
         record {
           s = n.s;
           records = n.records;
-          report = ap (λ (Defs.o : Outcome). Defs.o.report) is_ours ∙ n.report;
+          report = ap (λ (o : Outcome). o.report) is_ours ∙ n.report;
           entered = n.entered;
           within = n.within;
           enough = λ y more l. rw (is_ours, there-ours y more) (n.enough y more l);
-          short = λ y more l. ap (λ (Defs.o : Outcome). Defs.o.answer) (there-ours y more) ∙ n.short y more l;
+          short = λ y more l. ap (λ (o : Outcome). o.answer) (there-ours y more) ∙ n.short y more l;
         }
 
     -- what is out of fuel is so with the same fuel there
     pub out_larger : (I.run x).answer ≡ 2 → (y : Lent) → Larger L M x y → y.fuel ≡ x.fuel → (J.run y).answer ≡ 2
     out_larger h y more e =
-        ap (λ (Defs.o : Outcome). Defs.o.answer) (there-ours y more)
-        ∙ ours-out L M kl labels x b y more (sym (ap (λ (Defs.o : Outcome). Defs.o.answer) is_ours) ∙ h) e
+        ap (λ (o : Outcome). o.answer) (there-ours y more)
+        ∙ ours-out L M kl labels x b y more (sym (ap (λ (o : Outcome). o.answer) is_ours) ∙ h) e

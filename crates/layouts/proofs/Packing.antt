@@ -12,7 +12,8 @@ use Rattle.meaning.specs.Layout.{free, live, is_live, Edge, base, small, edge_le
 use Rattle.meaning.specs.Calls.{Lent, answer_number, refusal_number}
 use Rattle.meaning.specs.Carrying.{LentTables, lending_tables, Carried, unfit, pack, unpack}
 use Rattle.meaning.specs.Laws.Slots.{OnLive, live_at_lt}
-use Rattle.meaning.specs.Laws.Attached.{Attached, layout_attached}
+use Rattle.meaning.specs.Laws.Attached.{Attached}
+use Rattle.meaning.proofs.Laws.Attached.{layout_attached}
 use Rattle.laws.specs.Numbers.{Bytes}
 use Rattle.laws.specs.Pieces.{get_or-map_in, get_or-pieces, length-read}
 use Rattle.laws.specs.Layout.{edge_of, read_edge-free, read_edge-live}

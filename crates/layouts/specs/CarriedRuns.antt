@@ -3,16 +3,14 @@
 -- Rests on ResizedHosts, Carried and LargerRuns.
 use Rattle.std.specs.Prelude.{ℕ, ◌≤◌, ◌≡◌, true, List, map, length}
 use Rattle.meaning.specs.Basics.{concat, padded}
-use Rattle.meaning.specs.Layout.{Slot, Node, Edge, Host, Change, record_length, fits_table, host_of, write_record}
+use Rattle.meaning.specs.Layout.{Slot, Node, Edge, Change, record_length, fits_table, host_of, write_record}
 use Rattle.meaning.specs.Calls.{Lent, most_fuel, journal_room}
 use Rattle.meaning.specs.Carrying.{lending_tables, carry}
-use Rattle.laws.specs.Undoing.{Numbered}
 use Rattle.demands.specs.Demands.{Lendable, Outcome}
 use Rattle.demands.specs.Laws.Alike.{Alike}
 use Rattle.meaning.specs.declared.Layout.{Layout}
 use Rattle.meaning.specs.declared.Manner.{Manner}
 use Rattle.layouts.specs.Carried.{node_slots, edge_slots, arriving, AsManySlots, host_in}
-use Rattle.layouts.specs.LargerRuns.{SameRun}
 
 -- y is x with its tables carried from L to M, as many slots or more, and room for as many records or more; the program is the same, and the
 -- fuel any
@@ -42,9 +40,3 @@ pub record CarriedRun (k : Manner) (L M : Layout) (x y : Lent) (o q : Outcome) :
   pub changes : List (Change (Slot Node) (Slot Edge))
   pub recorded : o.journal ≡ padded (length x.journal) (concat (map (write_record L) changes))
   pub recorded_there : q.journal ≡ padded (length y.journal) (concat (map (write_record M) changes))
-
-module _ (k : Manner) (L M : Layout) (numbered_there : Numbered M) (x : Lent) (b : Lendable x) (y : Lent) (c : CarriedLent k L M x y) where
-
-  module _ (labels : L.atoms ≤ M.atoms) (o q : Outcome) (same : SameRun L M x y carried_larger o q) where
-    abbrev pub host : Host
-    host = host_of L o.nodes o.edges

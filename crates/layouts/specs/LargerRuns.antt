@@ -2,18 +2,11 @@
 -- where the tables hold the same graph, with room for as many atoms, slots and records or more. Answer, steps, live slots and records
 -- are the same; and what is out of fuel at the one is so at the other with the same fuel. Rests on demands' Larger and OneOutcome.
 use Rattle.std.specs.Prelude.{ℕ, ◌<◌, ◌≤◌, ◌≡◌, true, List, map, length}
-use Rattle.std.proofs.Common.{arith}
 use Rattle.meaning.specs.Basics.{concat, padded}
 use Rattle.meaning.specs.Layout.{Slot, Node, Edge, Change, read_nodes, read_edges, host_of, write_nodes, write_edges, write_record, keeps_layout}
-use Rattle.meaning.specs.Commands.{Out}
 use Rattle.meaning.specs.Calls.{Lent}
 use Rattle.laws.specs.Hosts.{LegalHost}
-use Rattle.laws.specs.Undoing.{Numbered}
-use Rattle.demands.specs.Demands.{Lendable, Outcome, Interpreter, reporting, Entered}
-use Rattle.demands.specs.Ours.{ours, Good}
-use Rattle.demands.proofs.Ours.{good}
-use Rattle.demands.proofs.First.{run_settled}
-use Rattle.demands.specs.Started.{last}
+use Rattle.demands.specs.Demands.{Outcome, Interpreter, reporting, Entered}
 use Rattle.demands.specs.Larger.{Larger}
 use Rattle.demands.specs.Laws.Further.{roomier}
 use Rattle.meaning.specs.declared.Layout.{Layout}
@@ -51,13 +44,3 @@ pub record RunsAs (L : Layout) (I J : Interpreter) (x : Lent) (Given : Lent → 
   pub within : s ≤ x.fuel
   pub enough : (y : Lent) (given : Given y) → s ≤ y.fuel → Same y given
   pub short : (y : Lent) → Given y → y.fuel < s → (J.run y).answer ≡ 2
-
--- A result or a fail.
-
-module _ (L M : Layout) (kl : Numbered L) (km : Numbered M) (labels : L.atoms ≤ M.atoms) (x : Lent) (b : Lendable x) where
-  module _ (h : ((ours L).run x).answer ≤ 1) where
-    abbrev pub started : Good L x
-    started = good L x (run_settled L x (omega arith))
-
-    abbrev pub o : Out
-    o = last L kl x b started

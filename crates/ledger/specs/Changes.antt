@@ -6,7 +6,7 @@ use Rattle.std.proofs.lemmas.List.{map-append}
 use Rattle.meaning.specs.Layout.{Slot, Node, Edge, free, live, Change, of_node, of_edge, node_length, edge_length, record_length, read_nodes, read_edges}
 use Rattle.meaning.specs.Applying.{Ledger, store, stores, lowest_free, free_slots, nodes_change, Added, add_nodes, between, add_edges}
 use Rattle.meaning.specs.Laws.Applying.{stores_append}
-use Rattle.meaning.specs.Laws.Room.{add_nodes-free, add_edges-free}
+use Rattle.meaning.proofs.Laws.Room.{add_nodes-free, add_edges-free}
 use Rattle.meaning.specs.declared.Layout.{Layout}
 use Rattle.ledger.specs.Running.{ledger_of, Held, Leads}
 

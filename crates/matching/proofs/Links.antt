@@ -20,8 +20,8 @@ use Rattle.agreeing.specs.Placed.{slots}
 use Rattle.agreeing.specs.Trials.{next-new, next-old}
 use Rattle.matching.specs.Next.{Meets}
 
-pub clash : (a b : Bool) → not a ≡ true → a ≡ b → b ≡ true → ⊥
-clash a b f e t = let z : ◌≡◌ {A = Bool} true false = sym t ∙ sym e ∙ not-true a f in let z : ◌≡◌ {A = ℕ} 0 1 = cc in omega arith
+pub clash : (a b : Bool) → a ≡ false → a ≡ b → b ≡ true → ⊥
+clash a b f e t = let z : ◌≡◌ {A = Bool} true false = sym t ∙ sym e ∙ f in let z : ◌≡◌ {A = ℕ} 0 1 = cc in omega arith
 
 -- the slots so far, with one more
 module _ (at : List ℕ) (i y j : ℕ) (room : i < length at) where

@@ -2,7 +2,7 @@
 -- Rests on Basics, Numbers, Layout, Image, References, Placement, Procedures and Commands, and on the code's Layout, Stop, Refusal, Answer and
 -- End. At document 01's layout (`base`) a node has 36 bytes, an edge 40, a record 44; tables have at most 512, 1,024 and 1,024. At the
 -- small core's (`small`) they have 8, 10 and 12; tables have at most 128, 255 and 255.
-use Rattle.std.specs.Prelude.{◌≡◌, Bool, false, List, [], ◌∷◌, ◌++◌, map, reverse, ℕ, ◌+◌, ◌*◌, ◌/◌, length, drop, replicate, eqb, leb}
+use Rattle.std.specs.Prelude.{◌≡◌, Bool, false, List, [], ◌∷◌, ◌++◌, map, reverse, ℕ, ◌*◌, ◌/◌, length, drop, replicate, eqb, leb}
 use Rattle.std.proofs.Math.Option.{Option, some, none}
 use Rattle.meaning.specs.Basics.{choose, both, every, concat, padded, is_some, first_failing, ◌>>=◌}
 use Rattle.meaning.specs.Numbers.{number, bytes}

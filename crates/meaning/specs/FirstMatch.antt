@@ -2,7 +2,7 @@
 -- rule, and a node also where a left edge to an earlier node or to itself has no host edge, or where it must go and has edges
 -- that must dangle. Rests on Basics, Tags, Layout, Image, References, Matching, Assigned and Search, and on the code's Element
 -- and Test.
-use Rattle.std.specs.Prelude.{Bool, true, false, not, List, [], ◌∷◌, ◌++◌, map, ℕ, zero, suc, ◌+◌, ◌-◌, max, length, drop, eqb, leb, ltb}
+use Rattle.std.specs.Prelude.{Bool, true, false, not, List, [], ◌∷◌, ◌++◌, map, ℕ, zero, suc, ◌-◌, max, length, drop, eqb, leb, ltb}
 use Rattle.std.proofs.Math.Option.{Option}
 use Rattle.meaning.specs.Basics.{choose, both, either, clauses, all, exists, count, every, absent, same, concat}
 use Rattle.meaning.specs.Layout.{Host, live_at}

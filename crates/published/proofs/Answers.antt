@@ -20,9 +20,9 @@ use Rattle.published.proofs.Isomorphism.{iso-same, iso-back, applied-iso}
 use Rattle.published.proofs.Application.{host-graph, first-applies, no_call}
 use Rattle.published.proofs.HostResult.{applies-host}
 use Rattle.published.specs.Semantics.{ComSeq, Outcome, graph, fails, ⟦◌⟧}
-use Rattle.published.specs.Results
+use Rattle.published.proofs.Results
 use Rattle.published.specs.Results.{held}
-use Rattle.published.specs.Alike as Likeness
+use Rattle.published.proofs.Alike as Likeness
 use Rattle.published.specs.Alike.{Calls, Same}
 use Rattle.published.specs.Answers.{Alike}
 use Rattle.published.specs.Answers as Defs

@@ -1,11 +1,8 @@
 -- The theorem about applying rules: what the interpreter does to a host is, on the host's graph, the published rule application,
 -- and where it finds no match there is no published application. Ours may have a match and no result, where a sum leaves 32 bits
 -- or there is no room; the published application has one there. Rests on Application/Construction and OneResult.
-use Rattle.published.specs.Application as Defs
-
 pub mod Conditions
 pub mod Matching
-pub mod Tables
 pub mod Values
 pub mod Construction
 use Rattle.std.specs.Prelude.{ℕ, ◌+◌, ◌<◌, ◌≤◌, ◌≡◌, ◌↔◌, true, List, length, get_or}
@@ -34,8 +31,9 @@ use Rattle.meaning.specs.declared.End.TheVariants.{Done, Failed}
 use Rattle.published.specs.Graphs.{Graph, HostGraph, graph_of, Iso}
 use Rattle.published.specs.RuleApplication.{Matches, Applies, Applied}
 use Rattle.published.proofs.OneResult.{one-result}
-use Matching.{placement, match-of, match-applies, no-match, constructed-back}
-use Construction.{application_constructs}
+use Rattle.published.proofs.Application.Matching.{placement, match-of, match-applies, no-match, constructed-back}
+use Rattle.published.proofs.Application.Construction.{application_constructs}
+use Rattle.published.specs.Application as Defs
 
 -- A legal host's graph is a host graph.
 

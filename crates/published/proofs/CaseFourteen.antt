@@ -29,11 +29,10 @@ use Rattle.published.proofs.Existence.{set-applied}
 use Rattle.published.specs.Answers.{Comes}
 use Rattle.published.proofs.OneCall.{answers-other, stop-no-fail, of-call}
 use Rattle.published.specs.CaseFourteen.{case14, rule, tree, graph14, Labelled}
-use Rattle.published.specs.CaseFourteen as Defs
 
-form14 : (Defs.L : Layout) → program (case14 Defs.L).image ≡ some tree
+form14 : (L : Layout) → program (case14 L).image ≡ some tree
 unfolding computing
-form14 Defs.L = refl
+form14 L = refl
 
 holds14 : rule_holds rule ≡ true
 unfolding computing
@@ -80,9 +79,8 @@ sum_is = rw (named-word 2147483647 (omega arith), named-word 1 (omega arith)) re
 -- By the published semantics.
 
 module _ (c : Core) where
-
   abbrev L : Layout
-  L = Defs.L c
+  L = layout_of c
 
   abbrev G : Graph
   G = graph14 c

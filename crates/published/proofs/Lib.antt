@@ -1,4 +1,5 @@
 pub mod Integers
+pub mod Constants
 pub mod Isomorphism
 pub mod OneResult
 pub mod SameMatch
@@ -17,3 +18,5 @@ pub mod Conformance
 pub mod Steady
 pub mod Diamond
 pub mod OnlyOutcome
+pub mod Families
+pub mod Instances

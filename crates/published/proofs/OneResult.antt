@@ -97,14 +97,14 @@ value_of f zero v = inr (λ i h. absurd (omega arith))
 value_of f (suc n) v = at (ℕ_discrete (f n) v) (value_of f n v)
   where
     none : (f n ≡ v → ⊥) → ((i : ℕ) → i < n → f i ≡ v → ⊥) → (i : ℕ) → Dec (i ≡ n) → i < suc n → f i ≡ v → ⊥
-    none d Defs.g i (yes q) h e = d (ap f (sym q) ∙ e)
-    none d Defs.g i (no q) h e = Defs.g i (omega arith) e
+    none d g i (yes q) h e = d (ap f (sym q) ∙ e)
+    none d g i (no q) h e = g i (omega arith) e
 
     at : Dec (f n ≡ v) → ((i : ℕ) × (i < n) × (f i ≡ v)) ⊎ ((i : ℕ) → i < n → f i ≡ v → ⊥)
         → ((i : ℕ) × (i < suc n) × (f i ≡ v)) ⊎ ((i : ℕ) → i < suc n → f i ≡ v → ⊥)
     at (yes d) s = inl (n, omega arith, d)
     at (no d) (inl t) = inl (t.0, omega (arith, t.1), t.2)
-    at (no d) (inr Defs.g) = inr (λ i. none d Defs.g i (ℕ_discrete i n))
+    at (no d) (inr g) = inr (λ i. none d g i (ℕ_discrete i n))
 
 module _ (r : Rule) (holds : rule_holds r ≡ true) (G : Graph) (host : HostGraph G) (m : Matches r G) where
 

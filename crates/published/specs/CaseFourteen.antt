@@ -54,9 +54,3 @@ graph14 c = graph_of (host (layout_of c) (case14 (layout_of c)))
 -- H has a node whose label is the integer z
 abbrev pub Labelled : Graph → ℤ → Type 0
 Labelled H z = (v : ℕ) × Node H v × ((H.node_label v).list ≡ atom z ∷ [])
-
--- By the published semantics.
-
-module _ (c : Core) where
-  abbrev pub L : Layout
-  L = layout_of c

@@ -9,7 +9,6 @@ use Rattle.published.specs.Graphs.{Graph, HostGraph, Iso}
 use Rattle.published.specs.RuleApplication.{Applied}
 use Rattle.published.specs.Semantics.{ComSeq, fail, Outcome, graph, fails, ⟦◌⟧}
 use Rattle.published.specs.Answers.{Alike}
-use Rattle.published.proofs.Answers.{carry}
 use Rattle.published.specs.Alike.{Same}
 
 -- the same outcome up to isomorphism

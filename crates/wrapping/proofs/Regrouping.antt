@@ -18,7 +18,6 @@ module _ (L : Layout) (numbered : Numbered L) (I : Interpreter) (first : Demand1
     (rules : p.rules ≡ q.rules) (x y : Lent) (a : Starts L x p) (b : Starts L y q) (tables : SameTables x y) (fuelled : Fuelled I x)
     (fuelled' : Fuelled I y)
   where
-
     abbrev Agreed : Type 0
     Agreed = Defs.Agreed L numbered I first second p q rules x y a b tables fuelled fuelled'
 

@@ -101,7 +101,6 @@ module _ (L : Layout) (numbered : Numbered L) (I : Interpreter) (first : Demand1
   -- A run.
 
   module _ (x : Lent) (p : Program) (a : Starts L x p) where
-
     abbrev last : NotedOut
     last = Defs.last L numbered I first second x p a
 

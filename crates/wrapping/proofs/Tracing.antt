@@ -18,7 +18,6 @@ use Rattle.wrapping.specs.Tracing.{Enough}
 use Rattle.wrapping.specs.Tracing as Defs
 
 module _ (silent : Command → Bool) (most room : ℕ) (rules : List Rule) where
-
   abbrev Trace : (t : Task) (s : Noted) (o : NotedOut) → Type 0
   Trace = Defs.Trace silent most room rules
 

@@ -1,7 +1,7 @@
 -- Computed cases, from bytes to bytes; one in which all that the theorems on wrapping ask is met, and one in which all is met that those
 -- on calls written out ask. M marks a plain node red. Rests on Runs, Regrouping, RawWritten and WrittenRuns, on the demands' Met and
 -- Cases, and on the meaning's ProvedSet and Computing.
-use Rattle.std.specs.Prelude.{List, [], ◌∷◌, ◌++◌, ℕ, ◌+◌, ◌*◌, replicate}
+use Rattle.std.specs.Prelude.{List, [], ◌∷◌, ◌++◌, ℕ, ◌*◌, replicate}
 use Rattle.std.proofs.Math.Option.{Option, some, none}
 use Rattle.meaning.specs.Layout.{base, record_length}
 use Rattle.meaning.specs.Tags.{procedure_tag, sequence_tag, loop_tag, call_tag, guarded_tag}

@@ -8,7 +8,6 @@ use Rattle.meaning.specs.Applying.{Ledger}
 use Rattle.meaning.specs.Calls.{Lent, journal_room}
 use Rattle.laws.specs.Undoing.{Numbered}
 use Rattle.demands.specs.Demands.{Interpreter, start, Demand1, Demand2}
-use Rattle.demands.specs.Ours.{end}
 use Rattle.wrapping.specs.Entering.{passing, NotedOut}
 use Rattle.wrapping.specs.Agreement.{Starts, Fuelled, noting, steps_in}
 use Rattle.wrapping.specs.Coming.{whole, enters, Comes}
@@ -29,7 +28,6 @@ module _ (L : Layout) (numbered : Numbered L) (I : Interpreter) (first : Demand1
     last = noting L x p
 
     module _ (fuelled : Fuelled I x) where
-
       -- the run comes to its end, and its steps are the commands counted and the silent ones
       pub record Traced (silent : Command → Bool) : Type 0 where
         pub counts : ℕ

@@ -1,7 +1,7 @@
 -- From the meaning to what commands come to: a command that did not run out of fuel comes to its end; each step is a command noted; and
 -- the steps are the commands entered that are counted and the silent ones. Rests on Entering, Coming and laws' Fuel.
 use Rattle.std.specs.Prelude.{◌≡◌, Bool, List, length}
-use Prim.Native.Nat.{ℕ, zero, suc, ◌+◌}
+use Prim.Native.Nat.{ℕ, ◌+◌}
 use Rattle.meaning.specs.Image.{Rule}
 use Rattle.meaning.specs.Procedures.{Command}
 use Rattle.laws.specs.Fuel.{AtOut}

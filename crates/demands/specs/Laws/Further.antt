@@ -17,7 +17,8 @@ use Rattle.meaning.specs.Applying.{Right, right_side, Ledger, standing, store, s
 use Rattle.meaning.specs.Laws.Every.{Every, Every-then}
 use Rattle.laws.specs.Records.{Every-append}
 use Rattle.laws.specs.Resized.{free-behind}
-use Rattle.meaning.specs.Laws.Slots.{lowest_free_lt, free_slots_append, come-free, put-nodes, put-edges, live_at_lt}
+use Rattle.meaning.specs.Laws.Slots.{lowest_free_lt, free_slots_append, put-nodes, put-edges, live_at_lt}
+use Rattle.meaning.proofs.Laws.Slots.{come-free}
 use Rattle.demands.specs.Laws.Hindrance.{labels-first, nodes-second, edges_third, records-last, unhindered-of}
 use Rattle.meaning.specs.Laws.Applying.{store-host, right_side-some}
 use Rattle.meaning.specs.Laws.Room.{Placed, match-nodes, match-edges, after_left, after_new, after_left-nodes, after_left-edges, add_nodes-edges}

@@ -1,5 +1,5 @@
 -- What is written of legal slots and records holds bytes. Rests on the meaning's Layout and laws' Layout, Hosts and Records.
-use Rattle.std.specs.Prelude.{ℕ, zero, suc, ◌-◌, ◌<◌, ◌≤◌, ◌≡◌, length, get_or, replicate}
+use Rattle.std.specs.Prelude.{ℕ, zero, suc, ◌-◌, ◌<◌, length, get_or, replicate}
 use mathlib.Core.List.{List, [], ◌∷◌, ◌++◌, map}
 use native.Mathlib.Omega.{arith}
 use Rattle.meaning.specs.Basics.{concat, padded}

@@ -1,4 +1,4 @@
-use Rattle.std.proofs.Common.{◌-◌, arith}
+use Rattle.std.proofs.Common.{arith}
 use Rattle.exporting.proofs.Rows.{same-room}
 use Rattle.exporting.proofs.Bytes.{put-none, put-more, put-out, put_all}
 use Rattle.exporting.proofs.put.Goals as goal

@@ -1,4 +1,4 @@
-use Rattle.std.proofs.Common.{sym, ◌∙◌, ◌+◌, ◌-◌, ◌*◌, arith, drop}
+use Rattle.std.proofs.Common.{sym, ◌∙◌, ◌+◌, ◌*◌, arith, drop}
 use Rattle.meaning.specs.Layout.{most_atoms}
 use Rattle.slots.specs.Laid.{laid}
 use Rattle.writing.specs.Words.{letters}

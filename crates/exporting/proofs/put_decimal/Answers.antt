@@ -9,10 +9,10 @@ pub put_decimal-k-requires : goal.put_decimal-k-requires
 put_decimal-k-requires c = omega (arith, digits-short c.args.n (omega arith))
 
 pub slice_bounds-text-end : goal.slice_bounds-text-end
-slice_bounds-text-end c = digits-within c.put_decimal-k.ensures (omega (arith, digits-short c.args.n (omega arith), c.text-2-1.given))
+slice_bounds-text-end c = digits-within c.put_decimal-k.ensures (omega (arith, digits-short c.args.n (omega arith)))
 
 pub slice_bounds-put-end : goal.slice_bounds-put-end
-slice_bounds-put-end c = digits-count c.put_decimal-k.ensures (omega (arith, digits-short c.args.n (omega arith), c.text-2-1.given))
+slice_bounds-put-end c = digits-count c.put_decimal-k.ensures (omega (arith, digits-short c.args.n (omega arith)))
 
 pub put-requires : goal.put-requires
 put-requires c = rw (digits-front c.put_decimal-k.ensures) (omega (arith, digits-short c.args.n (omega arith)))

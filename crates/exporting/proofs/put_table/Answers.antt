@@ -1,4 +1,4 @@
-use Rattle.std.proofs.Common.{◌≡◌, ap, ℕ, ◌+◌, ◌-◌, ◌*◌, arith}
+use Rattle.std.proofs.Common.{◌≡◌, ap, ℕ, ◌+◌, ◌*◌, arith}
 use Rattle.exporting.proofs.Rows.{same-room}
 use Rattle.exporting.proofs.Walks.{coming-start, coming-more, coming-end}
 use Rattle.exporting.specs.Putting.{item_size, item_text, items_from}

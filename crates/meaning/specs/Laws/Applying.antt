@@ -12,7 +12,7 @@ use Rattle.meaning.specs.Layout.{Slot, live, Node, Edge, Host, Change, of_node, 
 use Rattle.meaning.specs.Image.{RuleNode, Rule}
 use Rattle.meaning.specs.Matching.{left_nodes, left_edges, Assignment}
 use Rattle.meaning.specs.Assigned.{assigned}
-use Rattle.meaning.specs.Applying.{right_node, right_nodes, Right, right_side, Ledger, store, stores, lowest_free, free_slots, nodes_change, add_nodes, between, add_edges, changed, new_nodes, gone_nodes, records_of, hindrance, applied, hindered, unhindered, apply}
+use Rattle.meaning.specs.Applying.{right_node, right_nodes, Right, right_side, Ledger, store, stores, lowest_free, free_slots, nodes_change, add_nodes, between, add_edges, changed, new_nodes, gone_nodes, records_of, hindrance, applied, unhindered, apply}
 use Rattle.meaning.specs.Laws.Tests.{some_inj, bind_some, each-some}
 use Rattle.meaning.specs.Laws.Checks.{first_failing-none}
 use Rattle.meaning.specs.declared.Stop.{Stop}
@@ -177,17 +177,6 @@ checks_some true true false d w e q = let z : ◌≡◌ {A = ℕ} 0 1 = cc in om
 checks_some true true true false w e q = let z : ◌≡◌ {A = ℕ} 0 1 = cc in omega arith
 checks_some true true true true w e q = let z : ◌≡◌ {A = ℕ} 0 1 = cc in omega arith
 
-hindrance-some : (most room : ℕ) (r : Rule) (p : List ℕ) (g : Ledger) (w : Stop) → hindrance most room r p g ≡ some w → w ≡ OutOfFuel → ⊥
+pub hindrance-some : (most room : ℕ) (r : Rule) (p : List ℕ) (g : Ledger) (w : Stop) → hindrance most room r p g ≡ some w → w ≡ OutOfFuel → ⊥
 unfolding hindrance
 hindrance-some most room r p g w e = checks_some _ _ _ _ w e
-
-pub apply-hindered : (most room : ℕ) (r : Rule) (p : List ℕ) (g : Ledger) (w : Stop)
-    → apply most room r p g ≡ hindered w
-    → w ≡ OutOfFuel → ⊥
-unfolding apply unhindered
-apply-hindered most room r p g w e q = at (hindrance most room r p g) (right_side most g.host r p) refl e
-  where
-    at : (v : Option Stop) (o : Option Right) → hindrance most room r p g ≡ v → unhindered v o r p g ≡ hindered w → ⊥
-    at (some v) o h e = hindrance-some most room r p g v h (cc)
-    at none none h e = let z : ◌≡◌ {A = ℕ} 0 1 = cc in omega arith
-    at none (some right) h e = let z : ◌≡◌ {A = ℕ} 0 1 = cc in omega arith

@@ -81,12 +81,6 @@ free_slots-come (live b ∷ l) zero a h e = let z : ◌≡◌ {A = ℕ} 0 1 = cc
 free_slots-come (free ∷ l) (suc i) a h e = ap suc (free_slots-come l i a (omega arith) e)
 free_slots-come (live b ∷ l) (suc i) a h e = free_slots-come l i a (omega arith) e
 
--- one slot fewer is free once the lowest is taken
-pub come-free : {A : Type 0} (t : List (Slot A)) (a : A) → 0 < free_slots t
-    → suc (free_slots (set t (lowest_free t) (live a))) ≡ free_slots t
-unfolding is_live
-come-free t a h = free_slots-come t (lowest_free t) a (lowest_free_lt t h) (rw (lowest_free-free t))
-
 pub free_slots-go : {A : Type 0} (l : List (Slot A)) (i : ℕ) → live_at l i ≡ true
     → free_slots (set l i free) ≡ suc (free_slots l)
 unfolding free_slots is_live

@@ -12,7 +12,7 @@ use Rattle.laws.specs.Undoing.{base-numbered, small-numbered}
 use Rattle.demands.specs.Ours.{ours}
 use Rattle.demands.proofs.Exported.{ours-exported}
 use Rattle.demands.proofs.Cases.{lendable}
-use Rattle.meaning.specs.Tags.{any_mark, blue_mark, red_mark}
+use Rattle.meaning.specs.Tags.{any_mark, blue_mark, grey_mark, red_mark}
 use Rattle.meaning.specs.Laws.Every.{Every}
 use Rattle.laws.specs.Numbers.{bytes-by}
 use Rattle.meaning.specs.Laws.Slots.{live_at_lt}
@@ -34,7 +34,6 @@ use Rattle.published.proofs.Families.Whence.{right-placed, not_made, marked-stay
 use Rattle.published.specs.OnlyOutcome.{OneOutcome}
 use Rattle.published.proofs.OnlyOutcome.{one-outcome}
 use Rattle.published.specs.Instances.CaseP.{image, turn, tree, Grey, OneGreyEdge, node, edge}
-use Rattle.published.specs.Instances.CaseP as Defs
 
 pub case_p-is : program image ≡ some tree
 unfolding computing
@@ -110,7 +109,7 @@ module _ (G : Graph) (inv : OneGreyEdge G) (m n : Matches turn G) where
   same_edges (suc k) l = absurd (omega arith)
 
   agree : Agree turn G m.g n.g
-  agree = record { Defs.nodes = same_nodes; edges = same_edges }
+  agree = record { nodes = same_nodes; edges = same_edges }
 
 steady : Calls (Steady OneGreyEdge) (com_seq tree.rules tree.main)
 unfolding com_seq
@@ -121,9 +120,8 @@ pub case_p-only : OneOutcome image tree OneGreyEdge
 case_p-only = one-outcome image tree case_p-is OneGreyEdge steady
 
 module _ (L : Layout) where
-
   abbrev nodes : List ℕ
-  nodes = Defs.nodes L
+  nodes = write_nodes L (node grey_mark 5 ∷ node grey_mark 7 ∷ [])
 
   abbrev edges : List ℕ
   edges = write_edges L (edge 0 1 ∷ [])

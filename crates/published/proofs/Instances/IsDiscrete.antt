@@ -31,7 +31,7 @@ unfolding computing
 legal = program-legal image tree (bytes-by image refl) is_discrete_is refl
 
 lone-iso : (G H : Graph) → HostGraph G → Iso G H → LoneAlike G → LoneAlike H
-lone-iso G H host i inv Defs.v Defs.w k l a b = label Defs.v k ∙ inv _ _ (i.nodes_back Defs.v k) (i.nodes_back Defs.w l) (back Defs.v k a) (back Defs.w l b) ∙ sym (label Defs.w l)
+lone-iso G H host i inv v w k l a b = label v k ∙ inv _ _ (i.nodes_back v k) (i.nodes_back w l) (back v k a) (back w l b) ∙ sym (label w l)
   where
     label : (x : ℕ) → Node H x → H.node_label x ≡ G.node_label (i.node_back x)
     label x h = ap H.node_label (sym (i.node_here x h)) ∙ i.node_labels _ (i.nodes_back x h)
@@ -41,9 +41,9 @@ lone-iso G H host i inv Defs.v Defs.w k l a b = label Defs.v k ∙ inv _ _ (i.no
     back x h lone e k (inr q) = lone (i.edge e) (i.edges e k) (inr (i.targets e k ∙ ap i.node q ∙ i.node_here x h))
 
 module _ (G H : Graph) (a : Applies del G H) where
-
+  -- the node that goes
   abbrev gone : ℕ
-  gone = Defs.gone G H a
+  gone = a.match.g.node 0
 
   gone_lone : Lone G gone
   gone_lone e k q = let t = a.match.dangling e 0 k (omega arith) (omega arith) q in omega (arith, t.1)
@@ -57,17 +57,17 @@ module _ (G H : Graph) (a : Applies del G H) where
   pub was : (z : ℕ) → Node H z → Was z
   was z k = from (a.constructed.nodes.all z k)
     where
-      lone : (Defs.v : ℕ) → a.constructed.keep_node Defs.v ≡ z → Lone H z → Lone G Defs.v
-      lone Defs.v q f e l (inl s) =
+      lone : (v : ℕ) → a.constructed.keep_node v ≡ z → Lone H z → Lone G v
+      lone v q f e l (inl s) =
           let t = edge_stays e l in
           f (a.constructed.keep_edge e) (a.constructed.edges.from_a e t)
           (inl (a.constructed.kept_sources e t ∙ ap a.constructed.keep_node s ∙ q))
-      lone Defs.v q f e l (inr s) =
+      lone v q f e l (inr s) =
           let t = edge_stays e l in
           f (a.constructed.keep_edge e) (a.constructed.edges.from_a e t)
           (inr (a.constructed.kept_targets e t ∙ ap a.constructed.keep_node s ∙ q))
 
-      from : ((Defs.v : ℕ) × StaysNode del G a.match.g Defs.v × (a.constructed.keep_node Defs.v ≡ z))
+      from : ((v : ℕ) × StaysNode del G a.match.g v × (a.constructed.keep_node v ≡ z))
           ⊎ ((j : ℕ) × ((0 ≤ j) × (j < 0)) × (a.constructed.new_node j ≡ z)) → Was z
       from (inl t) =
           let label = a.constructed.kept_labels t.0 t.1 (λ i h. absurd (omega arith)) in
@@ -82,12 +82,11 @@ module _ (G H : Graph) (a : Applies del G H) where
 
 -- which one goes is the same, by a symmetry
 module _ (G H H' : Graph) (host : HostGraph G) (inv : LoneAlike G) (a : Applies del G H) (b : Applies del G H') where
-
   abbrev v : ℕ
-  v = Defs.v G H H' host inv a b
+  v = gone G H a
 
   abbrev w : ℕ
-  w = Defs.w G H H' host inv a b
+  w = gone G H' b
 
   abbrev swap : Iso G G
   swap =

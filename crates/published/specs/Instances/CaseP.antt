@@ -2,12 +2,11 @@
 -- none. Its own graph is such a graph, so that what document 01 says of case P is all that can come of it, on either core.
 -- Rests on Whence.
 use Rattle.std.specs.Prelude.{◌≡◌, false, List, [], ◌∷◌, ◌++◌, ℕ}
-use Rattle.meaning.specs.Layout.{Slot, live, Node, Edge as EdgeSlot, write_nodes}
+use Rattle.meaning.specs.Layout.{Slot, live, Node, Edge as EdgeSlot}
 use Rattle.meaning.specs.Image.{Rule}
 use Rattle.meaning.specs.Procedures.{Program, rule_set, loop}
 use Rattle.meaning.specs.ProvedSet.{field_bytes, rule_set_field, turns}
 use Rattle.meaning.specs.Tags.{blue_mark, grey_mark, int_type, loop_tag, none_mark, red_mark}
-use Rattle.meaning.specs.declared.Layout.{Layout}
 use Rattle.meaning.specs.declared.Operand.TheVariants.{Variable as variable_operand}
 use Rattle.meaning.specs.declared.Element.TheVariants.{Variable, Sum}
 use Rattle.published.specs.Graphs.{Graph, Edge}
@@ -54,7 +53,3 @@ node mark n = live (record { mark = mark; root = 0; label = n ∷ [] })
 
 abbrev pub edge : ℕ → ℕ → Slot EdgeSlot
 edge source target = live (record { mark = none_mark; source = source; target = target; label = [] })
-
-module _ (L : Layout) where
-  abbrev pub nodes : List ℕ
-  nodes = write_nodes L (node grey_mark 5 ∷ node grey_mark 7 ∷ [])

@@ -5,7 +5,7 @@ use Rattle.meaning.specs.Tags.{list_type, none_mark}
 use Rattle.meaning.specs.Image.{Rule}
 use Rattle.meaning.specs.Procedures.{Program, rule_set, sequence, guarded, loop, skip, fail, no_more, then}
 use Rattle.meaning.specs.declared.Element.TheVariants.{Variable}
-use Rattle.published.specs.Graphs.{Graph, Node, HostGraph}
+use Rattle.published.specs.Graphs.{Graph, Node}
 use Rattle.published.specs.RuleApplication.{Applies}
 use Rattle.published.specs.Families.Symmetric.{Lone}
 
@@ -55,18 +55,7 @@ abbrev pub LoneAlike : Graph → Type 0
 LoneAlike G = (v w : ℕ) → Node G v → Node G w → Lone G v → Lone G w → G.node_label v ≡ G.node_label w
 
 module _ (G H : Graph) (a : Applies del G H) where
-  -- the node that goes
-  abbrev pub gone : ℕ
-  gone = a.match.g.node 0
 
   -- a node of H that no edge touches is such a node of G, with its label
   abbrev pub Was : ℕ → Type 0
   Was z = (v : ℕ) × Node G v × (H.node_label z ≡ G.node_label v) × (Lone H z → Lone G v)
-
--- which one goes is the same, by a symmetry
-module _ (G H H' : Graph) (host : HostGraph G) (inv : LoneAlike G) (a : Applies del G H) (b : Applies del G H') where
-  abbrev pub v : ℕ
-  v = gone G H a
-
-  abbrev pub w : ℕ
-  w = gone G H' b

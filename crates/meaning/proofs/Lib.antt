@@ -1,0 +1,2 @@
+pub mod NoLooseEdge
+pub mod Laws
