@@ -15,7 +15,7 @@ OPTIMIZE ?= 3
 LIBRARY = target/library/$(ARCH)$(addprefix -O,$(filter s z,$(OPTIMIZE)))/lib$(NAME).a
 RUNNER_wide = runner
 RUNNER_small = small_runner
-SOURCES = crates.txt $(shell find crates -name '*.rt' -o -name '*.antt')
+SOURCES = crates.txt $(shell find crates -path '*/out' -prune -o \( -name '*.rt' -o -name '*.antt' \) -print)
 
 # What `make run` runs: a runner image, or a program and a host graph in text.
 PROGRAM ?= programs/case-p/case-p.gp2
@@ -32,7 +32,7 @@ export ARCH
 
 .PHONY: run test tools runner graph carriers library driver bench fuzz memory map install clean
 
-# Runs an image by the proved runner of a core, which rt builds as x86-64 code.
+# Runs an image by the proved runner of a core, x86-64 code.
 run: tools runner
 ifdef IMAGE
 	@tools/processor run x86_64 target/bin/$(RUNNER_$(CORE)) <$(IMAGE)
@@ -49,18 +49,18 @@ tools:
 
 # The runner program and what it rests on: rt builds what it has proved. What is proved already is not proved again.
 runner:
-	@tools/prove check $(RUNNER_$(CORE))
+	@tools/prove programs $(RUNNER_$(CORE))
 
 # The program that puts a text graph into the one spacing, or says where it breaks: make graph TEXT=FILE.
 graph:
-	@tools/prove check text_graph
+	@tools/prove programs text_graph
 ifdef TEXT
 	@tools/processor run x86_64 target/bin/text_graph <$(TEXT)
 endif
 
 # The programs that carry tables between the old layout and today's: target/bin/widen and target/bin/narrow, x86-64 code.
 carriers:
-	@tools/prove check widen narrow
+	@tools/prove programs widen narrow
 
 # The static library for C, built again when a source of it is newer: all calls, or the small core's alone. A linker takes those of its
 # members whose calls are used, so each is compiled with no others.
@@ -79,14 +79,14 @@ target/library/%/carry.o: CALLS = nhiemavut_widen nhiemavut_narrow nhiemavut_pac
 target/library/%/text.o: CALLS = nhiemavut_import nhiemavut_export
 
 .PRECIOUS: target/library/%.o
-target/library/%.o: target/module/interpreter/module.ll
+target/library/%.o: target/checked/$(ARCH)/interpreter_c.done
 	@mkdir -p $(@D)
-	@tools/module object interpreter $(*D) $@ $(CALLS)
+	@tools/module object interpreter_c $(*D) $@ $(CALLS)
 
-# Proved code as the kit's compiler gets it, for either processor.
-.PRECIOUS: target/module/%/module.ll
-target/module/%/module.ll: $(SOURCES)
-	@tools/module keep $*
+# A program or a static library, proved for a processor.
+.PRECIOUS: target/checked/$(ARCH)/%.done
+target/checked/$(ARCH)/%.done: $(SOURCES)
+	@tools/module check $* $(ARCH)
 
 # The worked driver, on the pass that colours a graph with two colours.
 driver:
@@ -116,17 +116,20 @@ install: library
 	sed -e 's|@PREFIX@|$(PREFIX)|' -e 's|@LIBDIR@|$(patsubst $(PREFIX)/%,$${prefix}/%,$(LIBDIR))|' -e 's|@NAME@|$(NAME)|' include/nhiemavut.pc.in \
 		>$(DESTDIR)$(LIBDIR)/pkgconfig/$(NAME).pc
 
-# The second interpreter's own tests, with its check of every stored expected output; the proofs and the programs over stored
-# files, eight checks at a time, since the checks of a layer begin together and end together; what `make run` prints; the stored
-# corpus and fresh images through this machine's own code; the C examples and a short comparison of the compiled calls, for each processor
-# whose code can be run here. The last line is rt's own, said again.
+# The second interpreter's own tests, with its check of every stored expected output; the proofs, the must-fail edits and the programs
+# over stored files, by the kit's own check of all crates as they stand here; what `make run` prints; the stored corpus and fresh images
+# through this machine's own code; the C examples and a short comparison of the compiled calls, for each processor whose code can be run
+# here. The last line is rt's own, said again.
 test:
 	tools/map --check
 	tools/names
 	cd second && $(CARGO) test --release --offline
-	rt fmt --check
 	@mkdir -p .gate
-	@{ RT_JOBS=$${RT_JOBS:-8} rt ci 2>&1; echo $$? >.gate/status; } | tee .gate/log; test "$$(cat .gate/status)" = 0
+	@rm -f .gate/proved
+	@tools/prove sum >.gate/sum
+	@{ rt ci 2>&1; echo $$? >.gate/status; } | tee .gate/log; test "$$(cat .gate/status)" = 0
+	@grep -q '^rt: ok;' .gate/log && ! grep -qE '^rt: ok;.*, [0-9]+ bad' .gate/log || { echo "there are bad must-fail edits" >&2; exit 1; }
+	@test "$$(tools/prove sum)" = "$$(cat .gate/sum)" && mv .gate/sum .gate/proved
 	$(MAKE) --no-print-directory run | cmp - crates/runner/stdout
 	ARCH= sh fuzz/run --stored
 	ARCH= sh fuzz/run 1000 3 10

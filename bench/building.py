@@ -13,6 +13,7 @@ import sys
 
 ROOT = pathlib.Path(__file__).resolve().parent.parent
 PROCESSOR = ROOT / "tools" / "processor"
+MODULE = ROOT / "tools" / "module"
 GP2 = ROOT / "second" / "target" / "release" / "gp2"
 WARNINGS = ["-std=c11", "-Wall", "-Wextra", "-Werror"]
 
@@ -64,10 +65,11 @@ def clang_object(name, words):
 
 
 def proved_program(name):
-    """A program of the repository, from its proved module."""
-    ready(f"target/module/{name}/module.ll")
-    run([ROOT / "tools" / "module", "object", name, ARCH, WORK / f"{name}.o"])
-    return gcc(name, [WORK / f"{name}.o"])
+    """A program of the repository, as the kit compiles it."""
+    ready(f"target/checked/{ARCH}/{name}.done")
+    run([MODULE, "object", name, ARCH, WORK / f"{name}.o"])
+    run([MODULE, "link", name, ARCH, WORK / f"{name}.o", WORK / name])
+    return WORK / name
 
 
 def counts_here():

@@ -2,7 +2,7 @@
 -- the packed graph is the same graph, and that a program does on the unpacked graph what it did on the small core.
 -- Rests on Carried and CarriedRuns.
 use Rattle.std.specs.Prelude.{ℕ, ◌+◌, ◌*◌, ◌≡◌, true, get_or, take, drop}
-use mathlib.Core.List.{List, [], ◌∷◌}
+use mathlib.Core.List.{List}
 use Rattle.meaning.specs.Layout.{live_at, Edge, small, edge_length, source_place, target_place, read_nodes}
 
 -- the bytes of slot i of a small edge table

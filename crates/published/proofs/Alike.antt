@@ -3,12 +3,11 @@
 use Rattle.std.specs.Prelude.{refl, ◌⊎◌, List, ℕ, zero, suc}
 use Rattle.std.proofs.Common.{inl, inr}
 use Rattle.meaning.specs.Image.{Rule}
-use Rattle.published.specs.Semantics.{ComSeq, ◌⨟◌, if◌then◌else◌, try◌then◌else◌, ◌!, break, skip, fail, Configuration, ⟨◌∣◌⟩, result, failure, [call₁], [call₂], [seq₁], [seq₂], [seq₃], [if₁], [if₂], [try₁], [try₂], [alap₁], [alap₂], [alap₃], [break], [skip], [fail], last, next, here, onward, Outcome, graph, fails, bottom, CanDiverge, CanGetStuck, ⟦◌⟧}
+use Rattle.published.specs.Semantics.{ComSeq, ◌⨟◌, if◌then◌else◌, try◌then◌else◌, ◌!, break, Configuration, ⟨◌∣◌⟩, result, failure, [call₁], [call₂], [seq₁], [seq₂], [seq₃], [if₁], [if₂], [try₁], [try₂], [alap₁], [alap₂], [alap₃], [break], [skip], [fail], last, next, here, onward, Outcome, graph, fails, bottom, CanDiverge, CanGetStuck, ⟦◌⟧}
 use Rattle.published.specs.Alike.{Calls, Same, same_graph, same_fail, same_bottom, unfinished, results, failures}
 use Rattle.published.specs.Alike as Defs
 
 module _ {ℓ κ} (Graph : Type ℓ) (Applied : List Rule → Graph → Graph → Type κ) (U : List Rule → Type κ) (◌≅◌ : Graph → Graph → Type κ) where
-
   infix 30 ◌≅◌
   infix 20 ◌≈◌
   infix 20 ◌⟶◌

@@ -19,7 +19,6 @@ use Rattle.published.proofs.Answers.{result_published, fail_published, came-host
 use Rattle.published.specs.Conformance as Defs
 
 module _ (L : Layout) where
-
   abbrev held : List ℕ → List ℕ → Graph
   held = Defs.held L
 

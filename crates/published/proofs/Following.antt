@@ -19,7 +19,6 @@ use Rattle.published.specs.Steps.{◌⟶◌, ◌⟶⁺◌, Ends, plus_ends, plus
 use Rattle.published.specs.Following as Defs
 
 module _ {ℓ κ} (Graph : Type ℓ) (Applied : List Rule → Graph → Graph → Type κ) (read : Host → Graph) where
-
   abbrev shown : State → Graph
   shown = Defs.shown Graph Applied read
 

@@ -107,7 +107,6 @@ value_of f (suc n) v = at (ℕ_discrete (f n) v) (value_of f n v)
     at (no d) (inr g) = inr (λ i. none d g i (ℕ_discrete i n))
 
 module _ (r : Rule) (holds : rule_holds r ≡ true) (G : Graph) (host : HostGraph G) (m : Matches r G) where
-
   abbrev g : Premorphism r.left G
   g = Defs.g r holds G host m
 

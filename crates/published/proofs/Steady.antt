@@ -40,7 +40,6 @@ sole r G H a = at a.place a.listed a.applies
     at (suc i) k a = absurd (omega arith)
 
 module _ (Inv : Graph → Type 0) where
-
   abbrev Steady : (R : List Rule) → Type 0
   Steady = Defs.Steady Inv
 

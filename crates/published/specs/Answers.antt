@@ -11,7 +11,6 @@ use Rattle.published.specs.Results.{CanComeTo}
 -- The answers.
 
 module _ (L : Layout) where
-
   -- executing the image's program on the graph that the tables hold can come to X
   abbrev pub Comes : Lent → Outcome Graph → Type 0
   Comes x X = CanComeTo L Graph Applied graph_of x.nodes x.edges x.image X

@@ -13,7 +13,6 @@ use Rattle.laws.specs.LegalCommands.{LegalRules}
 -- Rule sets.
 
 module _ (rules : List Rule) (legal_rules : LegalRules rules) where
-
   -- the rules that the numbers of a rule set name
   abbrev pub called : List ℕ → List Rule
   called l = map (rule_at rules) l

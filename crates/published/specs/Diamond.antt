@@ -3,7 +3,6 @@
 -- steps and with the same graph. So what a loop over such a rule set comes to on a host graph is all that it can come to.
 -- Rests on Answers, Steady and Endings.
 use Rattle.std.specs.Prelude.{◌⊎◌, List}
-use Prim.Native.Nat.{ℕ, zero, suc}
 use Rattle.meaning.specs.Image.{Rule}
 use Rattle.published.specs.Graphs.{Graph, HostGraph, Iso}
 use Rattle.published.specs.RuleApplication.{Applied}

@@ -1,7 +1,6 @@
 -- The construction has one result: two graphs that are constructed with the same premorphism and assignment are isomorphic, as
 -- document 000 says below Definition 2.3. Rests on RuleApplication and Isomorphism.
 use Rattle.std.specs.Prelude.{ℕ, ◌≡◌, true}
-use borrow.Author.Tests.{ltb-true}
 use Rattle.meaning.specs.Image.{Rule}
 use Rattle.meaning.specs.References.{rule_holds}
 use Rattle.published.specs.Graphs.{Graph, HostGraph}

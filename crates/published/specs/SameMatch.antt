@@ -1,7 +1,6 @@
 -- The premorphism decides the result: it fixes the values of all variables of L, which are all that R has, so that two results of
 -- one rule with one premorphism are isomorphic. Rests on OneResult.
 use Rattle.std.specs.Prelude.{ℕ, ◌<◌, ◌≡◌, false, length}
-use borrow.Author.Tests.{not-true}
 use Rattle.meaning.specs.Basics.{absent}
 use Rattle.meaning.specs.Image.{Rule}
 use Rattle.meaning.specs.References.{names}

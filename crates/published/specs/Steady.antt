@@ -7,7 +7,7 @@ use Rattle.std.specs.Prelude.{List}
 use Rattle.meaning.specs.Image.{Rule}
 use Rattle.published.specs.Graphs.{Graph, HostGraph, Iso}
 use Rattle.published.specs.RuleApplication.{Applied}
-use Rattle.published.specs.Semantics.{ComSeq, fail, Outcome, graph, fails, ⟦◌⟧}
+use Rattle.published.specs.Semantics.{ComSeq, Outcome, graph, fails, ⟦◌⟧}
 use Rattle.published.specs.Answers.{Alike}
 use Rattle.published.specs.Alike.{Same}
 

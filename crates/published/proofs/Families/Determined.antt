@@ -21,7 +21,6 @@ use Rattle.published.specs.Families.Determined.{root, source, target, leaving, l
 use Rattle.published.specs.Families.Determined as Defs
 
 module _ (r : Rule) where
-
   abbrev LeftEdge : ℕ → Type 0
   LeftEdge = Defs.LeftEdge r
 
@@ -36,7 +35,6 @@ module _ (r : Rule) where
 
   -- what is known; `out` says whether the graph is known to have one edge out of each node
   module _ (out : Bool) where
-
     abbrev KnownNode : ℕ → Type 0
     KnownNode = Defs.KnownNode r out
 

@@ -32,7 +32,6 @@ one-root-iso G H i inv v w k l e f =
 -- Counting roots.
 
 module _ {A : Type 0} (f : A → ℕ) (d : A) where
-
   abbrev total : List A → ℕ
   total = Defs.total f d
 
@@ -77,7 +76,6 @@ root-agrees r G inv m n i k e =
 
 -- Where the roots of a result come from, whatever the mode: a right root, or a root that was one, on which no left root is placed.
 module _ (r : Rule) (G H : Graph) (a : Applies r G H) where
-
   abbrev UnderRoot : ℕ → Type 0
   UnderRoot = Defs.UnderRoot r G H a
 

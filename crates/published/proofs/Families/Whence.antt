@@ -28,7 +28,6 @@ from_either true left before right = at (both (eqb left 0) (eqb right 0)) refl
     at true q = inr (eqb-true left 0 (both_true _ _ q).0, refl)
 
 module _ (r : Rule) (G H : Graph) (a : Applies r G H) where
-
   abbrev place : ℕ → ℕ
   place = Defs.place r G H a
 

@@ -13,7 +13,7 @@ use Rattle.published.specs.RuleApplication.{node_of, Instance, NodeInstance, mar
 use Rattle.published.specs.Steady.{Always, Steady}
 use Rattle.published.proofs.Families.Unchanged.{nodes_stay_lem, edges_stay_lem}
 use Rattle.published.specs.Instances.RedRoot.{redden}
-use Rattle.published.specs.Instances.TwoRoots.{roots, plain, red}
+use Rattle.published.specs.Instances.TwoRoots.{plain, red}
 
 pub plain-host : HostGraph plain
 unfolding is_node_mark is_edge_mark either

@@ -3,8 +3,6 @@
 use Rattle.std.specs.Prelude.{ℕ, ◌<◌, Bool, List, length, get_or}
 use Rattle.std.proofs.Math.Path.{◌≡◌}
 use Rattle.std.proofs.Math.Bool.{true}
-use native.Mathlib.Omega.{arith}
-use borrow.Author.Tests.{eq-eqb, eqb-true}
 
 pub record Passing (f : ℕ → Bool) (n m : ℕ) (l : List ℕ) : Type 0 where
   pub size : length l ≡ m

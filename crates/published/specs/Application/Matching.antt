@@ -2,7 +2,6 @@
 -- It holds of a legal rule and a legal host: their atoms are words, and so are those of each test's operands.
 -- Rests on Application/Conditions and SameMatch.
 use Rattle.std.specs.Prelude.{ℕ, List}
-use borrow.Author.Tests.{ltb-true, eqb-true, eq-eqb}
 use Rattle.meaning.specs.Layout.{Host}
 use Rattle.meaning.specs.Image.{Rule}
 use Rattle.meaning.specs.Matching.{node_slot, edge_slot, Match}

@@ -1,8 +1,7 @@
 -- The right side's values are instances of its labels: where ours has a sum or difference, it is that of the integers.
 -- Rests on RuleApplication and meaning's Applying.
 use Rattle.std.specs.Prelude.{ℕ, ◌≡◌}
-use mathlib.Core.List.{List, [], ◌∷◌}
-use native.Mathlib.Omega.{arith}
+use mathlib.Core.List.{List, []}
 use Rattle.meaning.specs.Layout.{Node, Edge, Host}
 use Rattle.meaning.specs.Image.{RuleEdge, Rule}
 use Rattle.meaning.specs.Matching.{Assignment}
@@ -25,7 +24,6 @@ abbrev pub no_edge : Edge
 no_edge = record { mark = 0; source = 0; target = 0; label = [] }
 
 module _ (most : ℕ) (r : Rule) (α : Assignment) (words : (v : ℕ) → Words (α v)) (h : Host) (p : List ℕ) where
-
   -- the values of a right edge; its ends are still right nodes
   pub record EdgeValue (e : RuleEdge) (a : Edge) : Type 0 where
     pub label : EdgeInstance α e (edge_label_of a)

@@ -2,7 +2,7 @@
 -- match where it reflects roots; where it preserves them it has one, and its result is the graph that was there, as 3.3 says: its
 -- effect could be to do nothing. Rests on OneResult, Existence and Unchanged, and for a graph of two roots on TwoRoots.
 use Rattle.std.specs.Prelude.{◌≡◌, Bool, [], ◌∷◌}
-use Prim.Native.Nat.{ℕ, zero, suc, ◌<◌}
+use Prim.Native.Nat.{ℕ}
 use Rattle.meaning.specs.Tags.{none_mark}
 use Rattle.meaning.specs.Image.{Rule}
 use Rattle.published.specs.Graphs.{Graph, Node}

@@ -55,7 +55,6 @@ abbrev pub LoneAlike : Graph → Type 0
 LoneAlike G = (v w : ℕ) → Node G v → Node G w → Lone G v → Lone G w → G.node_label v ≡ G.node_label w
 
 module _ (G H : Graph) (a : Applies del G H) where
-
   -- a node of H that no edge touches is such a node of G, with its label
   abbrev pub Was : ℕ → Type 0
   Was z = (v : ℕ) × Node G v × (H.node_label z ≡ G.node_label v) × (Lone H z → Lone G v)

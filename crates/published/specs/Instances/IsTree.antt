@@ -10,7 +10,6 @@ use Rattle.meaning.specs.Calls.{Lent}
 use Rattle.meaning.specs.ProvedSet.{live_node, live_edge}
 use Rattle.meaning.specs.declared.Element.TheVariants.{Variable}
 use Rattle.meaning.specs.declared.Condition.TheVariants.{InDegree}
-use Rattle.published.specs.Families.Determined.{root, source, target}
 
 -- programs/is-tree/is-tree.gp2, assembled
 abbrev pub image : List ℕ

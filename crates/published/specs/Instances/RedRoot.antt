@@ -7,7 +7,6 @@ use Rattle.meaning.specs.Image.{Rule}
 use Rattle.meaning.specs.Procedures.{Program, rule_set, loop}
 use Rattle.meaning.specs.Calls.{Lent}
 use Rattle.meaning.specs.ProvedSet.{field_bytes, rule_field, rule_set_field, live_node, plain_node}
-use Rattle.published.specs.Families.Determined.{root}
 
 abbrev pub image : List ℕ
 image = rule_field [] (field_bytes node_tag (0 ∷ 1 ∷ [])) (field_bytes node_tag (1 ∷ 1 ∷ [])) 1 ++ field_bytes loop_tag (rule_set_field 0)

@@ -7,7 +7,6 @@ use Rattle.meaning.specs.Tags.{grey_mark, list_type, none_mark}
 use Rattle.meaning.specs.Image.{Rule}
 use Rattle.meaning.specs.Procedures.{Program, rule_set, sequence, guarded, loop, skip, fail, called, no_more, then}
 use Rattle.meaning.specs.declared.Element.TheVariants.{Variable}
-use Rattle.published.specs.Families.Determined.{root, source, target}
 
 -- programs/is-cycle/is-cycle.gp2 without init, assembled
 abbrev pub image : List ℕ

@@ -2,7 +2,7 @@
 -- which pair it links first decides how the graph goes on; but another pair that could be linked still can be, and in either
 -- order the same graph comes of it. Rests on Diamond and OneEdgeMore.
 use Rattle.std.specs.Prelude.{true, false, List, [], ◌∷◌}
-use Prim.Native.Nat.{ℕ, zero, suc, ◌<◌, ◌≤◌}
+use Prim.Native.Nat.{ℕ}
 use Rattle.meaning.specs.Tags.{list_type, none_mark}
 use Rattle.meaning.specs.Image.{RuleNode, RuleEdge, Rule}
 use Rattle.meaning.specs.Procedures.{Program, rule_set, loop}

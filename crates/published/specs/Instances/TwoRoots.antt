@@ -1,7 +1,7 @@
 -- Why an invariant is needed: without one, that is, with one that always holds, RedRoot's rule is not steady. On a graph of two roots,
 -- one of them with a loop, it gives two graphs that are not isomorphic. Rests on RedRoot and Unchanged.
 use Rattle.std.specs.Prelude.{[], eqb, ltb}
-use Prim.Native.Nat.{ℕ, zero, suc, ◌<◌}
+use Prim.Native.Nat.{ℕ}
 use Rattle.meaning.specs.Tags.{none_mark}
 use Rattle.meaning.specs.Basics.{choose}
 use Rattle.published.specs.Graphs.{Graph}

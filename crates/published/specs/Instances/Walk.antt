@@ -9,7 +9,6 @@ use Rattle.meaning.specs.Calls.{Lent}
 use Rattle.meaning.specs.ProvedSet.{field_bytes, rule_field, variable_field, rule_set_field}
 use Rattle.meaning.specs.ProvedSet.{field_bytes, rule_field, variable_field, rule_set_field, live_node, live_edge, plain_node}
 use Rattle.meaning.specs.declared.Element.TheVariants.{Variable}
-use Rattle.published.specs.Families.Determined.{root, source, target}
 
 abbrev pub edge : List ℕ
 edge = field_bytes edge_tag (0 ∷ 0 ∷ 1 ∷ variable_field 0)
