@@ -1,6 +1,6 @@
 -- Laws of labels in hand: filling one, and copying a part of an array to one.
 -- Rests on Labels and on the meaning's Laws/Tests.
-use Rattle.std.specs.Prelude.{◌≡◌, refl, List, ℕ, ◌+◌, ◌-◌, ◌<◌, ◌≤◌, length, get_or, set, take, drop, replicate}
+use Rattle.std.specs.Prelude.{◌≡◌, refl, List, ℕ, ◌+◌, ◌<◌, ◌≤◌, length, get_or, set, take, drop, replicate}
 use Rattle.std.proofs.Common.{sym, ◌∙◌, arith, add-one, length-drop, length-set, length-take-le, take_all, take-suc, take-suc-set, get_or-set_same, get_or-set_other, get_or-take, get_or-drop}
 use Rattle.std.proofs.Math.Decide.{ℕ_discrete}
 use Rattle.meaning.specs.Numbers.{whole}

@@ -1,6 +1,5 @@
-use Rattle.std.proofs.Common.{◌-◌, refl, false, arith}
+use Rattle.std.proofs.Common.{refl, arith}
 use Rattle.meaning.specs.Basics.{exists}
-use Rattle.meaning.specs.Matching.{edge_runs}
 use Rattle.meaning.specs.Laws.Loops.{exists-yes, exists-next, exists-end}
 use Rattle.graph.proofs.any_runs.Goals as goal
 

@@ -1,4 +1,4 @@
-use Rattle.std.proofs.Common.{◌-◌, refl, arith}
+use Rattle.std.proofs.Common.{refl, arith}
 use Rattle.meaning.specs.Basics.{count}
 use Rattle.meaning.specs.Laws.Loops.{count_yes, count_no, count-end}
 use Rattle.graph.proofs.count_edges.Goals as goal

@@ -1,4 +1,4 @@
-use Rattle.std.proofs.Common.{◌+◌, ◌-◌, arith}
+use Rattle.std.proofs.Common.{◌+◌, arith}
 use Rattle.labels.specs.Laws.{filled_none, copied_more, copied_all}
 use Rattle.labels.proofs.copied.Goals as goal
 

@@ -1,4 +1,4 @@
-use Rattle.std.proofs.Common.{◌-◌, sym, ◌∙◌, div-le_self, arith, rules, length}
+use Rattle.std.proofs.Common.{sym, ◌∙◌, div-le_self, arith, rules, length}
 use Rattle.slots.specs.Slots.{states}
 use Rattle.slots.proofs.Slots.{slots-live, slots-free, slots_end, length-states}
 use Rattle.slots.proofs.free_slots.Goals as goal

@@ -1,4 +1,4 @@
-use Rattle.std.proofs.Common.{◌-◌, refl, sym, ◌∙◌, div-le_self, arith, rules, length}
+use Rattle.std.proofs.Common.{refl, sym, ◌∙◌, div-le_self, arith, rules, length}
 use Rattle.slots.specs.Slots.{states}
 use Rattle.slots.proofs.Slots.{lowest-live, lowest-here, lowest-end, length-states}
 use Rattle.slots.proofs.lowest_free.Goals as goal

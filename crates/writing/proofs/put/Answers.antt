@@ -1,4 +1,4 @@
-use Rattle.std.proofs.Common.{refl, ◌-◌, arith, rules, length-set}
+use Rattle.std.proofs.Common.{refl, arith, rules, length-set}
 use Rattle.writing.proofs.Bytes.{put-none, put-more, put_all}
 use Rattle.writing.proofs.put.Goals as goal
 

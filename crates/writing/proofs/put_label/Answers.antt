@@ -1,4 +1,4 @@
-use Rattle.std.proofs.Common.{map, ◌+◌, ◌-◌, ◌*◌, arith, rules, drop}
+use Rattle.std.proofs.Common.{map, ◌+◌, ◌*◌, arith, rules, drop}
 use Rattle.slots.specs.Laid.{laid}
 use Rattle.writing.specs.Words.{signed, atom_size, label_size}
 use Rattle.writing.specs.Lines.{onward}

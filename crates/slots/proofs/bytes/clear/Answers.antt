@@ -1,4 +1,4 @@
-use Rattle.std.proofs.Common.{◌-◌, refl, ap, ◌∙◌, arith, set, length-set}
+use Rattle.std.proofs.Common.{refl, ap, ◌∙◌, arith, set, length-set}
 use borrow.Author.Fill.{fill_more}
 use Rattle.slots.proofs.Loops.{fill_all}
 use Rattle.slots.proofs.bytes.clear.Goals as goal

@@ -1,4 +1,4 @@
-use Rattle.std.proofs.Common.{◌-◌, refl, ap, ◌∙◌, arith, rules, length-set}
+use Rattle.std.proofs.Common.{refl, ap, ◌∙◌, arith, rules, length-set}
 use Rattle.slots.proofs.Loops.{copy_more, copy_all}
 use Rattle.slots.proofs.bytes.copy.Goals as goal
 

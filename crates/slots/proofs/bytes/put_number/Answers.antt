@@ -1,4 +1,4 @@
-use Rattle.std.proofs.Common.{◌-◌, ◌/◌, refl, sym, ap, ◌∙◌, arith, rules, length-set}
+use Rattle.std.proofs.Common.{◌/◌, refl, sym, ap, ◌∙◌, arith, rules, length-set}
 use Rattle.slots.proofs.Loops.{writing-none, writing_more, writing-all, rest-none, rest_more}
 use Rattle.slots.proofs.bytes.put_number.Goals as goal
 

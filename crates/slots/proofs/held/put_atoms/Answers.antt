@@ -1,4 +1,4 @@
-use Rattle.std.proofs.Common.{◌+◌, ◌-◌, ◌*◌, refl, ap, ◌∙◌, arith, length, get_or}
+use Rattle.std.proofs.Common.{◌+◌, ◌*◌, refl, ap, ◌∙◌, arith, length, get_or}
 use Rattle.meaning.specs.Basics.{concat}
 use Rattle.meaning.specs.Layout.{atom_length}
 use Rattle.laws.specs.Pieces.{stored}

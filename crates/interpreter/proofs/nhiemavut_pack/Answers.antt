@@ -1,0 +1,16 @@
+-- `interpreter::nhiemavut_pack` meets its contract: document 01's layout and the small core's are layouts, and the call leaves what the definition says.
+use Rattle.std.proofs.Common.{arith}
+use Rattle.laws.specs.Layout.{small-sized, base-sized}
+use Rattle.interpreter.proofs.nhiemavut_pack.Goals as goal
+
+pub carry_tables-requires : goal.carry_tables-requires
+carry_tables-requires c =
+    record {
+      sized = rw c.base.ensures base-sized;
+      sized_2 = rw c.small.ensures small-sized;
+      atoms_le_most_atoms = rw c.base.ensures (omega arith);
+    }
+
+pub returns : goal.returns
+returns c =
+    rw (← c.base.ensures, ← c.small.ensures, c.answer_number.ensures) c.carry_tables.ensures
