@@ -1,13 +1,12 @@
 -- A table that is filled slot by slot from the front. Rests on laws' Filling, on specs/Tables, Labels and Slots.
 use mathlib.Core.Path.{◌≡◌, sym, ◌∙◌, ap}
 use mathlib.Core.Bool.{true}
-use mathlib.Core.List.{List, [], ◌∷◌, ◌++◌, map, append-nil, map-append}
+use mathlib.Core.List.{List, map}
 use Prim.Native.Nat.{ℕ, suc, ◌+◌, ◌*◌, ◌/◌, ◌<◌, ◌≤◌}
-use native.Mathlib.Nat.{suc-mul, zero-mul, mul-div_cancel, mul-le-mul_right}
+use native.Mathlib.Nat.{mul-div_cancel}
 use native.Mathlib.Numerals.{add-one}
 use native.Mathlib.Omega.{arith}
-use lib.ListN.{length, get_or, take, drop, length-take, length-append, length-drop, drop_of_length-le}
-use lib.Seq.{take-suc, take_at, drop_at, drop-drop, take-length, get_or-take}
+use lib.ListN.{length, get_or}
 use Rattle.meaning.specs.Basics.{concat}
 use Rattle.meaning.specs.Layout.{Slot, free, write_node, write_edge, read_nodes, read_edges, node_length, edge_length}
 use Rattle.meaning.specs.Carrying.{resized}

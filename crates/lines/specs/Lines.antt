@@ -4,7 +4,6 @@ use Rattle.std.specs.Prelude.{List, [], ◌∷◌, ◌++◌, map, ℕ, suc, take
 use Rattle.meaning.specs.Basics.{choose}
 use Rattle.meaning.specs.Numbers.{number}
 use Rattle.meaning.specs.Layout.{Slot, free, live, Node, Edge, read_nodes, read_edges}
-use Rattle.meaning.specs.Calls.{run}
 use Rattle.meaning.specs.declared.Layout.{Layout}
 use Rattle.writing.specs.Words.{letters, decimal, signed, mark_name, root_name}
 use Rattle.writing.specs.Lines.{line}

@@ -11,7 +11,7 @@ use lib.Dec.{eqb}
 use lib.ListN.{length, get_or, set, take, drop, length-append, length-drop, length-map, length-set, get_or-append}
 use lib.Seq.{get_or-append-add}
 use Rattle.meaning.specs.Tags.{node_tag}
-use Rattle.meaning.specs.Image.{RuleNode, RuleEdge, RuleGraph, Rule, field, rule_node, rule_edge, rule_graph, types, rule, most_items}
+use Rattle.meaning.specs.Image.{RuleNode, RuleEdge, RuleGraph, Rule, field, rule_node, rule_edge, rule_graph, rule, most_items}
 use Rattle.meaning.specs.References.{rule_holds}
 use Rattle.meaning.specs.Laws.Tests.{some_inj}
 use Rattle.fields.specs.Parsed.{one_byte-is, rule_graph-is, rule-few}

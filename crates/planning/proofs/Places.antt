@@ -1,17 +1,15 @@
 -- The parts of a rule, read one behind the other: each is the field of its number. Rests on parts' Rows and plan's Places.
 use mathlib.Core.Path.{◌≡◌, refl, sym, ◌∙◌, ap}
-use mathlib.Core.Logic.{inl, inr}
 use mathlib.Core.Option.{some}
 use mathlib.Core.List.{List}
 use Prim.Native.Nat.{ℕ, ◌-◌}
-use native.Mathlib.Omega.{arith}
 use lib.Dec.{eqb, lit<}
 use lib.ListN.{get_or, take, drop}
 use Rattle.meaning.specs.Image.{Rule, rule}
 use Rattle.fields.specs.Fields.{field_at, nth_field}
 use Rattle.fields.specs.Laws.{nth-next}
 use Rattle.fields.specs.declared.Found.{Found}
-use Rattle.fields.specs.declared.Found.TheVariants.{Field, Short, End}
+use Rattle.fields.specs.declared.Found.TheVariants.{Field}
 use Rattle.parts.specs.Rows.{rule_parted, preserving-is}
 use Rattle.parts.proofs.Loops.{NoField}
 use Rattle.plan.specs.Plan.{Part}

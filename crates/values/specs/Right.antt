@@ -1,6 +1,6 @@
 -- The right side of a rule: it has values exactly where all its labels can be held, and a label's value hangs on the
 -- variables that it names alone. Rests on Values, on parts' Rows and on the meaning's Applying.
-use Rattle.std.specs.Prelude.{◌≡◌, Bool, ℕ, suc, ◌+◌, ◌<◌, length}
+use Rattle.std.specs.Prelude.{◌≡◌, Bool, ℕ, suc, ◌<◌, length}
 use Rattle.std.proofs.Math.Path.{refl, ap}
 use Rattle.std.proofs.Common.{sym, ◌∙◌}
 use Rattle.std.proofs.Math.Option.{Option, some}

@@ -1,4 +1,4 @@
-use Rattle.std.proofs.Common.{◌-◌, arith}
+use Rattle.std.proofs.Common.{arith}
 use Rattle.parts.proofs.Loops.{a-field, nearer, no_field, part_in}
 use Rattle.agreeing.proofs.Agreeing.{upto_within, comparing_start, comparing_there, comparing_element, comparing_fails, comparing_next, comparing_end}
 use Rattle.agreeing.proofs.elements_agree.Goals as goal

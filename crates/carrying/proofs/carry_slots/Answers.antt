@@ -1,4 +1,4 @@
-use Rattle.std.proofs.Common.{◌≡◌, refl, sym, ◌∙◌, ap, ◌-◌, arith}
+use Rattle.std.proofs.Common.{◌≡◌, refl, sym, ◌∙◌, ap, arith}
 use Rattle.carrying.proofs.Filling.{so_far, so_far-none, so_far-all, so_far_more, so_far-room}
 use Rattle.carrying.proofs.Labels.{fit_at}
 use Rattle.carrying.proofs.carry_slots.Goals as goal

@@ -1,4 +1,4 @@
-use Rattle.std.proofs.Common.{◌-◌, ◌≡◌, sym, ◌∙◌, false, arith}
+use Rattle.std.proofs.Common.{◌≡◌, sym, ◌∙◌, false, arith}
 use Rattle.carrying.specs.Tables.{live_in}
 use Rattle.carrying.proofs.Free.{one_further, free_of, free-not}
 use Rattle.carrying.proofs.free_from.Goals as goal

@@ -1,4 +1,4 @@
-use Rattle.std.proofs.Common.{◌-◌, ◌≡◌, arith}
+use Rattle.std.proofs.Common.{◌≡◌, arith}
 use Rattle.labels.specs.Laws.{filled_none, filled_more, filled-all}
 use Rattle.slots.specs.Laid.{laid}
 use Rattle.carrying.proofs.in_hand.Goals as goal

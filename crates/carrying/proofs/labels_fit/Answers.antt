@@ -1,4 +1,4 @@
-use Rattle.std.proofs.Common.{◌-◌, ◌≤◌, sym, arith, length}
+use Rattle.std.proofs.Common.{◌≤◌, sym, arith, length}
 use Rattle.carrying.specs.Tables.{label_in}
 use Rattle.carrying.proofs.Free.{one_further}
 use Rattle.carrying.proofs.Labels.{fit_of, fit-not}

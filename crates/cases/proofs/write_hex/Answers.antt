@@ -1,4 +1,3 @@
-use Rattle.std.proofs.Common.{◌-◌}
 use Rattle.cases.proofs.write_hex.Goals as goal
 
 pub loop-i-init : goal.loop-i-init

@@ -1,4 +1,4 @@
-use Rattle.std.proofs.Common.{◌-◌, refl, sym, ◌∙◌, arith}
+use Rattle.std.proofs.Common.{refl, sym, ◌∙◌, arith}
 use Rattle.meaning.specs.Laws.Loops.{absent-here, absent-next, absent-end}
 use Rattle.fitting.proofs.absent.Goals as goal
 

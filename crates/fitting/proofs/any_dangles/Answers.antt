@@ -1,6 +1,5 @@
-use Rattle.std.proofs.Common.{◌-◌, refl, false, arith}
+use Rattle.std.proofs.Common.{refl, arith}
 use Rattle.meaning.specs.Basics.{exists}
-use Rattle.meaning.specs.FirstMatch.{dangles}
 use Rattle.meaning.specs.Laws.Loops.{exists-yes, exists-next, exists-end}
 use Rattle.fitting.proofs.any_dangles.Goals as goal
 

@@ -1,4 +1,4 @@
-use Rattle.std.proofs.Common.{◌-◌, refl, false, arith}
+use Rattle.std.proofs.Common.{refl, arith}
 use Rattle.meaning.specs.Basics.{exists}
 use Rattle.meaning.specs.Laws.Loops.{exists-yes, exists-next, exists-end}
 use Rattle.fitting.proofs.any_joins.Goals as goal

@@ -1,6 +1,5 @@
-use Rattle.std.proofs.Common.{◌-◌, refl, arith}
+use Rattle.std.proofs.Common.{refl, arith}
 use Rattle.meaning.specs.Basics.{count}
-use Rattle.meaning.specs.FirstMatch.{left_touches}
 use Rattle.meaning.specs.Laws.Loops.{count_yes, count_no, count-end}
 use Rattle.fitting.proofs.left_degree.Goals as goal
 

@@ -1,4 +1,4 @@
-use Rattle.std.proofs.Common.{◌-◌, refl, true, arith}
+use Rattle.std.proofs.Common.{refl, arith}
 use Rattle.meaning.specs.Basics.{all}
 use Rattle.meaning.specs.Laws.Loops.{all-fails, all-next, all_end}
 use Rattle.fitting.proofs.linked.Goals as goal

@@ -1,4 +1,4 @@
-use Rattle.std.proofs.Common.{sym, false, ◌-◌, arith}
+use Rattle.std.proofs.Common.{sym, arith}
 use Rattle.fitting.proofs.Candidates.{left-node, passed-more}
 use Rattle.fitting.proofs.next_like.Goals as goal
 

@@ -1,4 +1,4 @@
-use Rattle.std.proofs.Common.{◌-◌, false, get_or, arith}
+use Rattle.std.proofs.Common.{get_or, arith}
 use Rattle.fitting.proofs.Dangling.{gone-below, gone-source, gone-target, gone-next, gone-end}
 use Rattle.plan.specs.Plan.{interface_at, nodes_at}
 use Rattle.fitting.proofs.touches_gone.Goals as goal

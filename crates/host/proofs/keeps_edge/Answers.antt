@@ -1,6 +1,5 @@
 -- `keeps_edge` meets its contract, clause by clause.
 use Rattle.std.proofs.Common.{◌∙◌, arith}
-use borrow.Author.Tests.{not-true, not-false}
 use Rattle.meaning.specs.Layout.{is_edge_mark, live_at, read_nodes}
 use Rattle.host.proofs.Keeps.{edge-mark, edge-zero, edge-source, edge-target, edge-rest, told}
 use Rattle.host.proofs.keeps_edge.Goals as goal

@@ -1,4 +1,4 @@
-use Rattle.std.proofs.Common.{◌-◌, [], refl, sym, ap, ◌∙◌, div-le_self, arith, length, rules}
+use Rattle.std.proofs.Common.{[], refl, sym, ap, ◌∙◌, div-le_self, arith, length, rules}
 use Rattle.laws.specs.Pieces.{length-pieces}
 use Rattle.meaning.specs.Layout.{read_nodes, cut}
 use Rattle.meaning.specs.Laws.Loops.{every-onward, every-stops, every-done}

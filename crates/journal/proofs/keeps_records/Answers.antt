@@ -1,4 +1,4 @@
-use Rattle.std.proofs.Common.{◌-◌, ◌/◌, true, false, [], refl, sym, ap, ◌∙◌, arith, rules, length}
+use Rattle.std.proofs.Common.{◌/◌, true, false, [], refl, sym, ap, ◌∙◌, arith, rules, length}
 use Rattle.laws.specs.Pieces.{length-pieces}
 use Rattle.meaning.specs.Layout.{keeps_record, pieces}
 use Rattle.journal.proofs.Records.{counted-at, records-over, records-kept}

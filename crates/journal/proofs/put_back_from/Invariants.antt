@@ -1,5 +1,5 @@
 -- `put_back_from` meets its contract. The loop's invariant: putting back the records below `u` from here gives what putting back all of them gives from the start, and what stands behind the slots is as it was.
-use Rattle.std.proofs.Common.{◌-◌, ◌≤◌, ◌≡◌, length}
+use Rattle.std.proofs.Common.{◌≤◌, ◌≡◌, length}
 use Rattle.journal.specs.Journal.{tables_of, RestKept, put_back}
 use Rattle.journal.proofs.put_back_from.Given as goal
 

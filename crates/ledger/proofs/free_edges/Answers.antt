@@ -1,4 +1,4 @@
-use Rattle.std.proofs.Common.{◌+◌, ◌-◌, ◌≡◌, length, arith}
+use Rattle.std.proofs.Common.{◌+◌, ◌≡◌, length, arith}
 use Rattle.meaning.specs.Layout.{record_length}
 use Rattle.ledger.specs.Changes.{going_none, going_next, going_more, quotient_le}
 use Rattle.ledger.proofs.free_edges.Goals as goal

@@ -10,15 +10,15 @@ use Rattle.ledger.proofs.room.Goals.{then-nodes_go-nodes_come+else-free_slots-no
 nodes-fit : (c : Joined-nodes_go-nodes_come) → let a = c.args in a.nodes_come ≤ free_slots (read_nodes a.l a.nodes.now) + a.nodes_go
 nodes-fit c =
     elim c.if-nodes_go-nodes_come.branch [
-      then-nodes_go-nodes_come+else-free_slots-nodes_go w ↦ omega (arith, nodes-free c.args.l c.requires.sized c.args.nodes.now w.free_slots.result w.free_slots.ensures)
-    | else-nodes_go-nodes_come w ↦ omega arith
+      | then-nodes_go-nodes_come+else-free_slots-nodes_go w ↦ omega (arith, nodes-free c.args.l c.requires.sized c.args.nodes.now w.free_slots.result w.free_slots.ensures)
+      | else-nodes_go-nodes_come w ↦ omega arith
     ]
 
 edges_fit : (c : Joined-edges_go-edges_come) → let a = c.args in a.edges_come ≤ free_slots (read_edges a.l a.edges.now) + a.edges_go
 edges_fit c =
     elim c.if-edges_go-edges_come.branch [
-      then-edges_go-edges_come+else-free_slots-edges_go w ↦ omega (arith, edges-free c.args.l c.requires.sized c.args.edges.now w.free_slots-then-edges_go-edges_come.result w.free_slots-then-edges_go-edges_come.ensures)
-    | else-edges_go-edges_come w ↦ omega arith
+      | then-edges_go-edges_come+else-free_slots-edges_go w ↦ omega (arith, edges-free c.args.l c.requires.sized c.args.edges.now w.free_slots-then-edges_go-edges_come.result w.free_slots-then-edges_go-edges_come.ensures)
+      | else-edges_go-edges_come w ↦ omega arith
     ]
 
 pub overflow_add-free_slots : goal.overflow_add-free_slots

@@ -1,4 +1,4 @@
-use Rattle.std.proofs.Common.{◌≡◌, ap, ℕ, ◌+◌, ◌-◌, ◌*◌, arith, rules}
+use Rattle.std.proofs.Common.{◌≡◌, ap, ℕ, ◌+◌, ◌*◌, arith, rules}
 use Rattle.writing.specs.Laws.Walks.{coming-start, coming-more, coming-end}
 use Rattle.lines.specs.Tables.{line_size}
 use Rattle.graph.specs.Graph.{slots_in}

@@ -10,7 +10,7 @@ put_outcome-requires c =
     record {
       listing_room_in_bounds = omega (arith, c.requires.listing_room_in_bounds);
       report_len = run_call.auto.report;
-      ready = result-ready c.args.l c.args.nodes.now c.args.edges.now c.args.journal.now c.args.program.now c.args.fuel (replicate 8 0) (λ i. omega (arith, c.type_inv.nodes i)) (λ i. omega (arith, c.type_inv.edges i)) (λ i. omega (arith, c.type_inv.program i)) c.requires.listable answer-number.result _ _ _ _ _ answer-number.ensures run_call.ensures run_call.auto.nodes run_call.auto.edges;
+      ready = result-ready c.args.l c.args.nodes.now c.args.edges.now c.args.journal.now c.args.program.now c.args.fuel (replicate 8 0) (λ i. omega (arith, c.slice_known-1.given i)) (λ i. omega (arith, c.slice_known-2-1.given i)) (λ i. omega (arith, c.type_inv.program i)) c.requires.listable answer-number.result _ _ _ _ _ answer-number.ensures run_call.ensures run_call.auto.nodes run_call.auto.edges;
     }
 
 pub returns : goal.returns

@@ -1,4 +1,4 @@
-use Rattle.std.proofs.Common.{◌≡◌, ◌+◌, ◌-◌, arith, length}
+use Rattle.std.proofs.Common.{◌≡◌, ◌+◌, arith, length}
 use Rattle.meaning.specs.Layout.{record_length}
 use Rattle.ledger.specs.Changes.{quotient_le}
 use Rattle.making.proofs.Loops.{altering_none, altering_next, altering_more}

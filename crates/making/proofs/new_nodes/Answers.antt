@@ -1,4 +1,4 @@
-use Rattle.std.proofs.Common.{◌+◌, ◌-◌, arith, length, length-set}
+use Rattle.std.proofs.Common.{◌+◌, arith, length, length-set}
 use Rattle.meaning.specs.Layout.{record_length}
 use Rattle.ledger.specs.Changes.{quotient_le}
 use Rattle.making.proofs.Loops.{growing_none, growing_next, growing_more, growing_all}

@@ -1,4 +1,4 @@
-use Rattle.std.proofs.Common.{false, sym, ◌-◌, arith}
+use Rattle.std.proofs.Common.{sym, arith}
 use Rattle.laws.specs.Assignment.{labels_length}
 use Rattle.meaning.specs.References.{labels}
 use Rattle.planning.proofs.Variables.{occurs_behind, occurs_nowhere, first-at, first-none, none_more}

@@ -1,4 +1,4 @@
-use Rattle.std.proofs.Common.{◌+◌, ◌-◌, ◌<◌, ◌≤◌, arith, length}
+use Rattle.std.proofs.Common.{◌+◌, ◌<◌, ◌≤◌, arith, length}
 use Rattle.meaning.specs.Image.{most_items}
 use Rattle.parts.proofs.Loops.{a-field, no_field, part_in, nearer}
 use Rattle.planning.proofs.Filling.{filling-start, filling-cut, filling-done, filling-node, filling-edge, next_low, next_fits}

@@ -1,4 +1,4 @@
-use Rattle.std.proofs.Common.{◌-◌, arith}
+use Rattle.std.proofs.Common.{arith}
 use Rattle.parts.proofs.Loops.{a-field, no_field, part_in, nearer}
 use Rattle.planning.proofs.Variables.{seeking_start, seeking_done, seeking_cut, seeking_found, seeking_list, seeking_single}
 use Rattle.planning.proofs.occurrence.Goals as goal

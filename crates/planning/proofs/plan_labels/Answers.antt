@@ -1,4 +1,4 @@
-use Rattle.std.proofs.Common.{◌-◌, arith}
+use Rattle.std.proofs.Common.{arith}
 use Rattle.planning.proofs.Labelling.{labelling-next}
 use Rattle.planning.proofs.plan_labels.Goals as goal
 

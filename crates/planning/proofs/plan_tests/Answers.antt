@@ -1,4 +1,4 @@
-use Rattle.std.proofs.Common.{◌-◌, ◌<◌, arith}
+use Rattle.std.proofs.Common.{◌<◌, arith}
 use Rattle.parts.proofs.Loops.{a-field, no_field, part_in, nearer}
 use Rattle.planning.proofs.Deciding.{deciding_start, deciding_cut, deciding_done, deciding_next, next_low, next-decides}
 use Rattle.planning.proofs.plan_tests.Goals as goal

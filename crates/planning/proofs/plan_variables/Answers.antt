@@ -1,4 +1,4 @@
-use Rattle.std.proofs.Common.{◌≡◌, ◌-◌, arith, length}
+use Rattle.std.proofs.Common.{◌≡◌, arith, length}
 use Rattle.planning.proofs.Stores.{types-count, named_more}
 use Rattle.planning.proofs.plan_variables.Goals as goal
 

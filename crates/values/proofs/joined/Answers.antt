@@ -1,4 +1,4 @@
-use Rattle.std.proofs.Common.{false, refl, ◌∙◌, ◌-◌, arith}
+use Rattle.std.proofs.Common.{false, refl, ◌∙◌, arith}
 use Rattle.values.specs.Laws.{value_not, joined-no, joined-start, joined-more, joined-all, joined-value}
 use Rattle.values.proofs.joined.Goals as goal
 

@@ -1,5 +1,4 @@
 use Rattle.std.proofs.Common.{true, false, refl, ◌∙◌, arith}
-use Rattle.meaning.specs.Image.{label}
 use Rattle.parts.specs.Elements.{Begins}
 use Rattle.labels.specs.Laws.{held-length}
 use Rattle.parts.specs.Walks.{opens-first, opens-nothing, shorter}

@@ -1,4 +1,3 @@
-use Rattle.std.proofs.Common.{◌-◌}
 use Rattle.parts.specs.Series.{walk_start, walk_next, walk_stop, walk_cut, walk_done}
 use Rattle.parts.specs.Rows.{items, graph-series}
 use Rattle.parts.proofs.Loops.{a-field, no_field, part_in, nearer}
