@@ -1,1 +1,2 @@
 mod Records
+pub mod Restores

@@ -1,2 +1,1 @@
 pub mod Journal
-pub mod Restores

@@ -3,7 +3,7 @@
 use Rattle.std.specs.Prelude.{refl, ◌⊎◌, List, ℕ, zero, suc}
 use Rattle.std.proofs.Common.{inl, inr}
 use Rattle.meaning.specs.Image.{Rule}
-use Rattle.published.specs.Semantics.{ComSeq, ◌⨟◌, if◌then◌else◌, try◌then◌else◌, ◌!, break, Configuration, ⟨◌∣◌⟩, result, failure, [call₁], [call₂], [seq₁], [seq₂], [seq₃], [if₁], [if₂], [try₁], [try₂], [alap₁], [alap₂], [alap₃], [break], [skip], [fail], last, next, here, onward, Outcome, graph, fails, bottom, CanDiverge, CanGetStuck, ⟦◌⟧}
+use Rattle.published.specs.Semantics.{ComSeq, ◌⨟◌, when◌then◌else◌, try◌then◌else◌, ◌!, break, Configuration, ⟨◌∣◌⟩, result, failure, [call₁], [call₂], [seq₁], [seq₂], [seq₃], [if₁], [if₂], [try₁], [try₂], [alap₁], [alap₂], [alap₃], [break], [skip], [fail], last, next, here, onward, Outcome, graph, fails, bottom, CanDiverge, CanGetStuck, ⟦◌⟧}
 use Rattle.published.specs.Alike.{Calls, Same, same_graph, same_fail, same_bottom, unfinished, results, failures}
 use Rattle.published.specs.Alike as Defs
 
@@ -49,11 +49,11 @@ module _ {ℓ κ} (Graph : Type ℓ) (Applied : List Rule → Graph → Graph �
   over_seq₃ Q failures s = (_, failures, [seq₃] s)
 
   over_if₁ : (Q : ComSeq) {C P : ComSeq} {G G' H : Graph} {c : Configuration Graph} → Calls U P → G ≅ G' → result H ≈ c
-      → ⟨ C ∣ G' ⟩ ⟶⁺ c → Step ⟨ if C then P else Q ∣ G' ⟩ ⟨ P ∣ G ⟩
+      → ⟨ C ∣ G' ⟩ ⟶⁺ c → Step ⟨ when C then P else Q ∣ G' ⟩ ⟨ P ∣ G ⟩
   over_if₁ Q u j (results i) p = (_, unfinished u j, [if₁] p)
 
   over_if₂ : (P : ComSeq) {C Q : ComSeq} {G G' : Graph} {c : Configuration Graph} → Calls U Q → G ≅ G' → failure ≈ c
-      → ⟨ C ∣ G' ⟩ ⟶⁺ c → Step ⟨ if C then P else Q ∣ G' ⟩ ⟨ Q ∣ G ⟩
+      → ⟨ C ∣ G' ⟩ ⟶⁺ c → Step ⟨ when C then P else Q ∣ G' ⟩ ⟨ Q ∣ G ⟩
   over_if₂ P u j failures p = (_, unfinished u j, [if₂] p)
 
   over_try₁ : (Q : ComSeq) {C P : ComSeq} {G H : Graph} {c : Configuration Graph} → Calls U P → result H ≈ c

@@ -15,7 +15,7 @@ use Rattle.published.proofs.Isomorphism.{iso-same, applied-iso}
 use Rattle.published.specs.SameMatch.{Agree}
 use Rattle.published.proofs.SameMatch.{same-match}
 use Rattle.published.proofs.HostResult.{applies-host}
-use Rattle.published.specs.Semantics.{ComSeq, call, ◌⨟◌, if◌then◌else◌, try◌then◌else◌, ◌!, break, skip, fail, Outcome, graph, fails, ⟦◌⟧}
+use Rattle.published.specs.Semantics.{ComSeq, call, ◌⨟◌, when◌then◌else◌, try◌then◌else◌, ◌!, break, skip, fail, Outcome, graph, fails, ⟦◌⟧}
 use Rattle.published.specs.Answers.{Alike}
 use Rattle.published.proofs.Answers.{alike-back, carry}
 use Rattle.published.specs.Alike.{Calls, Same, same_graph, same_fail, same_bottom}
@@ -117,7 +117,7 @@ module _ (Inv : Graph → Type 0) where
   lockstep-calls : (P : ComSeq) → Calls LegalRules P → Calls Steady P → Calls (Lockstep Both) P
   lockstep-calls (call R) u v = steady-lockstep R u v
   lockstep-calls (P ⨟ Q) u v = (lockstep-calls P u.0 v.0, lockstep-calls Q u.1 v.1)
-  lockstep-calls (if C then P else Q) u v =
+  lockstep-calls (when C then P else Q) u v =
       (lockstep-calls C u.0 v.0, lockstep-calls P u.1 v.1, lockstep-calls Q u.2 v.2)
   lockstep-calls (try C then P else Q) u v =
       (lockstep-calls C u.0 v.0, lockstep-calls P u.1 v.1, lockstep-calls Q u.2 v.2)

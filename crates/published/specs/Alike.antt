@@ -3,13 +3,13 @@
 use Rattle.std.specs.Prelude.{List}
 use Rattle.meaning.specs.Image.{Rule}
 use Rattle.published.specs.Semantics
-use Rattle.published.specs.Semantics.{ComSeq, call, ◌⨟◌, if◌then◌else◌, try◌then◌else◌, ◌!, break, skip, fail, Configuration, ⟨◌∣◌⟩, result, failure, Outcome, graph, fails, bottom}
+use Rattle.published.specs.Semantics.{ComSeq, call, ◌⨟◌, when◌then◌else◌, try◌then◌else◌, ◌!, break, skip, fail, Configuration, ⟨◌∣◌⟩, result, failure, Outcome, graph, fails, bottom}
 
 -- U holds of each rule set that P calls
 abbrev pub Calls {ℓ} : (List Rule → Type ℓ) → ComSeq → Type ℓ
 Calls U (call R) = U R
 Calls U (P ⨟ Q) = Calls U P × Calls U Q
-Calls U (if C then P else Q) = Calls U C × Calls U P × Calls U Q
+Calls U (when C then P else Q) = Calls U C × Calls U P × Calls U Q
 Calls U (try C then P else Q) = Calls U C × Calls U P × Calls U Q
 Calls U (P !) = Calls U P
 Calls U break = Unit {ℓ}

@@ -2,7 +2,7 @@
 use Rattle.std.specs.Prelude.{List}
 use Rattle.meaning.specs.Image.{Rule}
 use Rattle.published.specs.Semantics
-use Rattle.published.specs.Semantics.{ComSeq, ◌⨟◌, if◌then◌else◌, break, skip, fail, Configuration, ⟨◌∣◌⟩, result, failure, [seq₁], [seq₂], [seq₃], [if₁], [if₂], [break], [skip], [fail], last, next}
+use Rattle.published.specs.Semantics.{ComSeq, ◌⨟◌, when◌then◌else◌, break, skip, fail, Configuration, ⟨◌∣◌⟩, result, failure, [seq₁], [seq₂], [seq₃], [if₁], [if₂], [break], [skip], [fail], last, next}
 
 module _ {ℓ κ} (Graph : Type ℓ) (Applied : List Rule → Graph → Graph → Type κ) where
   infix 20 ◌⟶◌
@@ -31,7 +31,7 @@ module _ {ℓ κ} (Graph : Type ℓ) (Applied : List Rule → Graph → Graph �
   fail-results (last x) = elim x [ ]
 
   -- a result of the check is the graph, on which C fails
-  check-fails : {C : ComSeq} {G K : Graph} → ⟨ if C then fail else skip ∣ G ⟩ ⟶⁺ result K → ⟨ C ∣ K ⟩ ⟶⁺ failure
+  check-fails : {C : ComSeq} {G K : Graph} → ⟨ when C then fail else skip ∣ G ⟩ ⟶⁺ result K → ⟨ C ∣ K ⟩ ⟶⁺ failure
   check-fails (next ([if₁] p) q) = absurd (fail-results q)
   check-fails (next ([if₂] p) (last [skip])) = p
   check-fails (next ([if₂] p) (next [skip] q)) = absurd (result-stays q)
@@ -45,5 +45,5 @@ module _ {ℓ κ} (Graph : Type ℓ) (Applied : List Rule → Graph → Graph �
   second (next [break] p) = absurd (break-stays p)
   second (last x) = elim x [ ]
 
-  pub checked : (P C : ComSeq) (G K : Graph) → ⟨ P ⨟ if C then fail else skip ∣ G ⟩ ⟶⁺ result K → ⟨ C ∣ K ⟩ ⟶⁺ failure
+  pub checked : (P C : ComSeq) (G K : Graph) → ⟨ P ⨟ when C then fail else skip ∣ G ⟩ ⟶⁺ result K → ⟨ C ∣ K ⟩ ⟶⁺ failure
   checked P C G K p = let t = second p in check-fails t.1

@@ -2,13 +2,13 @@
 -- alike graphs on alike graphs, all that the program can come to is alike; and where it can come to a graph or fail, it can
 -- neither diverge nor get stuck. Rests on Alike.
 use Rattle.std.specs.Prelude.{ℕ}
-use Rattle.published.specs.Semantics.{ComSeq, call, ◌⨟◌, if◌then◌else◌, try◌then◌else◌, ◌!, break, skip, fail, Configuration, ⟨◌∣◌⟩, result, failure}
+use Rattle.published.specs.Semantics.{ComSeq, call, ◌⨟◌, when◌then◌else◌, try◌then◌else◌, ◌!, break, skip, fail, Configuration, ⟨◌∣◌⟩, result, failure}
 
 -- no rule leads on from a break; from every other command sequence one may
 abbrev pub Halts : ComSeq → Type 0
 Halts (call R) = ⊥
 Halts (P ⨟ Q) = ⊥
-Halts (if C then P else Q) = ⊥
+Halts (when C then P else Q) = ⊥
 Halts (try C then P else Q) = ⊥
 Halts (P !) = ⊥
 Halts break = Unit {0}

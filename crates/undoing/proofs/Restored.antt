@@ -18,7 +18,7 @@ use Rattle.laws.specs.Records.{LegalChange, Within, length-written}
 use Rattle.laws.specs.Restoring.{From, from-host}
 use Rattle.meaning.specs.declared.Layout.{Layout}
 use Rattle.journal.specs.Journal.{tables_of, records_from, put_back, cleared_from}
-use Rattle.journal.specs.Restores.{restores-bytes}
+use Rattle.journal.proofs.Restores.{restores-bytes}
 use Rattle.ledger.specs.Running.{journal_of, ledger_of, Held, Running}
 use Rattle.ledger.specs.Whole.{records-count, running-legal}
 use Rattle.undoing.specs.Undone.{Undone}
