@@ -78,10 +78,10 @@ fn host_files(program: &Published) -> Vec<PathBuf> {
 
 fn run_of_host_file(program: &Published, file: &Path) -> ProgramRun {
     let name = file.file_name().expect("a file has a name").to_string_lossy().into_owned();
-    let source = std::fs::read(file).expect("a host file is there");
+    let source = std::fs::read_to_string(file).expect("a host file is text");
     let graph = text::read_graph(Core::Wide, &name, &source).unwrap_or_else(|complaint| panic!("{}/{complaint}", program.name));
-    let (free_nodes, free_edges) = (program.room)(graph.listed_nodes());
-    let tables = graph.tables(graph.listed_nodes() + free_nodes, graph.listed_edges() + free_edges);
+    let (free_nodes, free_edges) = (program.room)(graph.nodes.len());
+    let tables = graph.tables(graph.listed_nodes + free_nodes, graph.listed_edges + free_edges);
     let (nodes, edges) = tables.unwrap_or_else(|problem| panic!("{}/{name}: {problem}", program.name));
     program.run_on_tables(name, nodes, edges)
 }

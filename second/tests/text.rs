@@ -6,8 +6,6 @@ mod changed_texts;
 mod command_line;
 #[path = "text/commands.rs"]
 mod commands;
-#[path = "text/graph_command_line.rs"]
-mod graph_command_line;
 #[path = "text/helpers.rs"]
 mod helpers;
 #[path = "text/hosts.rs"]

@@ -4,8 +4,6 @@
 mod places;
 #[path = "text_graphs/round_trips.rs"]
 mod round_trips;
-#[path = "text_graphs/tools.rs"]
-mod tools;
 
 use second::encode;
 use second::layout::{Core, Layout};

@@ -1,4 +1,4 @@
-//! The text tools' program: `gp2 asm`, `gp2 dis`, `gp2 dot`, `gp2 graph`, `gp2 renew`, `gp2 pack` and `gp2 unpack`.
+//! The text tools' program: `gp2 asm`, `gp2 dis`, `gp2 dot`, `gp2 renew`, `gp2 pack` and `gp2 unpack`.
 
 use second::text::{perform, task};
 use std::process::ExitCode;

@@ -13,7 +13,7 @@ gp2 asm PROGRAM [--host GRAPH] [--fuel N] [--records N] [--nodes N] [--edges N]
     Assembles a program in GP 2 notation. Without a host graph IMAGE is a program
     image; with one (from GRAPH, or in PROGRAM behind the word `host`) it is a whole
     runner image. Procedures stay procedures where an image can hold them.
-      --host GRAPH   the host graph, a text as an import reads it: [ nodes | edges ]
+      --host GRAPH   the host graph, as [ nodes | edges ]
       --fuel N       0 to 1000000, usually 100000
       --records N    journal records, 0 to 1024, usually 1024
       --nodes N      node slots, up to 512, usually the graph's and 16 free ones
@@ -25,12 +25,7 @@ gp2 asm PROGRAM [--host GRAPH] [--fuel N] [--records N] [--nodes N] [--edges N]
 
 gp2 dis IMAGE [--host] [--core wide|small]
     Prints an image as text that assembles to the same bytes. A runner image's text
-    has its host graph and numbers behind the program; --host prints the graph alone,
-    as an export writes it.
-
-gp2 graph TEXT
-    Prints a text graph in the one spacing of an export, slots closed up, or says where
-    and why an import refuses it.
+    has its host graph and numbers behind the program; --host prints the graph alone.
 
 gp2 dot IMAGE [--after] [--core wide|small]
     Draws the host graph of a runner image as Graphviz text: marks as colours, roots
@@ -55,9 +50,8 @@ gp2 --help
 
 A file named - is the standard input, or the standard output for -o. Refusals are
 written to the standard error as FILE:LINE:COLUMN: what is wrong and what is expected
-(of a host graph also what an import answers; for images FILE: offset, field, what is
-expected, and what a run answers). The exit status is 0 on success, 1 where an input is
-refused, 2 where the command line is.
+(for images FILE: offset, field, what is expected, and what a run answers). The exit
+status is 0 on success, 1 where an input is refused, 2 where the command line is.
 ";
 
 #[derive(Clone, Debug, PartialEq, Eq)]
@@ -65,7 +59,6 @@ pub enum Task {
     Assemble(AssembleTask),
     Disassemble { image: Source, host_only: bool },
     Draw { image: Source, after: bool },
-    Graph { text: String },
     Renew { old: String, new: String },
     Pack { from: String, to: String },
     Unpack { from: String, to: String },
@@ -107,7 +100,6 @@ pub fn task(arguments: &[String]) -> Result<Task, String> {
             let (image, after) = image_and_flag(rest, "--after")?;
             Ok(Task::Draw { image, after })
         }
-        "graph" => Ok(Task::Graph { text: one_file(rest, "TEXT")? }),
         "renew" => {
             let (old, new) = file_and_output(rest, "OLD")?;
             Ok(Task::Renew { old, new })
@@ -126,7 +118,7 @@ pub fn task(arguments: &[String]) -> Result<Task, String> {
     }
 }
 
-const SUBCOMMANDS: &str = "asm, dis, dot, graph, renew, pack, unpack or --help";
+const SUBCOMMANDS: &str = "asm, dis, dot, renew, pack, unpack or --help";
 
 fn is_help(argument: &str) -> bool {
     argument == "--help" || argument == "-h"
@@ -218,18 +210,6 @@ const NO_OUTPUT: &str = "no -o, expected the image's file or -";
 fn value<'a>(option: &str, rest: &mut Iter<'a, String>) -> Result<&'a String, String> {
     rest.next()
         .ok_or(format!("nothing behind `{option}`, expected its value"))
-}
-
-/// The one file of a command line without options, which a message calls so.
-fn one_file(arguments: &[String], what: &str) -> Result<String, String> {
-    let mut file = None;
-    for argument in arguments {
-        match is_file(argument) {
-            true => set_file(&mut file, argument, what)?,
-            false => return Err(format!("no option `{argument}`, expected none")),
-        }
-    }
-    file.ok_or(format!("no {what}, expected a file or -"))
 }
 
 /// The file that is read, which a message calls so, and the one that is written.

@@ -1,10 +1,11 @@
 //! From texts to the program tree, the host graph and the bytes of an image.
 
 use super::complaint::{Complaint, Place, Problem};
-use super::host_graph::HostGraph;
+use super::host_graph::{host_graph, HostGraph};
 use super::image::grouped;
 use super::keeping::{no_numbers, numbers, Numbers, Procedures};
 use super::lower_commands::{commands, Obstacle};
+use super::parse_host;
 use super::parse_program;
 use super::scopes::Scopes;
 use super::sizes::{Sizes, USUAL_FUEL};
@@ -13,7 +14,7 @@ use crate::encode::{self, RunnerInput};
 use crate::layout::{Core, Layout};
 use crate::listing::INPUT_BYTES;
 use crate::tree::{limit, Program};
-use crate::{decode, depth, placement, references, text_graph};
+use crate::{decode, depth, placement, references};
 
 /// What a program text stands for.
 #[derive(Clone, Debug, PartialEq, Eq)]
@@ -49,17 +50,11 @@ pub fn assemble_program(file_name: &str, source: &str) -> Result<Program, Compla
     Ok(assemble(file_name, source)?.program)
 }
 
-/// The host graph that a text stands for, at a core, or why and by what number an import refuses it.
-pub fn read_graph(core: Core, file_name: &str, source: &[u8]) -> Result<HostGraph, Complaint> {
+/// The host graph that a text stands for, at a core.
+pub fn read_graph(core: Core, file_name: &str, source: &str) -> Result<HostGraph, Complaint> {
     let layout = core.layout();
-    match text_graph::read(layout, source) {
-        Ok(host) => Ok(HostGraph { layout, host }),
-        Err(refusal) => {
-            let message = format!("{}; an import answers {}", refusal.message, refusal.answer);
-            let problem = Problem::new(Place::in_bytes(source, refusal.at), message);
-            Err(problem.in_file(file_name))
-        }
-    }
+    let graph = parse_host::host_graph(layout, source).and_then(|text| host_graph(layout, &text));
+    graph.map_err(|problem| problem.in_file(file_name))
 }
 
 /// The runner's input for a program and a host graph, at the graph's layout.
@@ -90,11 +85,11 @@ pub fn runner_input(
 fn assembly(source: &str, procedures: Procedures, layout: &'static Layout) -> Result<Assembly, Problem> {
     let text = parse_program::program(layout, source)?;
     let program = lower(&text, procedures)?;
-    let host = text.host.map(|host| host_section(layout, host)).transpose()?;
+    let host = text.host.as_ref().map(|host| host_section(layout, host)).transpose()?;
     Ok(Assembly { program, host })
 }
 
-fn host_section(layout: &'static Layout, text: HostText) -> Result<HostSection, Problem> {
+fn host_section(layout: &'static Layout, text: &HostText) -> Result<HostSection, Problem> {
     let mut sizes = Sizes::default();
     for number in &text.numbers {
         let set = sizes.set(layout, &number.name.text, &number.value);
@@ -105,7 +100,7 @@ fn host_section(layout: &'static Layout, text: HostText) -> Result<HostSection, 
             )
         })?;
     }
-    let graph = HostGraph { layout, host: text.graph };
+    let graph = host_graph(layout, &text.graph)?;
     let (node_slots, edge_slots) = sizes.slots(&graph);
     let fits = graph.tables(node_slots, edge_slots);
     fits.map_err(|reason| Problem::new(text.place, reason))?;

@@ -36,11 +36,6 @@ impl Cursor {
         self.lexemes[self.at].place
     }
 
-    /// The byte of the text that the token at hand starts with.
-    pub fn offset(&self) -> usize {
-        self.lexemes[self.at].offset
-    }
-
     pub fn advance(&mut self) {
         self.at = (self.at + 1).min(self.lexemes.len() - 1);
     }

@@ -32,15 +32,25 @@ fn read_input() -> io::Result<Vec<u8>> {
 /// The text of a file, which is UTF-8.
 pub fn read_text(file: &str) -> Result<String, String> {
     String::from_utf8(read_bytes(file)?).map_err(|error| {
-        let place = Place::in_characters(error.as_bytes(), error.utf8_error().valid_up_to());
+        let (good, _) = error.as_bytes().split_at(error.utf8_error().valid_up_to());
         let message = "a byte that isn't UTF-8, expected text".to_string();
         Complaint {
             file: file.to_string(),
-            place,
+            place: end_of(good),
             message,
         }
         .to_string()
     })
+}
+
+/// The place behind a text.
+fn end_of(text: &[u8]) -> Place {
+    let text = String::from_utf8_lossy(text);
+    let last_line = text.rsplit('\n').next().unwrap_or("");
+    Place {
+        line: text.matches('\n').count() + 1,
+        column: last_line.chars().count() + 1,
+    }
 }
 
 /// Writes a file, or the standard output for `-`. A regular file comes whole or stays as it was.

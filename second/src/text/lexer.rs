@@ -30,8 +30,6 @@ impl fmt::Display for Token {
 pub struct Lexeme {
     pub token: Token,
     pub place: Place,
-    /// The byte of the text that it starts with.
-    pub offset: usize,
 }
 
 /// Longer symbols stand before their own beginnings.
@@ -48,15 +46,11 @@ pub fn tokens(source: &str) -> Result<Vec<Lexeme>, Problem> {
     };
     let mut lexemes = Vec::new();
     loop {
-        reader.skip_blanks_and_comments()?;
-        let (place, offset) = (reader.place, source.len() - reader.rest.len());
+        reader.skip_blanks_and_comments();
+        let place = reader.place;
         let token = reader.token()?;
         let ended = token == Token::End;
-        lexemes.push(Lexeme {
-            token,
-            place,
-            offset,
-        });
+        lexemes.push(Lexeme { token, place });
         if ended {
             return Ok(lexemes);
         }
@@ -94,28 +88,14 @@ impl<'a> Reader<'a> {
         self.take(end)
     }
 
-    fn skip_blanks_and_comments(&mut self) -> Result<(), Problem> {
+    fn skip_blanks_and_comments(&mut self) {
         loop {
             self.take_while(char::is_whitespace);
-            if self.rest.starts_with("//") {
-                self.take_while(|character| character != '\n');
-            } else if self.rest.starts_with("/*") {
-                self.skip_comment()?;
-            } else {
-                return Ok(());
+            if !self.rest.starts_with("//") {
+                return;
             }
+            self.take_while(|character| character != '\n');
         }
-    }
-
-    /// A comment up to the first `*/` behind its `/*`.
-    fn skip_comment(&mut self) -> Result<(), Problem> {
-        let start = self.place;
-        self.take(2);
-        let Some(end) = self.rest.find("*/") else {
-            return Err(Problem::new(start, "a comment without an end, expected `*/`"));
-        };
-        self.take(end + 2);
-        Ok(())
     }
 
     fn token(&mut self) -> Result<Token, Problem> {

@@ -1,9 +1,8 @@
 //! The text tools: the notation of GP 2 programs and host graphs, read and written.
 //!
 //! A text is cut into tokens (`lexer`), read as it is written (`parse_*` into `syntax`), and put in terms of
-//! the image (`scopes`, `keeping`, `lower_*`, `variables`, `bidirectional`, `host_graph`). Host graphs are read and written by
-//! the crate's `text_graph`. The other way, `image` reads bytes and `print_*` and `dot` write text. `renew` and `packing` make
-//! bytes of bytes. Tables are those of the core that is asked for.
+//! the image (`scopes`, `keeping`, `lower_*`, `variables`, `bidirectional`, `host_graph`). The other way, `image` reads bytes and
+//! `print_*` and `dot` write text. `renew` and `packing` make bytes of bytes. Tables are those of the core that is asked for.
 
 mod arguments;
 mod assemble;
@@ -43,10 +42,11 @@ pub use assemble::{
 };
 pub use complaint::{Complaint, Place};
 pub use dot::drawing;
-pub use host_graph::HostGraph;
+pub use host_graph::{HostEdge, HostGraph, HostNode};
 pub use image::{grouped, Fault};
 pub use keeping::Procedures;
 pub use packing::{pack, unpack};
+pub use print_host::host_graph_text;
 pub use print_program::program_text;
 pub use renew::{renew, HostRenewal, Renewed};
 pub use sizes::Sizes;

@@ -1,27 +1,35 @@
-//! Reading the host section behind a program.
+//! Reading host graphs, alone in a text or in the host section behind a program.
 
-use super::complaint::{Place, Problem};
+use super::complaint::Problem;
 use super::cursor::Cursor;
 use super::lexer::Token;
+use super::parse_rules::{edge, node};
 use super::syntax::*;
-use crate::host::Host;
 use crate::layout::Layout;
-use crate::text_graph::{read_with, Slots};
+
+/// A text that holds one host graph, for tables of a layout, and nothing else.
+pub fn host_graph(layout: &Layout, source: &str) -> Result<HostGraphText, Problem> {
+    let mut cursor = Cursor::new(source)?;
+    let graph = graph(layout, &mut cursor)?;
+    expect_end(&cursor, "the end of the text behind the host graph")?;
+    Ok(graph)
+}
 
 /// A host section starts with `host` and goes on with a number's name or the graph, a rule of that name with `(`.
 pub fn at_host_section(cursor: &Cursor) -> bool {
     cursor.at_word("host") && !matches!(cursor.peek_at(1), Token::Symbol("("))
 }
 
-/// `host fuel 10 records 8 nodes 2 edges 1 [ .. | .. ]`, the last part of this program text.
-pub fn host_section(layout: &Layout, source: &str, cursor: &mut Cursor) -> Result<HostText, Problem> {
+/// `host fuel 10 records 8 nodes 2 edges 1 [ .. | .. ]`, the last part of a program text.
+pub fn host_section(layout: &Layout, cursor: &mut Cursor) -> Result<HostText, Problem> {
     let place = cursor.place();
     cursor.advance();
     let mut numbers = Vec::new();
     while matches!(cursor.peek(), Token::Word(_)) {
         numbers.push(host_number(cursor)?);
     }
-    let graph = graph(layout, source, cursor.offset())?;
+    let graph = graph(layout, cursor)?;
+    expect_end(cursor, "the end of the text behind the host section")?;
     Ok(HostText {
         place,
         numbers,
@@ -53,11 +61,48 @@ fn host_number(cursor: &mut Cursor) -> Result<HostNumber, Problem> {
     }
 }
 
-/// The graph that starts at this byte of a program text and ends with it, slots kept free by `()` included.
-fn graph(layout: &Layout, source: &str, start: usize) -> Result<Host, Problem> {
-    let (_, text) = source.as_bytes().split_at(start);
-    read_with(Slots::Free, layout, text).map_err(|refusal| {
-        let place = Place::in_characters(source.as_bytes(), start + refusal.at);
-        Problem::new(place, refusal.message)
-    })
+fn expect_end(cursor: &Cursor, expected: &str) -> Result<(), Problem> {
+    match cursor.peek() {
+        Token::End => Ok(()),
+        _ => Err(cursor.unexpected(expected)),
+    }
+}
+
+fn graph(layout: &Layout, cursor: &mut Cursor) -> Result<HostGraphText, Problem> {
+    cursor.expect_symbol("[", "at the start of the host graph")?;
+    let nodes = slots(cursor, node, "a node", layout.most_nodes)?;
+    cursor.expect_symbol("|", "behind the nodes, or `(` and a node")?;
+    let edges = slots(cursor, edge, "an edge", layout.most_edges)?;
+    cursor.expect_symbol("]", "behind the edges, or `(` and an edge")?;
+    Ok(HostGraphText { nodes, edges })
+}
+
+fn slots<T>(
+    cursor: &mut Cursor,
+    item: fn(&mut Cursor) -> Result<T, Problem>,
+    kind: &str,
+    most: usize,
+) -> Result<Vec<Option<T>>, Problem> {
+    let mut slots = Vec::new();
+    while cursor.at_symbol("(") {
+        if slots.len() == most {
+            let message = format!("{kind} slot too many, expected at most {most}");
+            return Err(cursor.problem_here(message));
+        }
+        slots.push(slot(cursor, item)?);
+    }
+    Ok(slots)
+}
+
+/// A node or edge, or `()` for a slot that is kept free.
+fn slot<T>(
+    cursor: &mut Cursor,
+    item: fn(&mut Cursor) -> Result<T, Problem>,
+) -> Result<Option<T>, Problem> {
+    if matches!(cursor.peek_at(1), Token::Symbol(")")) {
+        cursor.advance();
+        cursor.advance();
+        return Ok(None);
+    }
+    item(cursor).map(Some)
 }

@@ -25,7 +25,7 @@ pub fn program(layout: &Layout, source: &str) -> Result<ProgramText, Problem> {
         return Err(cursor.unexpected("`Main = ..`: a program has one main command sequence"));
     };
     let host = if at_host_section(&cursor) {
-        Some(host_section(layout, source, &mut cursor)?)
+        Some(host_section(layout, &mut cursor)?)
     } else {
         None
     };

@@ -195,7 +195,7 @@ fn graph(cursor: &mut Cursor, what: &str) -> Result<GraphText, Problem> {
 }
 
 /// `(n1(R), label # mark)`.
-fn node(cursor: &mut Cursor) -> Result<NodeText, Problem> {
+pub fn node(cursor: &mut Cursor) -> Result<NodeText, Problem> {
     cursor.expect_symbol("(", "and a node")?;
     let identifier = cursor.expect_identifier("a node's identifier")?;
     let root = flag(cursor, "R", "`(R)` behind a root's identifier")?;
@@ -213,7 +213,7 @@ fn node(cursor: &mut Cursor) -> Result<NodeText, Problem> {
 }
 
 /// `(e1(B), n1, n2, label # mark)`.
-fn edge(cursor: &mut Cursor) -> Result<EdgeText, Problem> {
+pub fn edge(cursor: &mut Cursor) -> Result<EdgeText, Problem> {
     cursor.expect_symbol("(", "and an edge")?;
     let identifier = cursor.expect_identifier("an edge's identifier")?;
     let bidirectional = flag(

@@ -2,7 +2,6 @@
 //! their type, nodes n0, n1, .., edges e0, e1, ..
 
 use super::print_commands::{declaration, procedure_name};
-use crate::text_graph::label_text;
 use crate::tree::*;
 
 pub fn program_text(program: &Program) -> String {
@@ -104,7 +103,7 @@ impl RulePrinter<'_> {
             .iter()
             .map(|element| self.element(element))
             .collect();
-        label_text(&elements, mark)
+        with_mark(&elements, mark)
     }
 
     fn element(&self, element: &Element) -> String {
@@ -142,5 +141,18 @@ impl RulePrinter<'_> {
                 }
             }
         }
+    }
+}
+
+/// A label of these elements with its mark.
+pub fn with_mark(elements: &[String], mark: u8) -> String {
+    let list = if elements.is_empty() {
+        "empty".to_string()
+    } else {
+        elements.join(":")
+    };
+    match mark {
+        mark::NONE => list,
+        marked => format!("{list} # {}", mark::NAMES[usize::from(marked)]),
     }
 }

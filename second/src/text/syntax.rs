@@ -1,8 +1,6 @@
-//! What a source text says, as it was written: names are not looked up and limits are not checked yet, but for those of
-//! the host graph.
+//! What a source text says, as it was written: names are not looked up and limits are not checked yet.
 
 use super::complaint::Place;
-use crate::host::Host;
 use crate::tree::{Mode, VariableType};
 
 #[derive(Clone, Debug, PartialEq, Eq)]
@@ -165,13 +163,19 @@ pub enum Comparison {
     AtLeast,
 }
 
+/// A host graph as written; `None` stands for a slot that is kept free.
+#[derive(Clone, Debug)]
+pub struct HostGraphText {
+    pub nodes: Vec<Option<NodeText>>,
+    pub edges: Vec<Option<EdgeText>>,
+}
+
 /// The host section behind a program.
 #[derive(Clone, Debug)]
 pub struct HostText {
     pub place: Place,
     pub numbers: Vec<HostNumber>,
-    /// The graph in the slots that the text speaks of.
-    pub graph: Host,
+    pub graph: HostGraphText,
 }
 
 /// One of the numbers of a host section, as `fuel 10`.

@@ -6,7 +6,7 @@ use super::dot::drawing;
 use super::files::{read_bytes, read_text, say, write_bytes};
 use super::image::{is_runner_image, program, runner_image, RunnerImage, IN_OLD_FORM};
 use super::packing::{pack, unpack};
-use super::print_host::host_section_text;
+use super::print_host::{host_graph_text, host_section_text};
 use super::print_program::program_text;
 use super::renew::renew;
 use super::sizes::Sizes;
@@ -16,7 +16,6 @@ use crate::host::Host;
 use crate::layout::Core;
 use crate::listing::run_input_at;
 use crate::old_form;
-use crate::text_graph::written;
 
 /// Does what a command line asks for, or says why not.
 pub fn perform(task: &Task) -> Result<(), String> {
@@ -26,7 +25,6 @@ pub fn perform(task: &Task) -> Result<(), String> {
         Task::Disassemble { image, host_only: false } => print(image, disassemble),
         Task::Draw { image, after: true } => print(image, draw_after),
         Task::Draw { image, after: false } => print(image, draw),
-        Task::Graph { text } => write_bytes("-", graph_again(text)?.as_bytes()),
         Task::Renew { old, new } => renew_file(old, new),
         Task::Pack { from, to } => write_bytes(to, &made(from, pack)?),
         Task::Unpack { from, to } => write_bytes(to, &made(from, unpack)?),
@@ -42,12 +40,6 @@ fn print(image: &Source, tool: fn(Core, &[u8]) -> Result<String, String>) -> Res
 
 fn made<T>(image: &str, tool: impl Fn(&[u8]) -> Result<T, String>) -> Result<T, String> {
     tool(&read_bytes(image)?).map_err(|reason| format!("{image}: {reason}"))
-}
-
-/// The graph of a text in its one spacing.
-fn graph_again(file: &str) -> Result<String, String> {
-    let graph = read_graph(Core::Wide, file, &read_bytes(file)?);
-    graph.map(|it| written(&it.host)).map_err(|complaint| complaint.to_string())
 }
 
 /// Renews an image, and says what was done with its host.
@@ -89,7 +81,7 @@ fn host_of(
         }
         (Some(file), None) => {
             let graph =
-                read_graph(task.core, file, &read_bytes(file)?).map_err(|complaint| complaint.to_string())?;
+                read_graph(task.core, file, &read_text(file)?).map_err(|complaint| complaint.to_string())?;
             Ok(Some((
                 file.clone(),
                 HostSection {
@@ -122,9 +114,9 @@ pub fn disassemble(core: Core, bytes: &[u8]) -> Result<String, String> {
     ))
 }
 
-/// The text of a runner image's host graph alone, as an export writes it.
+/// The text of a runner image's host graph alone.
 pub fn image_graph(core: Core, bytes: &[u8]) -> Result<String, String> {
-    Ok(written(&host(core, &with_host(bytes)?)?))
+    Ok(host_graph_text(&host(core, &with_host(bytes)?)?))
 }
 
 /// A runner image's host graph as Graphviz text.

@@ -6,8 +6,6 @@ use second::text::assemble;
 /// A text in which every part of the notation occurs.
 const EVERYTHING: &str = "
 Main = a!; (b; {a, c};); if (P!) then skip else try Q then fail // a comment
-/* another,
-   of two lines */
 P = [ l() [ | ] => [ | ] interface = {} ] try l else skip
 Q = (a; break)!; {}
 a(x, y: list; i, j: int)
@@ -19,7 +17,7 @@ where not edge(n1, 2) and indeg(2) > 1 and (i <= j)
 roots = preserving
 b() [ | ] => [ | ] interface = {}
 c() [ | ] => [ | ] interface = {} roots = reflecting
-host fuel 10 nodes 4 [ (1(R), 5:-6 # red <1, 2>) <0.5, -1> () | (1, 1, 1, empty) ]
+host fuel 10 nodes 4 [ (1(R), 5:-6 # red) () | (1, 1, 1, empty) ]
 ";
 
 /// The text with some of its characters left out, doubled or replaced by others of it.

@@ -222,7 +222,7 @@ fn a_refused_host_names_its_own_file() {
     assert_refused(
         &output,
         1,
-        "bad.host:2:2: the node `0` twice, expected each identifier once; an import answers 23",
+        "bad.host:2:2: the node `0` twice, expected each identifier once",
     );
     let output = place.gp2(&[
         "asm", "p.gp2", "--host", "p.host", "--nodes", "1", "-o", "p.run",
@@ -249,8 +249,6 @@ fn files_that_are_no_text_or_not_there() {
         &["asm", "none", "-o", "x"][..],
         &["dis", "none"],
         &["dot", "none"],
-        &["graph", "none"],
-        &["asm", "p.gp2", "--host", "none", "-o", "x"],
         &["renew", "none", "-o", "x"],
         &["pack", "none", "-o", "x"],
         &["unpack", "none", "-o", "x"],
@@ -288,11 +286,11 @@ fn numbers_need_a_host_and_a_host_stands_once() {
 const MISUSES: &[(&[&str], &str)] = &[
     (
         &[],
-        "no subcommand, expected asm, dis, dot, graph, renew, pack, unpack or --help",
+        "no subcommand, expected asm, dis, dot, renew, pack, unpack or --help",
     ),
     (
         &["run"],
-        "no subcommand `run`, expected asm, dis, dot, graph, renew, pack, unpack or --help",
+        "no subcommand `run`, expected asm, dis, dot, renew, pack, unpack or --help",
     ),
     (&["asm", "-o", "x"], "no PROGRAM, expected a file or -"),
     (&["asm", "p.gp2"], "no -o, expected the image's file or -"),
@@ -346,9 +344,6 @@ const MISUSES: &[(&[&str], &str)] = &[
         &["dot", "x", "--host"],
         "no option `--host`, expected --after or --core",
     ),
-    (&["graph"], "no TEXT, expected a file or -"),
-    (&["graph", "x", "y"], "`y` beside another TEXT, expected one"),
-    (&["graph", "x", "--core"], "no option `--core`, expected none"),
     (&["renew", "-o", "x"], "no OLD, expected a file or -"),
     (&["renew", "x"], "no -o, expected the image's file or -"),
     (
@@ -414,7 +409,6 @@ fn help_is_printed_on_the_standard_output() {
             "gp2 asm PROGRAM",
             "gp2 dis IMAGE",
             "gp2 dot IMAGE",
-            "gp2 graph TEXT",
             "gp2 renew OLD -o NEW",
             "gp2 pack IMAGE -o SMALL",
             "gp2 unpack SMALL -o IMAGE",

@@ -2,41 +2,40 @@
 
 use super::helpers::{EDGE, NODE, THREE_RULES};
 use second::encode;
-use second::host::{Edge, Label, Node};
 use second::layout::Core;
-use second::text::{assemble, read_graph, runner_input, HostGraph, HostSection, Sizes};
+use second::text::{assemble, read_graph, runner_input, HostGraph, Sizes};
 use second::tree::{mark, Command, Program};
 
 fn graph(source: &str) -> HostGraph {
-    read_graph(Core::Wide, "test", source.as_bytes())
-        .unwrap_or_else(|complaint| panic!("{complaint}"))
+    read_graph(Core::Wide, "test", source).unwrap_or_else(|complaint| panic!("{complaint}"))
 }
 
 fn refusal(source: &str) -> String {
-    let complaint = read_graph(Core::Wide, "host", source.as_bytes()).expect_err("not refused");
+    let complaint = read_graph(Core::Wide, "host", source).expect_err("not refused");
     complaint.to_string()["host:".len()..].to_string()
-}
-
-/// The host section behind a program on the first line.
-fn section(text: &str) -> Result<HostSection, String> {
-    let assembly = assemble("test", &format!("Main = skip\n{text}"));
-    let assembly = assembly.map_err(|complaint| complaint.to_string()["test:".len()..].to_string())?;
-    Ok(assembly.host.expect("a host section"))
 }
 
 #[test]
 fn nodes_and_edges_keep_the_order_read() {
-    let host = graph(
+    let graph = graph(
         "// Two nodes.
         [ (b(R), 5:-6 # grey) (7, empty) | (x, 7, b, empty # dashed) (7, b, b, 1:2:3:4 # red) ]",
-    )
-    .host;
-    let node = |mark, root, atoms: &[i32]| Node { mark, root, label: Label::of(atoms) };
-    let nodes = [node(mark::GREY, true, &[5, -6]), node(mark::NONE, false, &[])];
-    assert_eq!(host.nodes, nodes.map(Some));
-    let edge = |mark, source, target, atoms: &[i32]| Edge { mark, source, target, label: Label::of(atoms) };
-    let edges = [edge(mark::DASHED, 1, 0, &[]), edge(mark::RED, 0, 0, &[1, 2, 3, 4])];
-    assert_eq!(host.edges, edges.map(Some));
+    );
+    assert_eq!(graph.nodes[0].identifier, "b");
+    assert_eq!(
+        (graph.nodes[0].mark, graph.nodes[0].root),
+        (mark::GREY, true)
+    );
+    assert_eq!(graph.nodes[0].atoms, [5, -6]);
+    assert_eq!(
+        (graph.nodes[1].mark, graph.nodes[1].root),
+        (mark::NONE, false)
+    );
+    assert_eq!(graph.nodes[1].atoms, []);
+    assert_eq!((graph.edges[0].source, graph.edges[0].target), (1, 0));
+    assert_eq!((graph.edges[1].source, graph.edges[1].target), (0, 0));
+    assert_eq!(graph.edges[0].mark, mark::DASHED);
+    assert_eq!(graph.edges[1].atoms, [1, 2, 3, 4]);
 }
 
 #[test]
@@ -53,23 +52,22 @@ fn tables_have_the_asked_slots_with_free_ones_behind() {
 }
 
 #[test]
-fn an_empty_pair_of_parentheses_keeps_a_slot_free_in_a_host_section() {
-    let graph = section("host [ () (1, 5) () (2, 6) | () (1, 2, 1, empty) ]").expect("legal").graph;
-    assert_eq!((graph.listed_nodes(), graph.listed_edges()), (4, 2));
+fn an_empty_pair_of_parentheses_keeps_a_slot_free() {
+    let graph = graph("[ () (1, 5) () (2, 6) | () (1, 2, 1, empty) ]");
+    assert_eq!(
+        graph.nodes.iter().map(|node| node.slot).collect::<Vec<_>>(),
+        [1, 3]
+    );
     let (nodes, edges) = graph.tables(4, 2).expect("enough slots");
     assert_eq!(nodes[..NODE], [0; NODE]);
     assert_eq!(nodes[NODE..2 * NODE], encode::node_slot(0, false, &[5]));
     assert_eq!(nodes[3 * NODE..], encode::node_slot(0, false, &[6]));
     assert_eq!(edges[EDGE..], encode::edge_slot(0, 3, 1, &[]));
-    let alone = "1:4: found `)`, expected a node's identifier; an import answers 22";
-    assert_eq!(refusal("[ () (1, 5) | ]"), alone);
-    let behind = "2:11: found `<`, expected `(` and a node or `|` behind the nodes";
-    assert_eq!(section("host [ () <1, 2> | ]").expect_err("not refused"), behind);
 }
 
 #[test]
 fn tables_are_refused_with_too_few_or_too_many_slots() {
-    let graph = graph("[ (1, 5) (2, 5) | (1, 1, 1, empty) ]");
+    let graph = graph("[ (1, 5) () | (1, 1, 1, empty) ]");
     assert!(graph.tables(2, 1).is_ok());
     assert!(graph.tables(512, 1024).is_ok());
     let refused = |nodes, edges| graph.tables(nodes, edges).expect_err("refused");
@@ -155,7 +153,7 @@ fn a_host_section_gives_graph_and_numbers() {
         edges: Some(1),
     };
     assert_eq!(host.sizes, sizes);
-    assert_eq!(host.graph.listed_nodes(), 2);
+    assert_eq!(host.graph.nodes.len(), 2);
 }
 
 #[test]
@@ -209,98 +207,119 @@ const REFUSED_SECTIONS: &[(&str, &str)] = &[
     ),
     (
         "host [ | ] Main = skip",
-        "2:12: found `Main`, expected the end of the text behind the graph",
-    ),
-    (
-        "host",
-        "2:5: found the end of the text, expected `[` at the start of the graph",
+        "2:12: found `Main`, expected the end of the text behind the host section",
     ),
     (
         "host\n[ (1, x) | ]",
-        "3:7: found `x`, expected `empty` or an integer",
-    ),
-    (
-        "host [ (1, 1) () | (1, 1, 2, 1) ]",
-        "2:27: no node `2`, expected one of the graph's identifiers",
-    ),
-    (
-        "host // \u{e4}\n/* \u{e4}\u{f6} */ [ (1, 1 # dashed) | ]",
-        "3:20: the mark `dashed` on a node, expected one of red, green, blue, grey",
-    ),
-    (
-        "host [ (1, 1) | ] /* x",
-        "2:19: a comment without an end, expected `*/`",
+        "3:7: a host label has integers alone, expected one",
     ),
 ];
 
 #[test]
 fn host_sections_are_refused_with_their_places() {
-    for (text, expected) in REFUSED_SECTIONS {
-        let found = section(text).expect_err("not refused");
-        assert!(found.starts_with(expected), "{text}\n{found}");
+    let refusal = |section: &str| {
+        let complaint = assemble("test", &format!("Main = skip\n{section}"));
+        complaint.expect_err("not refused").to_string()["test:".len()..].to_string()
+    };
+    for (section, expected) in REFUSED_SECTIONS {
+        let found = refusal(section);
+        assert!(found.starts_with(expected), "{section}\n{found}");
     }
 }
 
-/// Host graphs, and the refusal of each but for the number.
-const REFUSED_GRAPHS: [(u32, &[(&str, &str)]); 3] = [(22, OUTSIDE_THE_GRAMMAR), (23, WRONG_NAMES), (24, UNFIT)];
-
-const OUTSIDE_THE_GRAMMAR: &[(&str, &str)] = &[
-    ("", "1:1: found the end of the text, expected `[` at the start of the graph"),
-    ("[ (1, 5) ]", "1:10: found `]`, expected `<` and a position, `(` and a node or `|` behind the nodes"),
-    ("[ (1, 5) | (1, 1, 1, 5)", "1:24: found the end of the text, expected `(` and an edge or `]` behind the edges"),
-    ("[ | ] x", "1:7: found `x`, expected the end of the text behind the graph"),
-    ("[ (1, 5) | (e(B), 1, 1, 6) ]", "1:14: found `(`, expected `,` and a source behind the edge's identifier"),
-    ("[ (1, 1+1) | ]", "1:8: found `+`, expected `:` and another integer, `#` and a mark, `<` and a position or `)` behind the node's label"),
-    ("[ (1, 1:empty) | ]", "1:9: found `empty`, expected an integer"),
-    ("[ (1, (1)) | ]", "1:7: found `(`, expected `empty` or an integer"),
-    ("[ (1, \"a\") | ]", "1:7: found `\"`, expected `empty` or an integer"),
-    ("[ (1, -x) | ]", "1:8: found `x`, expected digits behind `-`"),
-    ("[ (1, 5 # any) | ]", "1:11: found `any`, expected a mark: red, green, blue, grey or dashed"),
-    ("[ (1) | ]", "1:5: found `)`, expected `(R)` of a root or `,` and a label behind the node's identifier"),
-    ("[ (1(R, 5) | ]", "1:7: found `,`, expected `)` behind `(R`"),
-    ("[ (1, 5) <1.5> | ]", "1:14: found `>`, expected `,` and the second number of the position"),
-    ("[ |\n] /* x", "2:6: a comment without an end, expected `*/`"),
-    ("[ | \u{e4} ]", "1:5: found the byte 0xc3, expected `(` and an edge or `]` behind the edges"),
-];
-
-const WRONG_NAMES: &[(&str, &str)] = &[
-    ("[ (1, 5) (1, 6) | ]", "1:11: the node `1` twice, expected each identifier once"),
-    ("[ (1, 5) |\n (e, 1, 1, 6) (e, 1, 1, 6) ]", "2:16: the edge `e` twice, expected each identifier once"),
-    ("[ (1, 5) | (e, 2, 1, 6) ]", "1:16: no node `2`, expected one of the graph's identifiers"),
-    ("[ (1, 5) | (e, 1, 2, 6) ]", "1:19: no node `2`, expected one of the graph's identifiers"),
-    ("[ (1, 99999999999) | (e, 1, 2, 6) ]", "1:29: no node `2`, expected one of the graph's identifiers"),
-];
-
-const UNFIT: &[(&str, &str)] = &[
-    ("[ (1, 2147483648) | ]", "1:7: 2147483648 can't be held, expected a number from -2147483648 to 2147483647"),
-    ("[ (1, 5:- 2147483649) | ]", "1:9: -2147483649 can't be held, expected a number from -2147483648 to 2147483647"),
-    ("[ (1, 1:2:3:4:5:6:7:8:9) | ]", "1:23: an atom too many, expected at most 8"),
-    ("[ (1, 5 # dashed) | ]", "1:11: the mark `dashed` on a node, expected one of red, green, blue, grey"),
-    ("[ (1, 5) | (1, 1, 1, 5 # grey) ]", "1:26: the mark `grey` on an edge, expected one of red, green, blue, dashed"),
-    ("[ (1, 5 # dashed) | (1, 1, 1, 5 # grey) ]", "1:11: the mark `dashed` on a node, expected one of red, green, blue, grey"),
+/// Host graphs, and the start of the refusal of each.
+const REFUSED_GRAPHS: &[(&str, &str)] = &[
+    (
+        "",
+        "1:1: found the end of the text, expected `[` at the start of the host graph",
+    ),
+    (
+        "[ (1, 5) ]",
+        "1:10: found `]`, expected `|` behind the nodes, or `(` and a node",
+    ),
+    (
+        "[ (1, 5) | (1, 1, 1, 5)",
+        "1:24: found the end of the text, expected `]` behind the edges",
+    ),
+    (
+        "[ | ] x",
+        "1:7: found `x`, expected the end of the text behind the host graph",
+    ),
+    (
+        "[ (1, 5) (1, 6) | ]",
+        "1:11: the node `1` twice, expected each identifier once",
+    ),
+    (
+        "[ (1, 5) |\n (e, 1, 1, 6) (e, 1, 1, 6) ]",
+        "2:16: the edge `e` twice, expected each identifier once",
+    ),
+    (
+        "[ (1, 5) | (e, 2, 1, 6) ]",
+        "1:16: no node `2`, expected one of the host graph's identifiers",
+    ),
+    (
+        "[ (1, 5) | (e, 1, 2, 6) ]",
+        "1:19: no node `2`, expected one of the host graph's identifiers",
+    ),
+    (
+        "[ (1, 5) | (e(B), 1, 1, 6) ]",
+        "1:13: a bidirectional edge in a host graph, expected no `(B)`",
+    ),
+    (
+        "[ (1, 2147483648) | ]",
+        "1:7: 2147483648 can't be held, expected a number from -2147483648",
+    ),
+    (
+        "[ (1, -2147483649) | ]",
+        "1:7: -2147483649 can't be held, expected a number from -2147483648",
+    ),
+    (
+        "[ (1, 1:2:3:4:5:6:7:8:9) | ]",
+        "1:23: an atom too many, expected at most 8",
+    ),
+    (
+        "[ (1, 1+1) | ]",
+        "1:7: a host label has integers alone, expected one",
+    ),
+    (
+        "[ (1, \"a\") | ]",
+        "1:7: a string can't be held, expected an integer or a variable",
+    ),
+    (
+        "[ (1, 5 # any) | ]",
+        "1:11: mark any in a host graph, expected another mark or none",
+    ),
+    (
+        "[ (1, 5 # dashed) | ]",
+        "1:11: found `dashed`, expected a mark of a node: red, green, blue, grey, any",
+    ),
+    (
+        "[ (1, 5) | (1, 1, 1, 5 # grey) ]",
+        "1:26: found `grey`, expected a mark of an edge: red, green, blue, dashed, any",
+    ),
+    (
+        "[ (1) | ]",
+        "1:5: found `)`, expected `,` and a label behind the node's identifier",
+    ),
 ];
 
 #[test]
-fn host_graphs_are_refused_with_their_places_and_numbers() {
-    for (answer, graphs) in REFUSED_GRAPHS {
-        for (source, expected) in graphs {
-            assert_eq!(refusal(source), format!("{expected}; an import answers {answer}"), "{source}");
-        }
+fn host_graphs_are_refused_with_their_places() {
+    for (source, expected) in REFUSED_GRAPHS {
+        let found = refusal(source);
+        assert!(found.starts_with(expected), "{source}\n{found}");
     }
 }
 
 #[test]
 fn the_slot_behind_a_full_table_is_refused() {
     let nodes = vec!["()"; 513].join(" ");
-    let found = section(&format!("host [ {nodes} | ]")).expect_err("not refused");
-    assert_eq!(found, "2:1544: a node slot too many, expected at most 512");
-    let edges = vec!["(e, a, b, 1)"; 1025].join("\n");
-    let expected = "1026:1: an edge slot too many, expected at most 1024; an import answers 24";
-    assert_eq!(refusal(&format!("[ |\n{edges} ]")), expected);
-}
-
-#[test]
-fn a_host_of_any_bytes_in_its_comments_is_read() {
-    let graph = read_graph(Core::Wide, "test", b"[ (1, 5) /* \xff */ | ] // \x80");
-    assert_eq!(graph.expect("legal").listed_nodes(), 1);
+    let found = refusal(&format!("[ {nodes} | ]"));
+    assert_eq!(found, "1:1539: a node slot too many, expected at most 512");
+    let edges = vec!["()"; 1025].join("\n");
+    let found = refusal(&format!("[ |\n{edges} ]"));
+    assert_eq!(
+        found,
+        "1026:1: an edge slot too many, expected at most 1024"
+    );
 }

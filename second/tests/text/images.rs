@@ -376,6 +376,7 @@ fn the_graph_alone_is_text_with_slot_numbers() {
     let expected = "\
 [
   (0(R), 5:-7)
+  ()
   (2, empty # red)
   (3, 1 # green)
   (4, 2 # blue)

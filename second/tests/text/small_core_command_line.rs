@@ -45,7 +45,7 @@ fn a_graph_that_doesnt_fit_the_small_core_is_refused_with_its_place() {
     let asm = ["asm", "p.gp2", "--host", "wide.host", "-o", "p.run"];
     assert_done(&place.gp2(&asm));
     let refused = place.gp2(&[&asm[..], &["--core", "small"]].concat());
-    assert_refused(&refused, 1, "wide.host:2:7: an atom too many, expected at most 1; an import answers 24");
+    assert_refused(&refused, 1, "wide.host:2:7: an atom too many, expected at most 1");
     let refused = place.gp2(&["pack", "p.run", "-o", "small.run"]);
     assert_refused(&refused, 1, "p.run: node 1 has a label of 2 atoms, expected at most 1");
     assert_eq!(place.files(), ["p.gp2", "p.host", "p.run", "wide.host"]);

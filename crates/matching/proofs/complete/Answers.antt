@@ -33,6 +33,6 @@ returns c =
     c.all_tests.ensures (all_placed _ _ _ _ w c.requires.room c.requires.inside)
     ∙ sym (both_yes _ _ (ap not
     (elim c.if-plan.branch [
-      then-plan+else-any_dangles k ↦ sym (k.any_dangles.ensures w.rule (numbers w)) ∙ k.if-any_dangles.false
-    | else-plan k ↦ none-dangles _ _ _ _ (omega (arith, k.if-plan.false, q.items.nodes, q.interface))
+      | then-plan+else-any_dangles k ↦ sym (k.any_dangles.ensures w.rule (numbers w)) ∙ k.if-any_dangles.false
+      | else-plan k ↦ none-dangles _ _ _ _ (omega (arith, k.if-plan.false, q.items.nodes, q.interface))
     ])))

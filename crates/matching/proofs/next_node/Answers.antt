@@ -34,9 +34,9 @@ unlike : (c : After-next_like-z)
 unlike c w =
     let a = c.args in
     let linked = λ (v : Known a.rule.now a.plan.now).
-        nodes-join (host_of a.l a.nodes.now a.edges.now) v.rule a.at.now a.i (level-room c.requires.ready (omega arith))
-        (omega (arith, nodes-of _ _ v)) a.c c.loop-x.x c.next_candidate-y.result (c.loop-x.invariant.2 v)
-        (c.next_candidate-y.ensures.1 v) in
+    nodes-join (host_of a.l a.nodes.now a.edges.now) v.rule a.at.now a.i (level-room c.requires.ready (omega arith))
+    (omega (arith, nodes-of _ _ v)) a.c c.loop-x.x c.next_candidate-y.result (c.loop-x.invariant.2 v)
+    (c.next_candidate-y.ensures.1 v) in
     nodes-join (host_of a.l a.nodes.now a.edges.now) w.rule a.at.now a.i (level-room c.requires.ready (omega arith))
     (omega (arith, nodes-of _ _ w)) a.c c.next_candidate-y.result c.next_like-z.result (linked w)
     (λ x k l. (c.next_like-z.ensures w).passed x k l (take a.i a.at.now))

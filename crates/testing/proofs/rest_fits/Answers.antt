@@ -62,9 +62,9 @@ returns c =
     let l = c.requires.likely w in
     let agrees : Agrees start w =
     elim c.if-sort-ne-LENGTH.branch [
-      then-sort-ne-LENGTH+then-sort-ne-CONSTANT+else-not-compared k ↦ compared_is l _ (k.compared.ensures (tried start w)) ∙ k.if-not-compared.false
-    | then-sort-ne-LENGTH+else-sort-ne-CONSTANT k ↦ by-atom start w k.if-sort-ne-CONSTANT.false
-    | else-sort-ne-LENGTH k ↦ by_length start w k.if-sort-ne-LENGTH.false
+      | then-sort-ne-LENGTH+then-sort-ne-CONSTANT+else-not-compared k ↦ compared_is l _ (k.compared.ensures (tried start w)) ∙ k.if-not-compared.false
+      | then-sort-ne-LENGTH+else-sort-ne-CONSTANT k ↦ by-atom start w k.if-sort-ne-CONSTANT.false
+      | else-sort-ne-LENGTH k ↦ by_length start w k.if-sort-ne-LENGTH.false
     ]
     in
     left-tests l agrees _ (c.tests_so_far.ensures (tried start w))
