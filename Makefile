@@ -1,5 +1,5 @@
 # `make run` runs the main job, `make test` runs everything that is checked. The others: `make library`, `make driver`,
-# `make bench`, `make fuzz`, `make memory`, `make carriers`, `make graph`, `make map`, `make install PREFIX=..`. ARCH=aarch64 or ARCH=x86_64 says for which
+# `make bench`, `make fuzz`, `make memory`, `make carriers`, `make map`, `make install PREFIX=..`. ARCH=aarch64 or ARCH=x86_64 says for which
 # processor; without it, for this machine's own. CORE=small says that the library is to have the small core's calls alone, and that
 # `make run` runs on it. OPTIMIZE=s or OPTIMIZE=z says that the library is to be small in the place of fast.
 
@@ -30,7 +30,7 @@ ROUNDS ?= 10
 
 export ARCH
 
-.PHONY: run test tools runner graph carriers library driver bench fuzz memory map install clean
+.PHONY: run test tools runner carriers library driver bench fuzz memory map install clean
 
 # Runs an image by the proved runner of a core, x86-64 code.
 run: tools runner
@@ -50,13 +50,6 @@ tools:
 # The runner program and what it rests on: rt builds what it has proved. What is proved already is not proved again.
 runner:
 	@tools/prove programs $(RUNNER_$(CORE))
-
-# The program that puts a text graph into the one spacing, or says where it breaks: make graph TEXT=FILE.
-graph:
-	@tools/prove programs text_graph
-ifdef TEXT
-	@tools/processor run x86_64 target/bin/text_graph <$(TEXT)
-endif
 
 # The programs that carry tables between the old layout and today's: target/bin/widen and target/bin/narrow, x86-64 code.
 carriers:
