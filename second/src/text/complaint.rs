@@ -2,16 +2,7 @@
 
 use std::fmt;
 
-/// A place in a source text. Lines and columns count from 1, columns in characters.
-#[derive(Clone, Copy, Debug, PartialEq, Eq)]
-pub struct Place {
-    pub line: usize,
-    pub column: usize,
-}
-
-impl Place {
-    pub const START: Place = Place { line: 1, column: 1 };
-}
+pub use crate::text_graph::Place;
 
 /// A refusal inside one source text, before the text's name is known.
 #[derive(Clone, Debug, PartialEq, Eq)]

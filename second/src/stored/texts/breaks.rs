@@ -19,6 +19,7 @@ pub fn broken_texts() -> Vec<Vec<u8>> {
         texts.extend(changed_at(place));
     }
     texts.extend(FURTHER.map(str::to_string));
+    texts.extend(along());
     texts.extend(far_away());
     let mut texts: Vec<Vec<u8>> = texts.into_iter().map(String::into_bytes).collect();
     let refusals = refusals::of_import(LAYOUT).into_iter();
@@ -70,6 +71,11 @@ const FURTHER: [&str; 20] = [
     "[|]\n\u{feff}",
     "\u{feff}[|]",
 ];
+
+/// Breaks on each of some lines, in a column of its own.
+fn along() -> impl Iterator<Item = String> {
+    (1..=16).map(|line| format!("[{}{}x", "\n".repeat(line), " ".repeat(3 * line)))
+}
 
 /// Breaks behind many lines and many columns, and too many items, of which none is a break.
 fn far_away() -> Vec<String> {
