@@ -1,64 +1,15 @@
--- Laws of the lengths that both calls look at first, and of the report.
+-- The report that is put: two numbers of four bytes.
 use Prim.Native.Nat.{ℕ}
-use mathlib.Core.Path.{◌≡◌, sym, ◌∙◌, ap}
+use mathlib.Core.Path.{◌≡◌, ◌∙◌, ap}
 use mathlib.Core.List.{List, [], ◌++◌, append-nil}
-use mathlib.Core.Bool.{Bool, true, false}
-use mathlib.Core.Option.{Option, some, none}
 use native.Mathlib.Omega.{arith}
-use borrow.Author.Tests.{eq-eqb, ne_eqb}
 use borrow.Rule.Slice.PartMut.{put_mid}
 use lib.ListN.{length, take, drop, length-drop, drop_of_length-le}
 use lib.Seq.{length-take-le, take_at, drop_at, drop-drop}
-use Rattle.meaning.specs.Basics.{first_failing}
 use Rattle.meaning.specs.Numbers.{bytes}
-use Rattle.meaning.specs.Layout.{Sized, fits_table}
-use Rattle.meaning.specs.Calls.{report_of, length_checks}
-use Rattle.meaning.specs.Laws.Checks.{first-no, first-yes, first-none}
+use Rattle.meaning.specs.Calls.{report_of}
 use Rattle.laws.specs.Numbers.{length-bytes}
-use Rattle.meaning.specs.declared.Layout.{Layout}
-use Rattle.meaning.specs.declared.Refusal.{Refusal}
 use Rattle.answers.specs.Answers.{report_number, report_length}
-use Rattle.meaning.specs.declared.Refusal.TheVariants.{ReportLength, NodeTableLength, EdgeTableLength, JournalLength}
-
--- The lengths.
-
-module _ (L : Layout) (z : Sized L) (nodes edges journal report : List ℕ) where
-  abbrev lengths_fail : Option Refusal
-  lengths_fail = first_failing (length_checks L nodes edges journal report)
-
-  pub report-fails : (length report ≡ report_length → ⊥) → some ReportLength ≡ lengths_fail
-  report-fails h = sym (first-no _ _ _ (ne_eqb (length report) report_length h))
-
-  module _ (r : length report ≡ report_length) where
-    pub nodes-fail : (t : Bool) → t ≡ fits_table L.node L.nodes nodes → t ≡ false → some NodeTableLength ≡ lengths_fail
-    nodes-fail t e h =
-        sym (first-yes _ _ _ (eq-eqb (length report) report_length r)
-        ∙ first-no _ _ _ (ap (λ (n : ℕ). fits_table n L.nodes nodes) (sym z.node) ∙ sym e ∙ h))
-
-    module _ (t : Bool) (e : t ≡ fits_table L.node L.nodes nodes) (h : t ≡ true) where
-      pub edges-fail : (u : Bool) → u ≡ fits_table L.edge L.edges edges → u ≡ false → some EdgeTableLength ≡ lengths_fail
-      edges-fail u f k =
-          sym (first-yes _ _ _ (eq-eqb (length report) report_length r)
-          ∙ first-yes _ _ _ (ap (λ (n : ℕ). fits_table n L.nodes nodes) (sym z.node) ∙ sym e ∙ h)
-          ∙ first-no _ _ _ (ap (λ (n : ℕ). fits_table n L.edges edges) (sym z.edge) ∙ sym f ∙ k))
-
-      module _ (u : Bool) (f : u ≡ fits_table L.edge L.edges edges) (k : u ≡ true) where
-        pub journal-fails : (v : Bool) → v ≡ fits_table L.change L.records journal → v ≡ false → some JournalLength ≡ lengths_fail
-        journal-fails v g m =
-            sym (first-yes _ _ _ (eq-eqb (length report) report_length r)
-            ∙ first-yes _ _ _ (ap (λ (n : ℕ). fits_table n L.nodes nodes) (sym z.node) ∙ sym e ∙ h)
-            ∙ first-yes _ _ _ (ap (λ (n : ℕ). fits_table n L.edges edges) (sym z.edge) ∙ sym f ∙ k)
-            ∙ first-no _ _ _ (ap (λ (n : ℕ). fits_table n L.records journal) (sym z.change) ∙ sym g ∙ m))
-
-        pub lengths-fit : (v : Bool) → v ≡ fits_table L.change L.records journal → v ≡ true → none ≡ lengths_fail
-        lengths-fit v g m =
-            sym (first-yes _ _ _ (eq-eqb (length report) report_length r)
-            ∙ first-yes _ _ _ (ap (λ (n : ℕ). fits_table n L.nodes nodes) (sym z.node) ∙ sym e ∙ h)
-            ∙ first-yes _ _ _ (ap (λ (n : ℕ). fits_table n L.edges edges) (sym z.edge) ∙ sym f ∙ k)
-            ∙ first-yes _ _ _ (ap (λ (n : ℕ). fits_table n L.records journal) (sym z.change) ∙ sym g ∙ m)
-            ∙ first-none)
-
--- The report.
 
 pub report-put : (steps records : ℕ) (report first second : List ℕ) → length report ≡ report_length
     → first ≡ bytes (length (take report_number (drop 0 report))) steps

@@ -9,13 +9,6 @@ ghost use Rattle.answers.specs.Answers.{refusal_of, report_length};
 
 use meaning::{Answer, Layout, Refusal, Stop};
 
-// What a check of a call's input says.
-#[derive(Drop)]
-pub enum Checked {
-    Fine,
-    Refused(Refusal),
-}
-
 // A report: two numbers, the steps and the records.
 #[derive(Drop)]
 pub struct Report {}
@@ -28,23 +21,30 @@ impl Report {
 }
 
 // The lengths, which both calls look at first: the lowest applicable number from 9 to 12.
-pub fn lengths(l: Layout, nodes: &[u8], edges: &[u8], journal: &[u8], report: &[u8]) -> Checked
+#[tactic(auto, unfolding(crate::specs::Answers::refusal_of, meaning::specs::Basics::first_failing, meaning::specs::Basics::choose))]
+pub fn lengths(
+    l: Layout,
+    nodes: &[u8],
+    edges: &[u8],
+    journal: &[u8],
+    report: &[u8],
+) -> Result<(), Refusal>
     requires { Sized l }
     ensures { refusal_of result ≡ first_failing (length_checks l nodes.now edges.now journal.now report.now) }
 {
     if report.len() != Report::LENGTH {
-        return Checked::Refused(Refusal::ReportLength);
+        return Err(Refusal::ReportLength);
     }
     if !slots::fits_table(nodes, l.node, l.nodes) {
-        return Checked::Refused(Refusal::NodeTableLength);
+        return Err(Refusal::NodeTableLength);
     }
     if !slots::fits_table(edges, l.edge, l.edges) {
-        return Checked::Refused(Refusal::EdgeTableLength);
+        return Err(Refusal::EdgeTableLength);
     }
     if !slots::fits_table(journal, l.change, l.records) {
-        return Checked::Refused(Refusal::JournalLength);
+        return Err(Refusal::JournalLength);
     }
-    Checked::Fine
+    Ok(())
 }
 
 // Writes steps and records in a report.
@@ -57,6 +57,7 @@ pub fn put_report(report: &mut [u8], steps: usize, records: usize)
 }
 
 // Writes the report of a refused call: zeros, where it has its length.
+#[tactic(auto, unfolding(meaning::specs::Basics::choose))]
 pub fn refuse(report: &mut [u8])
     ensures { report.new ≡ choose (eqb (length report.old) report_length) (report_of 0 0) report.old }
 {
@@ -67,6 +68,7 @@ pub fn refuse(report: &mut [u8])
 
 // The numbers of the answers.
 
+#[tactic(auto, unfolding(meaning::specs::Calls::refusal_number))]
 fn refusal_number(why: Refusal) -> u32
     ensures { result ≡ refusal_number why }
 {
@@ -92,6 +94,7 @@ fn refusal_number(why: Refusal) -> u32
     }
 }
 
+#[tactic(auto, unfolding(meaning::specs::Calls::stop_number))]
 fn stop_number(why: Stop) -> u32
     ensures { result ≡ stop_number why }
 {
@@ -104,6 +107,7 @@ fn stop_number(why: Stop) -> u32
     }
 }
 
+#[tactic(auto, unfolding(meaning::specs::Calls::answer_number))]
 pub fn answer_number(a: Answer) -> u32
     ensures { result ≡ answer_number a }
 {
