@@ -1,29 +1,21 @@
--- One byte after the other: what `put` has written after each turn. Rests on Text and Laws/Rows.
-use mathlib.Core.Path.{◌≡◌, sym, ◌∙◌, ap}
-use mathlib.Core.List.{List, [], ◌∷◌, ◌++◌}
-use Prim.Native.Nat.{ℕ, suc, ◌+◌, ◌<◌}
-use native.Mathlib.Numerals.{add-one}
+-- Bytes that are copied into a part of a buffer are what `put` adds there. Rests on Text.
+use mathlib.Core.Path.{◌≡◌, refl, sym, ◌∙◌, ap}
+use mathlib.Core.List.{List, ◌++◌, append_assoc}
+use Prim.Native.Nat.{ℕ, ◌+◌, ◌-◌, ◌≤◌}
 use native.Mathlib.Omega.{arith}
-use lib.ListN.{length, get_or, set, take}
-use lib.Seq.{take-suc, take-suc-set, take-length, drop-set-lt}
+use borrow.Rule.Slice.PartMut.{put_mid, post_of, drop_put}
+use lib.ListN.{length, take, length-append}
+use lib.Seq.{length-take-le, take_at}
 use Rattle.writing.specs.Text.{Adds}
-use Rattle.writing.specs.Laws.Rows.{nothing, within, saying, then}
 
-put_one : (out : List ℕ) (i byte : ℕ) → i < length out → Adds 1 (byte ∷ []) out i (set out i byte) (suc i)
-put_one out i byte h =
-    record { written = take-suc-set out i byte h; rest = drop-set-lt (suc i) out i byte (omega arith); ahead = omega arith; short = omega arith }
-
-pub put-none : (text before : List ℕ) (at : ℕ) → Adds 0 (take 0 text) before at before (at + 0)
-put-none text before at = let z : at + 0 ≡ at = omega arith in rw z (nothing 0 before at)
-
-pub put-more : (text before out : List ℕ) (at k : ℕ) → at + k < length out → k < length text → Adds k (take k text) before at out (at + k)
-    → Adds (k + 1) (take (k + 1) text) before at (set out (at + k) (get_or text k 0)) (at + (k + 1))
-put-more text before out at k h i a =
-    let z : at + (k + 1) ≡ suc (at + k) = omega arith in
-    let e : take k text ++ get_or text k 0 ∷ [] ≡ take (k + 1) text = rw (add-one k) (sym (take-suc text k 0 i)) in
-    rw z (saying (take k text ++ get_or text k 0 ∷ []) (take (k + 1) text) e (then a (put_one out (at + k) (get_or text k 0) h)))
-
-pub put_all : (text before out : List ℕ) (at k : ℕ) → k ≡ length text → Adds k (take k text) before at out (at + k)
-    → Adds (length text) text before at out (at + k)
-put_all text before out at k e a =
-    saying (take k text) text (ap (λ (n : ℕ). take n text) e ∙ take-length text) (within k (length text) (omega arith) a)
+pub put-bytes : (text before part : List ℕ) (at : ℕ) → part ≡ text → at + length text ≤ length before
+    → Adds (length text) text before at (put_mid at (at + length text - at) before part) (at + length text)
+put-bytes text before part at e h =
+    let rest : List ℕ = post_of at (at + length text - at) before in
+    let size : length (take at before ++ text) ≡ at + length text = rw (length-append (take at before) text, length-take-le at before (omega arith)) refl in
+    record {
+      written = rw e (ap (take (at + length text)) (sym (append_assoc (take at before) text rest)) ∙ take_at (take at before ++ text) rest (at + length text) size);
+      rest = drop_put at (at + length text) before part (omega arith) h (ap length e ∙ omega arith);
+      ahead = omega arith;
+      short = omega arith;
+    }

@@ -35,12 +35,9 @@ pub fn put(out: &mut [u8], at: usize, text: &[u8]) -> usize
     requires { at + length text.now ≤ length out.old }
     ensures { Adds (length text.now) text.now out.old at out.new result }
 {
-    let mut k: usize = 0;
-    while k < text.len() {
-        out[at + k] = text[k];
-        k += 1;
-    }
-    at + k
+    let end = at + text.len();
+    out[at..end].copy_from_slice(text);
+    end
 }
 
 // The digits of a number.
@@ -70,10 +67,11 @@ pub fn put_atom(out: &mut [u8], at: usize, atom: u32) -> usize
     let n = atom as usize;
     if n < AtomWord::HALF {
         let start = put(out, at, b" ");
-        return put_decimal(out, start, n);
+        put_decimal(out, start, n)
+    } else {
+        let start = put(out, at, b" -");
+        put_decimal(out, start, AtomWord::WHOLE - n)
     }
-    let start = put(out, at, b" -");
-    put_decimal(out, start, AtomWord::WHOLE - n)
 }
 
 // A mark by its name.
@@ -98,9 +96,10 @@ pub fn put_root(out: &mut [u8], at: usize, root: u8) -> usize
     ensures { Adds root_size (space ∷ root_name root) out.old at out.new result }
 {
     if root == 0 {
-        return put(out, at, b" plain");
+        put(out, at, b" plain")
+    } else {
+        put(out, at, b" root")
     }
-    put(out, at, b" root")
 }
 
 // The atoms of a label that lies in a table as words of a line, and the line's end.
@@ -109,12 +108,9 @@ pub fn put_label(out: &mut [u8], start: usize, label: &[u8]) -> usize
     requires label_size_in_bounds { start + label_size ≤ length out.old }
     ensures { Adds label_size (onward (map signed (laid label.now))) out.old start out.new result }
 {
-    let n = laid::count(label);
     let mut at = start;
-    let mut j: usize = 0;
-    while j < n {
+    for j in 0..laid::count(label) {
         at = put_atom(out, at, laid::atom(label, j));
-        j += 1;
     }
     put(out, at, b"\n")
 }

@@ -14,10 +14,10 @@ returns-then-n-lt-HALF c =
     let put-decimal = c.put_decimal in
     atom-plain c.args.atom c.if-n-lt-HALF.true c.put-start.ensures put-decimal.ensures
 
-pub put_decimal-requires-2 : goal.put_decimal-requires-2
-put_decimal-requires-2 c = omega (arith, decimal-length word_digits (whole - c.args.atom) (omega arith) (omega arith))
+pub put_decimal-requires-else-n-lt-HALF : goal.put_decimal-requires-else-n-lt-HALF
+put_decimal-requires-else-n-lt-HALF c = omega (arith, decimal-length word_digits (whole - c.args.atom) (omega arith) (omega arith))
 
-pub returns : goal.returns
-returns c =
-    let put-decimal2 = c.put_decimal-2 in
-    atom-minus c.args.atom c.if-n-lt-HALF.false c.put-start-2.ensures put-decimal2.ensures
+pub returns-else-n-lt-HALF : goal.returns-else-n-lt-HALF
+returns-else-n-lt-HALF c =
+    let put-decimal2 = c.put_decimal-else-n-lt-HALF in
+    atom-minus c.args.atom c.if-n-lt-HALF.false c.put-start-else-n-lt-HALF.ensures put-decimal2.ensures

@@ -7,6 +7,6 @@ pub returns-then-root-eq0 : goal.returns-then-root-eq0
 unfolding letters
 returns-then-root-eq0 c = root-plain c.args.root c.if-root-eq0.true c.put.ensures
 
-pub returns : goal.returns
+pub returns-else-root-eq0 : goal.returns-else-root-eq0
 unfolding letters
-returns c = root-root c.args.root c.if-root-eq0.false c.put-2.ensures
+returns-else-root-eq0 c = root-root c.args.root c.if-root-eq0.false c.put-else-root-eq0.ensures
