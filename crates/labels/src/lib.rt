@@ -30,10 +30,7 @@ pub fn one(x: u32) -> Label
 {
     let mut atoms = [0u32; MOST];
     atoms[0] = x;
-    Label {
-        len: 1,
-        atoms: atoms,
-    }
+    Label { len: 1, atoms }
 }
 
 // The n atoms from a place on.
@@ -42,11 +39,7 @@ pub fn copied(atoms: &[u32], from: usize, n: usize) -> Label
     ensures { Holds (take n (drop from atoms.now)) result }
 {
     let mut out = [0u32; MOST];
-    let mut j: usize = 0;
-    while j < n {
-        out[j] = atoms[from + j];
-        j += 1;
-    }
+    out[..n].copy_from_slice(&atoms[from..from + n]);
     Label { len: n, atoms: out }
 }
 
@@ -54,5 +47,5 @@ pub fn copied(atoms: &[u32], from: usize, n: usize) -> Label
 pub fn height(x: u32) -> u64
     ensures { (result ≡ height x) × (result < 0x100000000) }
 {
-    (x as u64 + 0x80000000) % 0x100000000
+    (u64::from(x) + 0x80000000) % 0x100000000
 }

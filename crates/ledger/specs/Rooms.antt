@@ -1,5 +1,5 @@
 -- The checks of room before any change, in order: 3, 4, 5. Rests on the meaning's Applying and on slots' States.
-use Rattle.std.specs.Prelude.{◌≡◌, refl, List, [], ◌∷◌, ℕ, ◌+◌, ◌/◌, ◌<◌, ◌≤◌, length, leb}
+use Rattle.std.specs.Prelude.{◌≡◌, refl, List, [], ◌∷◌, ℕ, ◌+◌, ◌/◌, ◌<◌, ◌≤◌, length, leb, Result, Ok, Err}
 use Rattle.std.proofs.Common.{sym, ◌∙◌, ap, arith}
 use Rattle.std.proofs.Math.Option.{Option, some, none}
 use borrow.Author.Tests.{le-leb, lt-leb}
@@ -15,13 +15,11 @@ use Rattle.meaning.specs.declared.Stop.{Stop}
 use Rattle.meaning.specs.declared.Stop.TheVariants.{NoNodeRoom, NoEdgeRoom, NoRecordRoom, LabelTooLarge}
 use Rattle.slots.specs.Slots.{states}
 use Rattle.slots.specs.States.{slots-nodes, slots-edges}
-use Rattle.ledger.specs.declared.Applied.{Applied}
-use Rattle.ledger.specs.declared.Applied.TheVariants.{Done, Stopped}
 
 -- what an answer says, as the definitions do
-unfoldable pub stop_of : Applied → Option Stop
-stop_of Done = none
-stop_of (Stopped w) = some w
+unfoldable pub stop_of : Result (Unit {0}) Stop → Option Stop
+stop_of (Ok u) = none
+stop_of (Err w) = some w
 
 -- what is lacking: nodes and edges come in free slots and in those of the nodes and edges that go, and there are so many
 -- records in all
@@ -46,21 +44,21 @@ module _ (nodes_come nodes_free nodes_go edges_come edges_free edges_go all room
   abbrev answer : Option Stop
   answer = lacking nodes_come nodes_free nodes_go edges_come edges_free edges_go all room
 
-  pub lacks-nodes : nodes_free + nodes_go < nodes_come → stop_of (Stopped NoNodeRoom) ≡ answer
+  pub lacks-nodes : nodes_free + nodes_go < nodes_come → stop_of (Err NoNodeRoom) ≡ answer
   unfolding lacking first_failing choose stop_of
   lacks-nodes h = rw (lt-leb _ _ h)
 
   module _ (h : nodes_come ≤ nodes_free + nodes_go) where
-    pub lacks-edges : edges_free + edges_go < edges_come → stop_of (Stopped NoEdgeRoom) ≡ answer
+    pub lacks-edges : edges_free + edges_go < edges_come → stop_of (Err NoEdgeRoom) ≡ answer
     unfolding lacking first_failing choose stop_of
     lacks-edges k = rw (le-leb _ _ h, lt-leb _ _ k)
 
     module _ (k : edges_come ≤ edges_free + edges_go) where
-      pub lacks-records : room < all → stop_of (Stopped NoRecordRoom) ≡ answer
+      pub lacks-records : room < all → stop_of (Err NoRecordRoom) ≡ answer
       unfolding lacking first_failing choose stop_of
       lacks-records l = rw (le-leb _ _ h, le-leb _ _ k, lt-leb _ _ l)
 
-      pub lacks-none : all ≤ room → stop_of Done ≡ answer
+      pub lacks-none : all ≤ room → stop_of (Ok tt) ≡ answer
       unfolding lacking first_failing choose stop_of
       lacks-none l = rw (le-leb _ _ h, le-leb _ _ k, le-leb _ _ l)
 

@@ -13,13 +13,6 @@ ghost use Rattle.ledger.specs.Rooms.{stop_of, lacking};
 use journal::Record;
 use meaning::{Layout, Room, Stop};
 
-// What an application comes to.
-#[derive(Clone, Copy)]
-pub enum Applied {
-    Done,
-    Stopped(Stop),
-}
-
 // Node slot x goes, with its record.
 pub fn free_node(
     l: Layout,
@@ -33,14 +26,8 @@ pub fn free_node(
     requires x_in_bounds { (x < length nodes.old / node_length l) × (used < length journal.old / record_length l) }
     ensures { Leads l (store (of_node x free) (ledger_of l nodes.old edges.now journal.old used)) nodes.new edges.now journal.new (used + 1) }
 {
-    journal::append(
-        l,
-        journal,
-        used,
-        Record::NODE,
-        x,
-        slots::slot(&nodes[..], l.node, x),
-    );
+    let before = slots::slot(&nodes[..], l.node, x);
+    journal::append(l, journal, used, Record::NODE, x, before);
     slots::free_slot(nodes, l.node, x);
 }
 
@@ -57,14 +44,8 @@ pub fn free_edge(
     requires x_in_bounds { (x < length edges.old / edge_length l) × (used < length journal.old / record_length l) }
     ensures { Leads l (store (of_edge x free) (ledger_of l nodes.now edges.old journal.old used)) nodes.now edges.new journal.new (used + 1) }
 {
-    journal::append(
-        l,
-        journal,
-        used,
-        Record::EDGE,
-        x,
-        slots::slot(&edges[..], l.edge, x),
-    );
+    let before = slots::slot(&edges[..], l.edge, x);
+    journal::append(l, journal, used, Record::EDGE, x, before);
     slots::free_slot(edges, l.edge, x);
 }
 
@@ -85,14 +66,8 @@ pub fn store_node(
     requires legal_node { LegalNode l (record { mark = mark; root = root; label = label.now }) }
     ensures { Leads l (store (of_node x (live (record { mark = mark; root = root; label = label.now }))) (ledger_of l nodes.old edges.now journal.old used)) nodes.new edges.now journal.new (used + 1) }
 {
-    journal::append(
-        l,
-        journal,
-        used,
-        Record::NODE,
-        x,
-        slots::slot(&nodes[..], l.node, x),
-    );
+    let before = slots::slot(&nodes[..], l.node, x);
+    journal::append(l, journal, used, Record::NODE, x, before);
     slots::store_node(l, nodes, x, mark, root, label);
 }
 
@@ -114,14 +89,8 @@ pub fn store_edge(
     requires legal_edge { LegalEdge l (record { mark = mark; source = source; target = target; label = label.now }) }
     ensures { Leads l (store (of_edge x (live (record { mark = mark; source = source; target = target; label = label.now }))) (ledger_of l nodes.now edges.old journal.old used)) nodes.now edges.new journal.new (used + 1) }
 {
-    journal::append(
-        l,
-        journal,
-        used,
-        Record::EDGE,
-        x,
-        slots::slot(&edges[..], l.edge, x),
-    );
+    let before = slots::slot(&edges[..], l.edge, x);
+    journal::append(l, journal, used, Record::EDGE, x, before);
     slots::store_edge(l, edges, x, mark, source, target, label);
 }
 
@@ -141,10 +110,8 @@ pub fn free_edges(
     requires below { Below (length edges.old / edge_length l) slots.now n m }
     ensures { Went l (stores (goes (take m (drop n slots.now))) (ledger_of l nodes.now edges.old journal.old used)) nodes.now edges.old journal.old nodes.now edges.new journal.new (used + m) }
 {
-    let mut k: usize = 0;
-    while k < m {
-        free_edge(l, nodes, edges, journal, used + k, slots[n + k]);
-        k += 1;
+    for (k, x) in slots[n..n + m].iter().enumerate() {
+        free_edge(l, nodes, edges, journal, used + k, *x);
     }
 }
 
@@ -205,23 +172,19 @@ pub fn room(
     edges_come: usize,
     edges_go: usize,
     records: usize,
-) -> Applied
+) -> Result<(), Stop>
     requires sized { Sized l }
     requires nodes_go_bound { (nodes_go ≤ 256) × (edges_go ≤ 256) }
     ensures { stop_of result ≡ lacking nodes_come (free_slots (read_nodes l nodes.now)) nodes_go edges_come (free_slots (read_edges l edges.now)) edges_go records (length journal.now / record_length l) }
 {
-    if nodes_go < nodes_come {
-        if slots::free_slots(nodes, l.node) + nodes_go < nodes_come {
-            return Applied::Stopped(Stop::NoNodeRoom);
-        }
+    if nodes_go < nodes_come && slots::free_slots(nodes, l.node) + nodes_go < nodes_come {
+        return Err(Stop::NoNodeRoom);
     }
-    if edges_go < edges_come {
-        if slots::free_slots(edges, l.edge) + edges_go < edges_come {
-            return Applied::Stopped(Stop::NoEdgeRoom);
-        }
+    if edges_go < edges_come && slots::free_slots(edges, l.edge) + edges_go < edges_come {
+        return Err(Stop::NoEdgeRoom);
     }
     if journal.len() / l.change < records {
-        return Applied::Stopped(Stop::NoRecordRoom);
+        return Err(Stop::NoRecordRoom);
     }
-    Applied::Done
+    Ok(())
 }

@@ -1,13 +1,7 @@
 -- `ledger::free_edge` meets its contract.
-use Rattle.std.proofs.Common.{[], length}
-use Rattle.ledger.specs.Steps.{edge_in, edge-gone}
+use Rattle.std.proofs.Common.{[]}
+use Rattle.ledger.specs.Steps.{edge-gone}
 use Rattle.ledger.proofs.free_edge.Goals as goal
 
-pub slot-requires : goal.slot-requires
-slot-requires c = edge_in c.args.l c.requires.held.sized (length c.args.edges.now) c.args.x c.requires.x_in_bounds.0
-
-pub free_slot-requires : goal.free_slot-requires
-free_slot-requires c = edge_in c.args.l c.requires.held.sized (length c.args.edges.now) c.args.x c.requires.x_in_bounds.0
-
 pub returns : goal.returns
-returns c = edge-gone c.args.l c.args.nodes.now c.args.edges.now c.args.journal.now c.args.used c.requires.held _ [] _ _ c.args.x c.requires.x_in_bounds c.slot.ensures.0 c.append.ensures c.free_slot.ensures
+returns c = edge-gone c.args.l c.args.nodes.now c.args.edges.now c.args.journal.now c.args.used c.requires.held _ [] _ _ c.args.x c.requires.x_in_bounds c.slot-before.ensures.0 c.append.ensures c.free_slot.ensures

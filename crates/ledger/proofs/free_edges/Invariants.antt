@@ -1,10 +1,6 @@
 -- `ledger::free_edges` meets its contract. The loop's invariant: the first `k` edges are gone, each with its record.
-use Rattle.std.proofs.Common.{◌-◌, ◌≤◌}
 use Rattle.ledger.specs.Changes.{Going}
 use Rattle.ledger.proofs.free_edges.Given as goal
 
 abbrev pub invariant-loop-k : goal.invariant-loop-k
-invariant-loop-k l = (l.k ≤ l.m) × Going l.l l.nodes l.initial.edges l.initial.journal l.used l.slots l.n l.k l.edges l.journal
-
-abbrev pub decreases-loop-k : goal.decreases-loop-k
-decreases-loop-k l = l.m - l.k
+invariant-loop-k l = Going l.l l.nodes l.initial.edges l.initial.journal l.used l.slots l.n l.k l.edges l.journal
