@@ -5,29 +5,24 @@ ghost use Rattle.std.specs.Prelude.{◌≡◌, ◌+◌, ◌-◌, ◌<◌, ◌≤
 ghost use Rattle.meaning.specs.Numbers.{number};
 ghost use Rattle.fields.specs.Fields.{field_at, nth_field};
 
-// What reading at a place finds.
+// A field: its tag, and where its payload starts and ends. The next field begins where it ends.
 #[derive(Clone, Copy)]
-pub enum Found {
-    // A whole field: its tag, and where its payload starts and ends. The next field begins where it ends.
-    Field(u8, usize, usize),
-    // A field that is cut short.
-    Short,
-    // Nothing left.
-    End,
+pub struct Field {
+    pub tag: u8,
+    pub start: usize,
+    pub end: usize,
 }
 
-pub fn wide(x: u8) -> usize
-    ensures { (result ≡ x) × (result < 256) }
-{
-    x as usize
-}
+// Where a field should begin, there are too few bytes for one.
+#[derive(Clone, Copy)]
+pub struct CutShort;
 
 // The two-byte number at a place.
 pub fn number2(bytes: &[u8], at: usize) -> usize
     requires { at + 2 ≤ length bytes.now }
     ensures { (result ≡ number (take 2 (drop at bytes.now))) × (result < 65536) }
 {
-    256 * wide(bytes[at]) + wide(bytes[at + 1])
+    usize::from(u16::from_be_bytes([bytes[at], bytes[at + 1]]))
 }
 
 // The four-byte number at a place.
@@ -38,53 +33,63 @@ pub fn number4(bytes: &[u8], at: usize) -> usize
     65536 * number2(bytes, at) + number2(bytes, at + 2)
 }
 
-// The field at a place: the reader's work, on a plain slice and number.
-fn field_at(bytes: &[u8], at: usize) -> Found
+// What reading at a place finds: a field, one that is cut short, or nothing left.
+pub fn read_field(bytes: &[u8], at: usize) -> Option<Result<Field, CutShort>>
     ensures { result ≡ field_at bytes.now at }
 {
     let len = bytes.len();
     if len <= at {
-        return Found::End;
+        return None;
     }
     if len - at < 3 {
-        return Found::Short;
+        return Some(Err(CutShort));
     }
     let start = at + 3;
     let n = number2(bytes, at + 1);
     if len - start < n {
-        return Found::Short;
+        return Some(Err(CutShort));
     }
-    Found::Field(bytes[at], start, start + n)
+    Some(Ok(Field {
+        tag: bytes[at],
+        start,
+        end: start + n,
+    }))
 }
 
-// The reader of tagged fields: bytes, and a place in them.
-#[derive(Clone, Copy)]
-pub struct Reader<'a> {
+// The fields of bytes, one after the other, from a place on. One that is cut short is the last.
+#[derive(Drop)]
+pub struct Fields<'a> {
     pub bytes: &'a [u8],
     pub place: usize,
 }
 
-impl<'a> Reader<'a> {
-    // The reader at a place in the bytes.
-    pub fn new(bytes: &'a [u8], place: usize) -> Reader<'a>
-        ensures { (result.bytes ≡ bytes.entry) × (result.place ≡ place) }
+impl<'a> Fields<'a> {
+    pub fn of(bytes: &'a [u8]) -> Fields<'a>
+        ensures { (result.bytes ≡ bytes.entry) × (result.place ≡ 0) }
     {
-        Reader { bytes, place }
-    }
-
-    // What the reader finds at its place.
-    pub fn field(self) -> Found
-        ensures { result ≡ field_at self.entry.bytes.now self.entry.place }
-    {
-        field_at(self.bytes, self.place)
+        Fields { bytes, place: 0 }
     }
 }
 
-// What a reader at a place finds. Its parameters are plain, so callers need no walk.
-pub fn read_field(bytes: &[u8], at: usize) -> Found
-    ensures { result ≡ field_at bytes.now at }
-{
-    Reader::new(bytes, at).field()
+impl Iterator for Fields<'_> {
+    type Item = Result<Field, CutShort>;
+
+    ghost use Rattle.std.specs.Iterator.{at_most};
+    ghost use Rattle.fields.specs.Fields.{Gives};
+
+    ghost next_gives = { λ s r t. Gives s.bytes.now s.place r t.bytes.now t.place };
+
+    ghost remaining = { λ s. at_most (length s.bytes.now - s.place) };
+
+    fn next(&mut self) -> Option<Result<Field, CutShort>> {
+        let found = read_field(self.bytes, self.place);
+        match found {
+            Some(Ok(field)) => self.place = field.end,
+            Some(Err(CutShort)) => self.place = self.bytes.len(),
+            None => {}
+        }
+        found
+    }
 }
 
 // The payload of a field: the part of the bytes between its ends.
@@ -96,24 +101,15 @@ pub fn part(bytes: &[u8], start: usize, end: usize) -> &[u8]
 }
 
 // The field of number n, counted from 0, of fields one after the other.
-pub fn nth_field(bytes: &[u8], n: usize) -> Found
+pub fn nth_field(bytes: &[u8], n: usize) -> Option<Result<Field, CutShort>>
     ensures { result ≡ nth_field n bytes.now 0 }
 {
-    let mut left = n;
-    let mut found = read_field(bytes, 0);
-    while left > 0 {
-        match found {
-            Found::Field(tag, start, end) => {
-                found = read_field(bytes, end);
-            }
-            Found::Short => {
-                return found;
-            }
-            Found::End => {
-                return found;
-            }
-        }
-        left -= 1;
+    let mut place = 0;
+    for _ in 0..n {
+        let Ok(field) = read_field(bytes, place)? else {
+            return Some(Err(CutShort));
+        };
+        place = field.end;
     }
-    found
+    read_field(bytes, place)
 }

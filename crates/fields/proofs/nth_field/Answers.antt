@@ -1,18 +1,18 @@
-use Rattle.std.proofs.Common.{sym, ◌∙◌, rules}
-use Rattle.fields.specs.Laws.{later-start, later-none, later-short, later-end, later-next}
+use Rattle.std.proofs.Common.{◌+◌, ◌-◌, ap, ◌∙◌, Some, arith}
+use Rattle.fields.specs.Laws.{on-field, on-cut, on-end, on-none}
 use Rattle.fields.proofs.nth_field.Goals as goal
 
-pub loop-left-init : goal.loop-left-init
-loop-left-init c = later-start _ _ 0 _ c.read_field-found.ensures
+pub returns-in_err-field : goal.returns-in_err-field
+returns-in_err-field c =
+    c.from_residual.ensures ∙ on-end (c.args.n - c.loop.counter) (c.args.n - (c.loop.counter + 1)) (omega arith) _ _ _ c.read_field.ensures c.in_err-field.was ∙ c.loop.invariant
 
-pub returns-in-Short : goal.returns-in-Short
-returns-in-Short c = sym (later-short c.loop-left.left _ _ c.in-Short.is) ∙ c.loop-left.invariant
+pub returns-in_default : goal.returns-in_default
+returns-in_default c =
+    on-cut (c.args.n - c.loop.counter) (c.args.n - (c.loop.counter + 1)) (omega arith) _ _ _ c.read_field.ensures (c.in_ok-field.was ∙ ap Some c.in_default.is) ∙ c.loop.invariant
 
-pub returns-in-End : goal.returns-in-End
-returns-in-End c = sym (later-end c.loop-left.left _ _ c.in-End.is) ∙ c.loop-left.invariant
-
-pub loop-left-preserved : goal.loop-left-preserved
-loop-left-preserved c = later-next c.loop-left.left _ _ _ _ _ _ c.loop-left-test.true c.in-Field.is c.read_field-found-in-Field.ensures ∙ c.loop-left.invariant
+pub loop-preserved : goal.loop-preserved
+loop-preserved c =
+    on-field (c.args.n - c.loop.counter) (c.args.n - (c.loop.counter + 1)) (omega arith) _ _ _ c.read_field.ensures {g = c.in-Ok.field} (c.in_ok-field.was ∙ ap Some c.in-Ok.is) ∙ c.loop.invariant
 
 pub returns : goal.returns
-returns c = sym (later-none c.loop-left.left _ _ c.loop-left-test.false) ∙ c.loop-left.invariant
+returns c = c.read_field-2.ensures ∙ on-none (c.args.n - c.loop.counter) _ _ (omega arith) ∙ c.loop.invariant

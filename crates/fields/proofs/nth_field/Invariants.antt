@@ -1,12 +1,7 @@
--- `nth_field` meets its contract. The loop's invariant: `left` fields on from what is found is the field of number n.
--- The measure is `left`.
-use Rattle.std.proofs.Common.{◌≡◌, rules}
-use Rattle.fields.specs.Laws.{later}
+-- `nth_field` meets its contract. The loop's invariant: the field of number n is as many fields on from the place as are left.
+use Rattle.std.proofs.Common.{◌≡◌, ◌-◌}
 use Rattle.fields.specs.Fields.{nth_field}
 use Rattle.fields.proofs.nth_field.Given as goal
 
-abbrev pub invariant-loop-left : goal.invariant-loop-left
-invariant-loop-left l = later l.left l.bytes l.found ≡ nth_field l.n l.bytes 0
-
-abbrev pub decreases-loop-left : goal.decreases-loop-left
-decreases-loop-left l = l.left
+abbrev pub invariant-loop : goal.invariant-loop
+invariant-loop l = nth_field (l.n - l.counter) l.bytes l.place ≡ nth_field l.n l.bytes 0

@@ -1,5 +1,5 @@
 -- `number4` meets its contract: its halves are numbers of two bytes.
-use Rattle.std.proofs.Common.{arith, rules}
+use Rattle.std.proofs.Common.{arith}
 use Rattle.fields.specs.Laws.{four_bytes}
 use Rattle.fields.proofs.number4.Goals as goal
 

@@ -1,7 +1,7 @@
--- `field_at` meets its contract: each way out is one answer of `field_at`.
-use Rattle.std.proofs.Common.{arith, rules}
+-- `read_field` meets its contract: each way out is one answer of `field_at`.
+use Rattle.std.proofs.Common.{arith}
 use Rattle.fields.specs.Laws.{at-end, short-small, short_cut, field-there}
-use Rattle.fields.proofs.field_at.Goals as goal
+use Rattle.fields.proofs.read_field.Goals as goal
 
 pub returns-then-len-at : goal.returns-then-len-at
 returns-then-len-at c = at-end _ _ c.if-len-at.true
