@@ -1,5 +1,7 @@
 -- What a reader found, as a loop over fields takes it. Rests on Fields and Laws.
-use Rattle.std.specs.Prelude.{Some, None, Ok, Err}
+use Rattle.std.specs.Prelude.{Result, Some, None, Ok, Err}
+use Rattle.std.specs.Borrow.{Bor}
+use Rattle.std.proofs.Common.{ap}
 use mathlib.Core.Path.{◌≡◌, refl, sym, ◌∙◌}
 use mathlib.Core.Option.{none}
 use mathlib.Core.List.{List}
@@ -10,6 +12,7 @@ use lib.Seq.{take_all}
 use Rattle.meaning.specs.Image.{field}
 use Rattle.fields.specs.declared.Field.{Field}
 use Rattle.fields.specs.declared.CutShort.{CutShort}
+use Rattle.fields.specs.declared.Fields.{Fields}
 use Rattle.fields.specs.Fields.{Found, found, field_at, behind, Gives}
 use Rattle.fields.specs.Laws.{Lies, found-field, found-end, found-cut, short_none, end_none}
 
@@ -40,21 +43,40 @@ module _ (bs : List ℕ) (at : ℕ) {f : Found} (e : f ≡ field_at bs at) where
   pub nearer-cut : {x : CutShort} → f ≡ Some (Err x) → length bs - length bs < length bs - at
   nearer-cut g = let h = found-cut bs at (sym g ∙ e) in omega arith
 
--- A step of the walk over the fields.
+-- A loop over the fields of `bs`: `was` and `at` are the iterator's bytes and place, `rest` and `next` those behind what it gives.
 
-module _ {bs rest : List ℕ} {at next : ℕ} where
-  -- it gives a field: where it lies, and that the walk goes on behind it
-  pub walk-field : {f : Field} → Gives bs at (Some (Ok f)) rest next → Lies bs at f.tag f.start f.end × (next ≡ f.end)
+-- it begins at their start
+pub starts : {b : Bor (List ℕ)} {x y : Fields} → x ≡ y → (y.bytes ≡ b) × (y.place ≡ 0) → (x.bytes.now ≡ b.now) × (x.place ≡ 0)
+starts e f = (ap (λ (x : Fields). x.bytes.now) e ∙ ap (λ (b : Bor (List ℕ)). b.now) f.0, ap (λ (x : Fields). x.place) e ∙ f.1)
+
+-- the field that it gives lies at the place, and it goes on behind it
+pub record Stepped (bs : List ℕ) (at : ℕ) (f : Field) (rest : List ℕ) (next : ℕ) : Type 0 where
+  pub inside : at < length bs
+  pub lies : Lies bs at f.tag f.start f.end
+  pub part : (f.start ≤ f.end) × (f.end ≤ length bs)
+  pub same : rest ≡ bs
+  pub place : next ≡ f.end
+
+module _ {bs was rest : List ℕ} {at next : ℕ} (s : was ≡ bs) where
+  pub gives-field : {x : Result Field CutShort} {f : Field} → Gives was at (Some x) rest next → x ≡ Ok f → Stepped bs at f rest next
   unfolding behind
-  walk-field {f} g = (found-field bs at f.tag f.start f.end g.found, g.place)
+  gives-field {x} {f} g e =
+      let l = found-field bs at f.tag f.start f.end (rw (e, s) at g.found) in
+      record {
+        inside = omega (arith, l.starts, l.ends, l.inside);
+        lies = l;
+        part = part_in l;
+        same = g.same ∙ s;
+        place = rw e at g.place;
+      }
 
-  -- it gives one that is cut short: none is there
-  pub walk-cut : {e : CutShort} → Gives bs at (Some (Err e)) rest next → field (drop at bs) ≡ none
-  walk-cut g = short_none bs at g.found
+  -- one that is cut short: none is there
+  pub gives-cut : {x : Result Field CutShort} {e : CutShort} → Gives was at (Some x) rest next → x ≡ Err e → (at < length bs) × (field (drop at bs) ≡ none)
+  gives-cut g e = let h = rw (e, s) at g.found in (found-cut bs at h, short_none bs at h)
 
-  -- it gives nothing: the bytes end
-  pub walk-end : Gives bs at None rest next → length bs ≤ at
-  walk-end g = found-end bs at g.found
+  -- nothing: the bytes end
+  pub gives-end : Gives was at None rest next → length bs ≤ at
+  gives-end g = found-end bs at (rw s at g.found)
 
 -- the bytes from a place on
 pub tail_part : (n : ℕ) (bs : List ℕ) → take (length bs - n) (drop n bs) ≡ drop n bs

@@ -1,12 +1,10 @@
 -- What the bytes of a label begin with, and which counts are those of its elements. Rests on the meaning's Image and References,
 -- and on Series.
-use Rattle.std.specs.Prelude.{◌≡◌, List, [], ◌∷◌, ℕ, ◌-◌, ◌<◌, ◌≤◌, length, take, drop}
+use Rattle.std.specs.Prelude.{◌≡◌, Option, Some, None, List, [], ◌∷◌, ℕ, ◌-◌, ◌<◌, ◌≤◌, length, take, drop}
 use Rattle.meaning.specs.Image.{Rule, element}
 use Rattle.meaning.specs.References.{lists}
 use Rattle.meaning.specs.declared.Element.{Element}
 use Rattle.parts.specs.Series.{Series}
-use Rattle.parts.specs.declared.Front.{Front}
-use Rattle.parts.specs.declared.Front.TheVariants.{First, Nothing}
 use Rattle.parts.specs.declared.Counts.{Counts}
 
 -- the bytes are those of the elements
@@ -29,9 +27,10 @@ pub record Begins (bs : List ℕ) (e : Element) (end : ℕ) : Type 0 where
   pub inside : end ≤ length bs
   pub next : (l : List Element) → Spells bs l → Next (behind bs end) l e
 
-abbrev pub Opens : List ℕ → Front → Type 0
-Opens bs (First e end) = Begins bs e end
-Opens bs Nothing = (l : List Element) → Spells bs l → l ≡ []
+-- what is found at the front of them: an element, and the place behind it
+abbrev pub Opens : List ℕ → Option (Element × ℕ) → Type 0
+Opens bs (Some (e, end)) = Begins bs e end
+Opens bs None = (l : List Element) → Spells bs l → l ≡ []
 
 -- the counts are the label's
 pub record Counted (x : Rule) (l : List Element) (s : Counts) : Type 0 where

@@ -15,8 +15,7 @@ use Rattle.fields.specs.Image.{field_is, bind_yes}
 use Rattle.fields.specs.Parsed.{one_byte-is, rule_node-is, rule_edge-is, rule_graph-is, types-is, mode-is, rule-is}
 use Rattle.meaning.specs.declared.Element.{Element}
 use Rattle.fields.specs.Laws.{Lies}
-use Rattle.fields.specs.Fields.{nth_field}
-use Rattle.fields.specs.declared.Found.TheVariants.{Field as Lying}
+use Rattle.fields.specs.Fields.{nth_field, found as lying}
 use Rattle.parts.specs.Series.{Series, For, series-none, series-some, series-there, leading-series, only-series, series_append, series-map, nth_part, nth_tag, nth-item, nth-there, nth_beyond}
 
 -- Tags, and how many at the front are of one kind.
@@ -317,7 +316,7 @@ pub record Parted (bs : List ℕ) (x : Rule) : Type 0 where
   pub interface : one_byte (nth_part 3 bs) ≡ some x.interface
   pub tests : only passes_all test 4 (nth_part 4 bs) ≡ some x.tests
   pub preserving : x.preserving ≡ eqb (get_or (nth_part 5 bs) 0 0) 1
-  pub there : (n : ℕ) → n < 5 → (tag : ℕ) × (start : ℕ) × (end : ℕ) × (nth_field n bs 0 ≡ Lying tag start end)
+  pub there : (n : ℕ) → n < 5 → (tag : ℕ) × (start : ℕ) × (end : ℕ) × (nth_field n bs 0 ≡ lying tag start end)
 
 expected : (tag : ℕ) (bs : List ℕ) (d : Field) → expect tag bs ≡ some d → field bs ≡ some d
 unfolding expect

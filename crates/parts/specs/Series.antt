@@ -2,7 +2,7 @@
 -- a loop over them; and the field of a number among them. Rests on the meaning's Image and on fields' Fields and Laws.
 use Rattle.std.proofs.Math.Path.{◌≡◌, refl, sym, ap}
 use Rattle.std.proofs.Common.{◌∙◌}
-use Rattle.std.specs.Prelude.{Bool, get_or, take, drop}
+use Rattle.std.specs.Prelude.{Some, None, Ok, Err, Bool, get_or, take, drop}
 use Rattle.std.proofs.Math.Bool.{true, false}
 use Rattle.std.proofs.Math.Option.{Option, some, none}
 use mathlib.Core.List.{List, [], ◌∷◌, ◌++◌, map}
@@ -13,10 +13,8 @@ use Rattle.meaning.specs.Basics.{every}
 use Rattle.meaning.specs.Image.{field, leading, only, Read, Field as Whole}
 use Rattle.meaning.specs.Laws.Tests.{both_yes, both-no, bind_some, ensure-some, choose_true, choose_false, some_inj, empty-true}
 use Rattle.fields.specs.Image.{field_is}
-use Rattle.fields.specs.Fields.{field_at, onward, nth_field}
+use Rattle.fields.specs.Fields.{Found, found, cut_short, nothing_left, field_at, onward, nth_field}
 use Rattle.fields.specs.Laws.{Lies, found-field, at_field, at-end}
-use Rattle.fields.specs.declared.Found.{Found}
-use Rattle.fields.specs.declared.Found.TheVariants.{Field, Short, End}
 
 -- what holds of the value that is there, if there is one
 abbrev pub For : {A : Type 0} → Option A → (A → Type 0) → Type 0
@@ -178,14 +176,14 @@ module _ {A L : Type 0} {item : ℕ → List ℕ → Option A} {f : A → Bool} 
 
 -- the part of the bytes that is the payload of a field that was found, and its tag
 unfoldable pub part_of : List ℕ → Found → List ℕ
-part_of bs (Field tag start end) = take (end - start) (drop start bs)
-part_of bs Short = []
-part_of bs End = []
+part_of bs (Some (Ok f)) = take (f.end - f.start) (drop f.start bs)
+part_of bs (Some (Err e)) = []
+part_of bs None = []
 
 unfoldable pub tag_of : Found → ℕ
-tag_of (Field tag start end) = tag
-tag_of Short = 0
-tag_of End = 0
+tag_of (Some (Ok f)) = f.tag
+tag_of (Some (Err e)) = 0
+tag_of None = 0
 
 abbrev pub nth_part : ℕ → List ℕ → List ℕ
 nth_part n bs = part_of bs (nth_field n bs 0)
@@ -193,46 +191,46 @@ nth_part n bs = part_of bs (nth_field n bs 0)
 abbrev pub nth_tag : ℕ → List ℕ → ℕ
 nth_tag n bs = tag_of (nth_field n bs 0)
 
-pub part_field : (bs : List ℕ) (f : Found) (tag start end : ℕ) → f ≡ Field tag start end → part_of bs f ≡ take (end - start) (drop start bs)
+pub part_field : (bs : List ℕ) (f : Found) (tag start end : ℕ) → f ≡ found tag start end → part_of bs f ≡ take (end - start) (drop start bs)
 unfolding part_of
 part_field bs f tag start end e = rw e
 
-pub tag-field : (f : Found) (tag start end : ℕ) → f ≡ Field tag start end → tag_of f ≡ tag
+pub tag-field : (f : Found) (tag start end : ℕ) → f ≡ found tag start end → tag_of f ≡ tag
 unfolding tag_of
 tag-field f tag start end e = rw e
 
-pub part-short : (bs : List ℕ) (f : Found) → f ≡ Short → part_of bs f ≡ []
+pub part-short : (bs : List ℕ) (f : Found) → f ≡ cut_short → part_of bs f ≡ []
 unfolding part_of
 part-short bs f e = rw e
 
-pub part_end : (bs : List ℕ) (f : Found) → f ≡ End → part_of bs f ≡ []
+pub part_end : (bs : List ℕ) (f : Found) → f ≡ nothing_left → part_of bs f ≡ []
 unfolding part_of
 part_end bs f e = rw e
 
-pub tag-short : (f : Found) → f ≡ Short → tag_of f ≡ 0
+pub tag-short : (f : Found) → f ≡ cut_short → tag_of f ≡ 0
 unfolding tag_of
 tag-short f e = rw e
 
-pub tag-end : (f : Found) → f ≡ End → tag_of f ≡ 0
+pub tag-end : (f : Found) → f ≡ nothing_left → tag_of f ≡ 0
 unfolding tag_of
 tag-end f e = rw e
 
 module _ (bs : List ℕ) where
   -- a field that is found lies in the bytes
-  pub nth_inside : (n at tag start end : ℕ) → Field tag start end ≡ nth_field n bs at → (start ≤ end) × (end ≤ length bs)
+  pub nth_inside : (n at tag start end : ℕ) → found tag start end ≡ nth_field n bs at → (start ≤ end) × (end ≤ length bs)
   unfolding nth_field onward
   nth_inside zero at tag start end e =
       let l = found-field bs at tag start end e in
       (omega (arith, l.starts, l.ends), l.inside)
   nth_inside (suc n) at tag start end e = go (field_at bs at) (λ x k. nth_inside n x tag start end k) e
     where
-      go : (f : Found) → ((x : ℕ) → Field tag start end ≡ nth_field n bs x → (start ≤ end) × (end ≤ length bs)) → Field tag start end ≡ onward f (λ x. nth_field n bs x) → (start ≤ end) × (end ≤ length bs)
-      go (Field t s x) i e = i x e
-      go Short i e = let z : ◌≡◌ {A = ℕ} 0 1 = cc in absurd (omega arith)
-      go End i e = let z : ◌≡◌ {A = ℕ} 0 1 = cc in absurd (omega arith)
+      go : (f : Found) → ((x : ℕ) → found tag start end ≡ nth_field n bs x → (start ≤ end) × (end ≤ length bs)) → found tag start end ≡ onward f (λ x. nth_field n bs x) → (start ≤ end) × (end ≤ length bs)
+      go (Some (Ok f)) i e = i f.end e
+      go (Some (Err x)) i e = let z : ◌≡◌ {A = ℕ} 0 1 = cc in absurd (omega arith)
+      go None i e = let z : ◌≡◌ {A = ℕ} 0 1 = cc in absurd (omega arith)
 
   -- a field of a row, with its place
-  row_field : {A : Type 0} (item : ℕ → List ℕ → Option A) (a : A) (l : List A) (at : ℕ) → Series item (a ∷ l) [] (drop at bs) → (tag : ℕ) × (start : ℕ) × (end : ℕ) × (field_at bs at ≡ Field tag start end) × (item tag (take (end - start) (drop start bs)) ≡ some a) × (Series item l [] (drop end bs))
+  row_field : {A : Type 0} (item : ℕ → List ℕ → Option A) (a : A) (l : List A) (at : ℕ) → Series item (a ∷ l) [] (drop at bs) → (tag : ℕ) × (start : ℕ) × (end : ℕ) × (field_at bs at ≡ found tag start end) × (item tag (take (end - start) (drop start bs)) ≡ some a) × (Series item l [] (drop end bs))
   unfolding Series
   row_field item a l at r =
       let i = (field_is (drop at bs) r.whole r.there).long in
@@ -254,7 +252,7 @@ module _ (bs : List ℕ) where
 
   -- a field of a row is there
   there : {A : Type 0} (item : ℕ → List ℕ → Option A) (l : List A) (at n : ℕ) → Series item l [] (drop at bs) → n < length l
-      → (tag : ℕ) × (start : ℕ) × (end : ℕ) × (nth_field n bs at ≡ Field tag start end)
+      → (tag : ℕ) × (start : ℕ) × (end : ℕ) × (nth_field n bs at ≡ found tag start end)
   unfolding nth_field onward
   there item [] at n r h = absurd (omega arith)
   there item (a ∷ l) at zero r h = let t = row_field item a l at r in (t.0, t.1, t.2, t.3)
@@ -264,15 +262,15 @@ module _ (bs : List ℕ) where
       (u.0, u.1, u.2, rw t.3 u.3)
 
   pub nth-there : {A : Type 0} (item : ℕ → List ℕ → Option A) (l : List A) (n : ℕ) → Series item l [] bs → n < length l
-      → (tag : ℕ) × (start : ℕ) × (end : ℕ) × (nth_field n bs 0 ≡ Field tag start end)
+      → (tag : ℕ) × (start : ℕ) × (end : ℕ) × (nth_field n bs 0 ≡ found tag start end)
   nth-there item l n r h = there item l 0 n r h
 
   -- behind the last of a row there is none
-  beyond : {A : Type 0} (item : ℕ → List ℕ → Option A) (l : List A) (at n : ℕ) → Series item l [] (drop at bs) → length l ≤ n → nth_field n bs at ≡ End
+  beyond : {A : Type 0} (item : ℕ → List ℕ → Option A) (l : List A) (at n : ℕ) → Series item l [] (drop at bs) → length l ≤ n → nth_field n bs at ≡ nothing_left
   unfolding Series nth_field onward
   beyond item [] at n r h = at_last n (sym (at-end bs at (omega (arith, length-drop at bs, ap length r))))
     where
-      at_last : (n : ℕ) → field_at bs at ≡ End → nth_field n bs at ≡ End
+      at_last : (n : ℕ) → field_at bs at ≡ nothing_left → nth_field n bs at ≡ nothing_left
       at_last zero e = e
       at_last (suc n) e = rw e
   beyond item (a ∷ l) at zero r h = absurd (omega arith)

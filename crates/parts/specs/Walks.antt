@@ -1,6 +1,6 @@
 -- Walks along the elements of a label where its bytes lie: a step and the end of one, and counting the elements.
 -- Rests on Elements, Series and fields' Laws.
-use Rattle.std.specs.Prelude.{◌≡◌, refl, true, false, List, [], ◌∷◌, eqb, leb, take, drop}
+use Rattle.std.specs.Prelude.{◌≡◌, refl, Option, Some, None, Ok, Err, true, false, List, [], ◌∷◌, eqb, leb, take, drop}
 use Rattle.std.proofs.Common.{sym, ◌∙◌, ap, eq-eqb, ne_eqb, length-drop, length-take-le, take_all}
 use Rattle.std.proofs.Math.Option.{some, none}
 use Prim.Native.Nat.{ℕ, suc, ◌+◌, ◌-◌, ◌<◌, ◌≤◌}
@@ -12,14 +12,10 @@ use Rattle.meaning.specs.References.{takes_list, lists}
 use Rattle.meaning.specs.FirstMatch.{length_fits}
 use Rattle.meaning.specs.Laws.Tests.{choose_true, choose_false}
 use Rattle.meaning.specs.declared.Element.{Element}
-use Rattle.fields.specs.Fields.{field_at}
+use Rattle.fields.specs.Fields.{Found, found, field_at}
 use Rattle.fields.specs.Laws.{found-field, short_none, end_none}
-use Rattle.fields.specs.declared.Found.{Found}
-use Rattle.fields.specs.declared.Found.TheVariants.{Field as Lying, Short, End}
 use Rattle.parts.specs.Series.{only-series, series-none, series-some, series-there}
 use Rattle.parts.specs.Elements.{Spells, behind, Next, Begins, Opens, Counted}
-use Rattle.parts.specs.declared.Front.{Front}
-use Rattle.parts.specs.declared.Front.TheVariants.{First, Nothing}
 use Rattle.parts.specs.declared.Counts.{Counts}
 
 -- The bytes of a label.
@@ -30,7 +26,7 @@ spells_label bs l e = only-series passes_all element element (λ tag q a p r. r)
 
 -- How they begin, from the field that is found.
 
-module _ (bs : List ℕ) (tag start end : ℕ) (f : Lying tag start end ≡ field_at bs 0) where
+module _ (bs : List ℕ) (tag start end : ℕ) (f : found tag start end ≡ field_at bs 0) where
   pub lies-between : (start ≤ end) × (end ≤ length bs)
   lies-between = let a = found-field bs 0 tag start end f in (omega (arith, a.starts, a.ends), a.inside)
 
@@ -52,23 +48,23 @@ module _ (bs : List ℕ) (tag start end : ℕ) (f : Lying tag start end ≡ fiel
             };
       }
 
-pub begins-not : (bs : List ℕ) (f : Found) → f ≡ field_at bs 0 → ((tag start end : ℕ) → f ≡ Lying tag start end → ⊥) → (l : List Element) → Spells bs l → l ≡ []
+pub begins-not : (bs : List ℕ) (f : Found) → f ≡ field_at bs 0 → ((tag start end : ℕ) → f ≡ found tag start end → ⊥) → (l : List Element) → Spells bs l → l ≡ []
 begins-not bs f e d l s = go (dec_lt 0 (length bs))
   where
     none-there : (g : Found) → f ≡ g → field bs ≡ none
-    none-there (Lying tag start end) q = absurd (d tag start end q)
-    none-there Short q = short_none bs 0 (sym q ∙ e)
-    none-there End q = end_none bs 0 (sym q ∙ e)
+    none-there (Some (Ok g)) q = absurd (d g.tag g.start g.end q)
+    none-there (Some (Err x)) q = short_none bs 0 (sym q ∙ e)
+    none-there None q = end_none bs 0 (sym q ∙ e)
 
     go : Dec (0 < length bs) → l ≡ []
     go (yes h) = absurd (series-there element bs 0 l s h (none-there f refl))
     go (no h) = series-none element bs 0 l s (omega arith)
 
 -- a step of a walk
-pub opens-first : (bs : List ℕ) (f : Front) (e : Element) (end : ℕ) → Opens bs f → f ≡ First e end → Begins bs e end
+pub opens-first : (bs : List ℕ) (f : Option (Element × ℕ)) (e : Element) (end : ℕ) → Opens bs f → f ≡ Some (e, end) → Begins bs e end
 opens-first bs f e end o q = rw q at o
 
-pub opens-nothing : (bs : List ℕ) (f : Front) → Opens bs f → f ≡ Nothing → (l : List Element) → Spells bs l → l ≡ []
+pub opens-nothing : (bs : List ℕ) (f : Option (Element × ℕ)) → Opens bs f → f ≡ None → (l : List Element) → Spells bs l → l ≡ []
 opens-nothing bs f o q = rw q at o
 
 pub shorter : {bs : List ℕ} {e : Element} {end : ℕ} → Begins bs e end → length (behind bs end) ≡ length bs - end

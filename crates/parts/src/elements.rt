@@ -8,8 +8,8 @@ ghost use Rattle.meaning.specs.FirstMatch.{length_fits};
 ghost use Rattle.meaning.specs.declared.Element.{Element};
 ghost use Rattle.parts.specs.Elements.{Opens, Counted};
 
-use crate::{Counts, Front, reading};
-use fields::Found;
+use crate::{Counts, reading};
+use fields::Field;
 use meaning::Element;
 use meaning::tags::VariableType;
 
@@ -30,41 +30,30 @@ pub fn takes_list(types: &[u8], e: Element) -> bool
     }
 }
 
-pub fn first_element(p: &[u8]) -> Front
+// The first element, and the place behind it.
+pub fn first_element(p: &[u8]) -> Option<(Element, usize)>
     ensures { Opens p.now result }
 {
-    let found = fields::read_field(p, 0);
-    let Found::Field(tag, start, end) = found else {
-        return Front::Nothing;
+    let Some(Ok(Field { tag, start, end })) = fields::read_field(p, 0) else {
+        return None;
     };
-    Front::First(reading::read_element(tag, fields::part(p, start, end)), end)
+    Some((reading::read_element(tag, &p[start..end]), end))
 }
 
 pub fn shape(types: &[u8], p: &[u8]) -> Counts
     ensures { (result.lists ≤ result.elements) × ((x : Rule) → x.variables ≡ types.now → (l : List Element) → label p.now ≡ some l → Counted x l result) }
 {
     let mut rest = p;
-    let mut n: usize = 0;
-    let mut lists: usize = 0;
-    loop {
-        let front = first_element(rest);
-        match front {
-            Front::First(e, end) => {
-                let list = takes_list(types, e);
-                rest = &rest[end..];
-                n += 1;
-                if list {
-                    lists += 1;
-                }
-            }
-            Front::Nothing => {
-                return Counts {
-                    elements: n,
-                    lists: lists,
-                };
-            }
+    let mut elements = 0;
+    let mut lists = 0;
+    while let Some((e, end)) = first_element(rest) {
+        rest = &rest[end..];
+        elements += 1;
+        if takes_list(types, e) {
+            lists += 1;
         }
     }
+    Counts { elements, lists }
 }
 
 // Whether a left label of these counts can take n atoms.

@@ -10,20 +10,11 @@ ghost use Rattle.parts.specs.Series.{For, Series, nth_part, nth_tag};
 ghost use Rattle.parts.specs.Rows.{tag_item, front, mark_at, graph_item, item_label};
 ghost use Rattle.parts.specs.Images.{procedure};
 
-use fields::Found;
-use meaning::Element;
+use fields::{Field, Fields};
 use meaning::tags::Tag;
 
 pub mod elements;
 pub mod reading;
-
-// What is at the front of the bytes of a label.
-#[derive(Drop)]
-pub enum Front {
-    // An element, and the place behind it.
-    First(Element, usize),
-    Nothing,
-}
 
 // How many elements a label has, and how many of them are list variables.
 #[derive(Drop)]
@@ -46,7 +37,7 @@ pub fn byte_at(p: &[u8], i: usize) -> u8
 pub fn number_at(p: &[u8], i: usize) -> usize
     ensures { (result ≡ get_or p.now i 0) × (result < 256) }
 {
-    fields::wide(byte_at(p, i))
+    usize::from(byte_at(p, i))
 }
 
 // Whether the flag in front says yes; it doesn't if there is none.
@@ -90,9 +81,8 @@ pub fn degree_of(p: &[u8]) -> usize
 pub fn nth_part(p: &[u8], n: usize) -> &[u8]
     ensures { result.now ≡ nth_part n p.now }
 {
-    let found = fields::nth_field(p, n);
-    let Found::Field(_, start, end) = found else {
-        return &p[..0];
+    let Some(Ok(Field { start, end, .. })) = fields::nth_field(p, n) else {
+        return &[];
     };
     &p[start..end]
 }
@@ -101,8 +91,7 @@ pub fn nth_part(p: &[u8], n: usize) -> &[u8]
 pub fn nth_tag(p: &[u8], n: usize) -> u8
     ensures { result ≡ nth_tag n p.now }
 {
-    let found = fields::nth_field(p, n);
-    let Found::Field(tag, _, _) = found else {
+    let Some(Ok(Field { tag, .. })) = fields::nth_field(p, n) else {
         return 0;
     };
     tag
@@ -113,19 +102,15 @@ pub fn count_front(p: &[u8], tag: u8) -> usize
     ensures by_index { (l : List ℕ) → Series tag_item l [] p.now → result ≡ front tag l }
     ensures upper_bound { result ≤ length p.now }
 {
-    let mut at: usize = 0;
-    let mut n: usize = 0;
-    while at < p.len() {
-        let found = fields::read_field(p, at);
-        let Found::Field(t, _, end) = found else {
+    let mut n = 0;
+    for field in Fields::of(p) {
+        let Ok(Field { tag: t, .. }) = field else {
             return n;
         };
-        if t == tag {
-            at = end;
-            n += 1;
-        } else {
+        if t != tag {
             return n;
         }
+        n += 1;
     }
     n
 }
@@ -135,14 +120,11 @@ pub fn count_fields(p: &[u8]) -> usize
     ensures by_index { (l : List ℕ) → Series tag_item l [] p.now → result ≡ length l }
     ensures upper_bound { result ≤ length p.now }
 {
-    let mut at: usize = 0;
-    let mut n: usize = 0;
-    while at < p.len() {
-        let found = fields::read_field(p, at);
-        let Found::Field(_, _, end) = found else {
+    let mut n = 0;
+    for field in Fields::of(p) {
+        let Ok(_) = field else {
             return n;
         };
-        at = end;
         n += 1;
     }
     n
@@ -286,24 +268,19 @@ pub fn procedure_count(image: &[u8]) -> usize
 pub fn procedure_part(image: &[u8], i: usize) -> &[u8]
     ensures { For (raw_program image.now) (λ p. i < length p.procedures → (d : Raw) → procedure result.now ≡ some (get_or p.procedures i d)) }
 {
-    let mut at: usize = 0;
     let mut left = i;
-    while at < image.len() {
-        let found = fields::read_field(image, at);
-        let Found::Field(tag, start, end) = found else {
-            return &image[..0];
+    for field in Fields::of(image) {
+        let Ok(Field { tag, start, end }) = field else {
+            return &[];
         };
-        if tag == Tag::RULE {
-            at = end;
-        } else {
+        if tag != Tag::RULE {
             if left == 0 {
                 return &image[start..end];
             }
             left -= 1;
-            at = end;
         }
     }
-    &image[..0]
+    &[]
 }
 
 pub fn main_tag(image: &[u8]) -> u8

@@ -1,11 +1,7 @@
--- `parts::count_fields` meets its contract. The loop's invariant: the fields of all are those counted and those from the place on.
--- The measure is what is left of the bytes.
-use Rattle.std.proofs.Common.{◌-◌, length}
+-- `count_fields` meets its contract. The loop's invariant: the fields of all are those counted and those from the place on.
+use Rattle.std.proofs.Common.{◌≡◌}
 use Rattle.parts.specs.Rows.{Numbering}
 use Rattle.parts.proofs.count_fields.Given as goal
 
-abbrev pub invariant-loop-at : goal.invariant-loop-at
-invariant-loop-at l = Numbering l.p l.at l.n
-
-abbrev pub decreases-loop-at : goal.decreases-loop-at
-decreases-loop-at l = length l.p - l.at
+abbrev pub invariant-loop-field : goal.invariant-loop-field
+invariant-loop-field l = (l.field-iterator.bytes.now ≡ l.p) × Numbering l.p l.field-iterator.place l.n

@@ -8,7 +8,7 @@ use Rattle.parts.specs.Walks.{Counting}
 use Rattle.parts.proofs.elements.shape.Given as goal
 
 abbrev pub invariant-loop-e : goal.invariant-loop-e
-invariant-loop-e here = (here.lists ≤ here.n) × (here.n + length here.rest ≤ length here.p) × ((x : Rule) → x.variables ≡ here.types → (l : List Element) → label here.p ≡ some l → Counting x l here.rest here.n here.lists)
+invariant-loop-e here = (here.lists ≤ here.elements) × (here.elements + length here.rest ≤ length here.p) × ((x : Rule) → x.variables ≡ here.types → (l : List Element) → label here.p ≡ some l → Counting x l here.rest here.elements here.lists)
 
 abbrev pub decreases-loop-e : goal.decreases-loop-e
 decreases-loop-e l = length l.rest
