@@ -1,52 +1,24 @@
--- Laws for the loops over bytes: copying, zeroing, testing for zeros, writing a number.
+-- Laws for the loops over bytes: testing for zeros, writing a number.
 use Prim.Native.Nat.{ℕ, zero, suc, ◌+◌, ◌-◌, ◌/◌, ◌%◌, ◌^◌, ◌<◌, ◌≤◌}
 use mathlib.Core.Path.{◌≡◌, refl, sym, ◌∙◌, ap}
 use mathlib.Core.List.{List, [], ◌∷◌, ◌++◌, append-nil}
-use mathlib.Core.Bool.{Bool, true, false}
-use mathlib.Core.Logic.{◌⊎◌, inl, inr}
+use mathlib.Core.Bool.{Bool, true, false, ◌&&◌}
 use native.Mathlib.Omega.{arith}
 use native.Mathlib.Nat.{div-div-eq-div-mul, pow-suc, div-one}
 use native.Mathlib.Numerals.{add-one}
-use borrow.Author.Tests.{eq-eqb, ne_eqb}
-use lib.ListN.{length, get_or, set, take, drop, replicate, drop_of_length-le}
+use lib.Dec.{eqb}
+use lib.ListN.{length, get_or, set, take, drop, drop_of_length-le}
 use lib.Seq.{drop-cons, take_all}
 use Rattle.meaning.specs.Basics.{both, zeros}
 use Rattle.meaning.specs.Numbers.{number, bytes}
-use Rattle.meaning.specs.Laws.Tests.{both_false}
-
--- Copying: after i stores the bytes are the first i of s, then d's.
-
-copy_suc : (i : ℕ) (s d : List ℕ) → i < length s → i < length d → set (take i s ++ drop i d) i (get_or s i 0) ≡ take (suc i) s ++ drop (suc i) d
-copy_suc i [] d h k = absurd (omega arith)
-copy_suc i (a ∷ s) [] h k = absurd (omega arith)
-copy_suc zero (a ∷ s) (b ∷ d) h k = refl
-copy_suc (suc i) (a ∷ s) (b ∷ d) h k = ap (λ (l : List ℕ). a ∷ l) (copy_suc i s d (omega arith) (omega arith))
-
-pub copy_more : (i : ℕ) (s d : List ℕ) → i < length s → i < length d → set (take i s ++ drop i d) i (get_or s i 0) ≡ take (i + 1) s ++ drop (i + 1) d
-copy_more i s d h k = rw (add-one i) (copy_suc i s d h k)
-
-pub copy_all : (i : ℕ) (s d : List ℕ) → length s ≤ i → length d ≤ i → take i s ++ drop i d ≡ s
-copy_all i s d h k = rw (take_all i s h, drop_of_length-le d k) (append-nil s)
-
-pub fill_all : (i : ℕ) (d : List ℕ) → i ≡ length d → replicate i 0 ++ drop i d ≡ replicate (length d) 0
-fill_all i d h = rw (drop_of_length-le d {i = i} (omega arith), h) (append-nil (replicate (length d) 0))
 
 -- Zeros.
 
-pub zeros-other : (i : ℕ) (l : List ℕ) → i < length l → (get_or l i 0 ≡ 0 → ⊥) → zeros (drop i l) ≡ false
+-- one byte more that was looked at
+pub zeros-seen : (i : ℕ) (l : List ℕ) (all : Bool) → i < length l → both (all && eqb (get_or l i 0) 0) (zeros (drop (i + 1) l)) ≡ both all (zeros (drop i l))
 unfolding zeros both
-zeros-other i l h k = rw (drop-cons l i 0 h, ne_eqb (get_or l i 0) 0 k)
-
-pub zeros-more : (i : ℕ) (l : List ℕ) → i < length l → get_or l i 0 ≡ 0 → zeros (drop i l) ≡ zeros (drop (i + 1) l)
-unfolding zeros both
-zeros-more i l h k = rw (add-one i, drop-cons l i 0 h, eq-eqb (get_or l i 0) 0 k)
-
--- one byte more that was looked at: `all` is false where it is not zero, and else as it was
-pub zeros-seen : (i : ℕ) (l : List ℕ) (old all : Bool) → i < length l → ((get_or l i 0 ≡ 0 → ⊥) × (all ≡ false)) ⊎ ((get_or l i 0 ≡ 0) × (all ≡ old))
-    → both all (zeros (drop (i + 1) l)) ≡ both old (zeros (drop i l))
-unfolding both
-zeros-seen i l old all h (inl t) = rw (t.1, zeros-other i l h t.0) (sym (both_false old))
-zeros-seen i l old all h (inr t) = rw t.1 (ap (both old) (sym (zeros-more i l h t.0)))
+zeros-seen i l true h = rw (add-one i, drop-cons l i 0 h)
+zeros-seen i l false h = refl
 
 pub zeros-end : (i : ℕ) (l : List ℕ) → length l ≤ i → zeros (drop i l) ≡ true
 unfolding zeros

@@ -10,10 +10,10 @@ use lib.Seq.{drop-drop, length-take-le}
 use Rattle.slots.specs.Slots.{slots_cleared}
 
 module _ (w from to : ℕ) (bs : List ℕ) (h : from ≤ to) (k : to ≤ length bs / w) where
-  pub row-starts : from * w ≤ to * w
+  row-starts : from * w ≤ to * w
   row-starts = mul-le-mul_right w h
 
-  pub row_ends : to * w ≤ length bs
+  row_ends : to * w ≤ length bs
   row_ends =
       let l : to * w ≤ length bs / w * w = mul-le-mul_right w k in
       omega (arith, div-mul-le_self (length bs) w)

@@ -1,6 +1,7 @@
 -- Laws of labels where they lie: their length, an atom and a part of one by their own bytes; and what it is to have the atoms of
 -- another label from a place on. Rests on Laid, on laws' Layout and Pieces and on the meaning's Laws/Tests.
 use Rattle.std.specs.Prelude.{◌≡◌, refl, Bool, true, false, List, [], ◌∷◌, ◌++◌, map, ℕ, ◌+◌, ◌-◌, ◌*◌, ◌/◌, ◌<◌, ◌≤◌, eqb, length, get_or, take, drop}
+use Rattle.std.specs.Bool.{MatchBool}
 use Rattle.std.proofs.Common.{sym, ◌∙◌, ap, arith, eq-eqb, ne_eqb, length-take, length-drop, drop_of_length-le, length-take-le, get_or-take, get_or-drop, drop-drop, ext_get_or}
 use Rattle.std.proofs.Math.Decide.{ℕ_discrete}
 use Rattle.meaning.specs.Basics.{both, same, concat}
@@ -76,6 +77,13 @@ module _ (m l : List ℕ) (from : ℕ) where
         let d = length-drop from m in
         let t = length-take-le (length l) (drop from m) (omega arith) in
         sym (same_of _ l (ext_get_or 0 _ l t (λ j k. there-at j (omega arith) ∙ e j (omega arith))))
+
+    -- what a walk over the atoms of l finds
+    pub has_tested : (r : Bool)
+        → MatchBool r ((j : ℕ) → j < length l → get_or m (from + j) 0 ≡ get_or l j 0) ((j : ℕ) × (j < length l) × (get_or m (from + j) 0 ≡ get_or l j 0 → ⊥))
+        → r ≡ same (take (length l) (drop from m)) l
+    has_tested true h = has_all h
+    has_tested false h = has_other h.0 h.1 h.2
 
 -- the atoms of a label are those of two in a row, if it begins with the first and goes on with the second
 pub same_append : (xs ys zs : List ℕ) → same xs (ys ++ zs) ≡ both (same (take (length ys) xs) ys) (same (drop (length ys) xs) zs)

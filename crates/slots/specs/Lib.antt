@@ -4,3 +4,4 @@ pub mod Held
 pub mod Parts
 pub mod Laid
 pub mod Comparing
+pub mod Ranges

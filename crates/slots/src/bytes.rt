@@ -8,22 +8,14 @@ pub fn copy(to: &mut [u8], from: &[u8])
     requires { length to.old ≡ length from.now }
     ensures { to.new ≡ from.now }
 {
-    let mut k: usize = 0;
-    while k < from.len() {
-        to[k] = from[k];
-        k += 1;
-    }
+    to.copy_from_slice(from);
 }
 
 // Zeros all bytes: of a slot or of records that go, or of a journal before a run.
 pub fn clear(to: &mut [u8])
     ensures { to.new ≡ replicate (length to.old) 0 }
 {
-    let mut i: usize = 0;
-    while i < to.len() {
-        to[i] = 0;
-        i += 1;
-    }
+    to.fill(0);
 }
 
 // Whether all bytes from a place on are zero. All are looked at: a loop without a way out is compiled to many bytes at a time.
@@ -31,12 +23,8 @@ pub fn zeros_from(from: &[u8], start: usize) -> bool
     ensures { result ≡ zeros (drop start from.now) }
 {
     let mut all = true;
-    let mut i = start;
-    while i < from.len() {
-        if from[i] != 0 {
-            all = false;
-        }
-        i += 1;
+    for i in start..from.len() {
+        all &= from[i] == 0;
     }
     all
 }
@@ -45,12 +33,10 @@ pub fn zeros_from(from: &[u8], start: usize) -> bool
 pub fn put_number(to: &mut [u8], n: usize)
     ensures { to.new ≡ bytes (length to.old) n }
 {
-    let mut left = to.len();
     let mut rest = n;
-    while left > 0 {
-        left -= 1;
-        to[left] = (rest % 256) as u8;
-        rest = rest / 256;
+    for i in (0..to.len()).rev() {
+        to[i] = (rest % 256) as u8;
+        rest /= 256;
     }
 }
 
@@ -60,7 +46,8 @@ pub fn slot_number(from: &[u8], at: usize, width: usize) -> usize
     ensures { result ≡ number (take width (drop at from.now)) }
 {
     if width == 2 {
-        return fields::number2(from, at);
+        fields::number2(from, at)
+    } else {
+        usize::from(from[at])
     }
-    fields::wide(from[at])
 }

@@ -82,7 +82,7 @@ pub fn atom_count(b: &[u8]) -> usize
     requires { length_place < length b.now }
     ensures { result ≡ get_or b.now length_place 0 }
 {
-    fields::wide(b[Place::LENGTH])
+    usize::from(b[Place::LENGTH])
 }
 
 // An edge's source.
@@ -136,12 +136,10 @@ fn put_atoms(to: &mut [u8], label: &[u32])
     requires { length label.now * atom_length ≤ length to.old }
     ensures { to.new ≡ atom_bytes label.now ++ drop (length label.now * atom_length) to.old }
 {
-    let mut j: usize = 0;
-    while j < label.len() {
+    for (j, atom) in label.iter().enumerate() {
         let start = j * Size::ATOM;
         let end = start + Size::ATOM;
-        crate::bytes::put_number(&mut to[start..end], label[j] as usize);
-        j += 1;
+        crate::bytes::put_number(&mut to[start..end], *atom as usize);
     }
 }
 

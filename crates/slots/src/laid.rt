@@ -37,16 +37,5 @@ pub fn has_part(a: &[u8], from: usize, b: &[u8]) -> bool
     ensures { (result ≡ same (take (length (laid b.now)) (drop from (laid a.now))) (laid b.now)) × (result ≡ true → from + length (laid b.now) ≤ length (laid a.now)) }
 {
     let n = count(b);
-    if count(a) - from < n {
-        return false;
-    }
-    let mut left = n;
-    while left > 0 {
-        let j = n - left;
-        if atom(a, from + j) != atom(b, j) {
-            return false;
-        }
-        left -= 1;
-    }
-    true
+    n <= count(a) - from && (0..n).all(|j| atom(a, from + j) == atom(b, j))
 }

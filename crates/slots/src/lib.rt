@@ -21,10 +21,7 @@ pub fn fits_table(table: &[u8], w: usize, most: usize) -> bool
     ensures { result ≡ fits_table w most table.now }
 {
     let n = table.len();
-    if n % w == 0 {
-        return n / w <= most;
-    }
-    false
+    n % w == 0 && n / w <= most
 }
 
 // Where slot i of a table of so many bytes starts.
@@ -112,10 +109,7 @@ pub fn live_slot(table: &[u8], w: usize, i: usize) -> bool
     requires { 0 < w }
     ensures { result ≡ live_at (states w table.now) i }
 {
-    if i < table.len() / w {
-        return held::is_live(slot(table, w, i));
-    }
-    false
+    i < table.len() / w && held::is_live(slot(table, w, i))
 }
 
 // The lowest free slot, or the number of slots where none is free.
@@ -124,15 +118,7 @@ pub fn lowest_free(table: &[u8], w: usize) -> usize
     ensures { result ≡ lowest_free (states w table.now) }
 {
     let n = table.len() / w;
-    let mut i: usize = 0;
-    while i < n {
-        if live_slot(table, w, i) {
-            i += 1;
-        } else {
-            return i;
-        }
-    }
-    n
+    (0..n).find(|i| !live_slot(table, w, *i)).unwrap_or(n)
 }
 
 // How many slots are free.
@@ -141,15 +127,5 @@ pub fn free_slots(table: &[u8], w: usize) -> usize
     ensures { result ≡ free_slots (states w table.now) }
 {
     let n = table.len() / w;
-    let mut i: usize = 0;
-    let mut free: usize = 0;
-    while i < n {
-        if live_slot(table, w, i) {
-            i += 1;
-        } else {
-            i += 1;
-            free += 1;
-        }
-    }
-    free
+    (0..n).filter(|i| !live_slot(table, w, *i)).count()
 }

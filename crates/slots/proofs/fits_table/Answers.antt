@@ -8,6 +8,6 @@ pub returns-then-n-w-eq0 : goal.returns-then-n-w-eq0
 unfolding fits_table both
 returns-then-n-w-eq0 c = rw (eq-eqb _ 0 c.if-n-w-eq0.true)
 
-pub returns : goal.returns
+pub returns-else-n-w-eq0 : goal.returns-else-n-w-eq0
 unfolding fits_table both
-returns c = rw (ne_eqb _ 0 c.if-n-w-eq0.false)
+returns-else-n-w-eq0 c = rw (ne_eqb _ 0 c.if-n-w-eq0.false)

@@ -1,28 +1,14 @@
-use Rattle.std.proofs.Common.{refl, sym, ◌∙◌, div-le_self, arith, rules, length}
+-- `lowest_free` meets its contract: what the search from the first slot on gives.
+use Rattle.std.proofs.Common.{◌≡◌, true, false, ◌∙◌, rules, tests}
+use Rattle.std.proofs.lemmas.Iterator.{first_from_Range}
+use Rattle.meaning.specs.Layout.{live_at}
 use Rattle.slots.specs.Slots.{states}
-use Rattle.slots.proofs.Slots.{lowest-live, lowest-here, lowest-end, length-states}
+use Rattle.slots.proofs.Slots.{lowest-found, length-states}
 use Rattle.slots.proofs.lowest_free.Goals as goal
-
-pub loop-i-init : goal.loop-i-init
-loop-i-init c = (omega arith, refl, omega arith)
-
-pub overflow_add-i : goal.overflow_add-i
-overflow_add-i c = omega (arith, div-le_self (length c.args.table.now) c.args.w)
-
-pub loop-i-preserved : goal.loop-i-preserved
-loop-i-preserved c =
-    let s = states c.args.w c.args.table.now in
-    let e = lowest-live s c.loop-i.i (rw length-states (search rules)) (sym c.live_slot.ensures ∙ c.if-live_slot.true) in
-    (omega arith, c.loop-i.invariant.1, omega (arith, e, c.loop-i.invariant.2))
-
-pub returns-else-live_slot : goal.returns-else-live_slot
-returns-else-live_slot c =
-    let s = states c.args.w c.args.table.now in
-    let e = lowest-here s c.loop-i.i (rw length-states (search rules)) (sym c.live_slot.ensures ∙ c.if-live_slot.false) in
-    omega (arith, e, c.loop-i.invariant.2)
 
 pub returns : goal.returns
 returns c =
     let s = states c.args.w c.args.table.now in
-    let e = lowest-end s c.loop-i.i (rw length-states (search rules)) in
-    omega (arith, e, c.loop-i.invariant.2)
+    c.unwrap_or.ensures
+    ∙ lowest-found s _ c.find.result (length-states c.args.w c.args.table.now)
+    (first_from_Range _ _ _ c.find.result (λ i. live_at s i ≡ false) (λ i. live_at s i ≡ true) c.find.ensures.ran (λ x q k. search (rules, tests)) (λ x q k. search (rules, tests)))

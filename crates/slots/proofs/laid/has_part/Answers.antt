@@ -1,19 +1,24 @@
-use Rattle.std.proofs.Common.{◌≡◌, sym, ◌∙◌, ℕ, ◌-◌, arith, below_more}
+-- `laid::has_part` meets its contract.
+use Rattle.std.proofs.Common.{◌≡◌, ◌≤◌, ◌<◌, ◌+◌, ◌-◌, refl, arith, rules, tests, get_or, length}
+use Rattle.std.proofs.lemmas.Iterator.{YieldsList-from_range, cases_from_all}
+use Rattle.std.proofs.lemmas.Bool.{lt-leb, false≢true}
 use Rattle.slots.specs.Laid.{laid}
-use Rattle.slots.specs.Comparing.{has_short, has_other, has_all}
+use Rattle.slots.specs.Ranges.{all-below}
+use Rattle.slots.specs.Comparing.{has_short, has_tested}
 use Rattle.slots.proofs.laid.has_part.Goals as goal
 
-pub returns-then-count-from : goal.returns-then-count-from
-returns-then-count-from c = (has_short (laid c.args.a.now) (laid c.args.b.now) c.args.from (omega (arith, c.count-n.ensures, c.count.ensures)), λ e. let z : ◌≡◌ {A = ℕ} 0 1 = cc in absurd (omega arith))
+pub returns-then-n-count : goal.returns-then-n-count
+returns-then-n-count c =
+    let a = laid c.args.a.now in
+    let b = laid c.args.b.now in
+    let n = c.count-n.result in
+    let found = all-below _ _ n c.all.result
+    (cases_from_all _ _ c.all.result (λ j. get_or a (c.args.from + j) 0 ≡ get_or b j 0) (λ j. get_or a (c.args.from + j) 0 ≡ get_or b j 0 → ⊥) c.all.ensures.ran (YieldsList-from_range 0 n n refl (omega arith)) (λ x q k. search (rules, tests)) (λ x q k. search (rules, tests))) in
+    let fits : c.args.from + length b ≤ length a = omega (arith, c.count-n.ensures, c.count.ensures, c.if-n-count.true, c.requires) in
+    (has_tested a b c.args.from fits c.all.result (rw (← c.count-n.ensures) found), λ e. fits)
 
-pub loop-left-init : goal.loop-left-init
-loop-left-init c = (omega arith, λ k h. absurd (omega arith))
-
-pub returns-then-atom : goal.returns-then-atom
-returns-then-atom c = (has_other (laid c.args.a.now) (laid c.args.b.now) c.args.from (omega (arith, c.count-n.ensures, c.count.ensures)) (c.count-n.result - c.loop-left.left) (omega (arith, c.count-n.ensures)) (λ e. c.if-atom.true (c.atom.ensures ∙ e ∙ sym c.atom-in-loop-left.ensures)), λ e. let z : ◌≡◌ {A = ℕ} 0 1 = cc in absurd (omega arith))
-
-pub loop-left-preserved : goal.loop-left-preserved
-loop-left-preserved c = (omega arith, λ k h. below_more _ (c.count-n.result - c.loop-left.left) c.loop-left.invariant.1 (sym c.atom.ensures ∙ c.if-atom.false ∙ c.atom-in-loop-left.ensures) k (omega (arith, h)))
-
-pub returns : goal.returns
-returns c = (has_all (laid c.args.a.now) (laid c.args.b.now) c.args.from (omega (arith, c.count-n.ensures, c.count.ensures)) (λ j k. c.loop-left.invariant.1 j (omega (arith, c.count-n.ensures))), λ e. omega (arith, c.count-n.ensures, c.count.ensures))
+pub returns-else-n-count : goal.returns-else-n-count
+returns-else-n-count c =
+    let short : length (laid c.args.a.now) - c.args.from < length (laid c.args.b.now) = omega (arith, c.count-n.ensures, c.count.ensures, c.if-n-count.false) in
+    rw (lt-leb c.count-n.result (c.count.result - c.args.from) c.if-n-count.false)
+    (has_short (laid c.args.a.now) (laid c.args.b.now) c.args.from short, λ e. absurd (false≢true e))

@@ -1,9 +1,0 @@
--- `copy` meets its contract. The loop's invariant: the bytes passed are those of `from`, the others as they were.
-use Rattle.std.proofs.Common.{◌-◌, ◌≤◌, ◌++◌, ◌≡◌, length, take, drop}
-use Rattle.slots.proofs.bytes.copy.Given as goal
-
-abbrev pub invariant-loop-k : goal.invariant-loop-k
-invariant-loop-k l = (l.k ≤ length l.from) × (length l.to ≡ length l.initial.to) × (l.to ≡ take l.k l.from ++ drop l.k l.initial.to)
-
-abbrev pub decreases-loop-k : goal.decreases-loop-k
-decreases-loop-k l = length l.from - l.k
