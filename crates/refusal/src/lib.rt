@@ -11,40 +11,38 @@ ghost use Rattle.parts.specs.Series.{For};
 ghost use Rattle.answers.specs.Answers.{refusal_of};
 ghost use Rattle.refusal.specs.Checks.{size_checks, image_checks, content_checks};
 
-use answers::Checked;
 use meaning::tags::Limit;
 use meaning::{Layout, Refusal};
 
 // References, of an image that has the form: its rules hold, and the rules and procedures that its commands name exist.
+#[tactic(auto, unfolding(meaning::specs::References::references, meaning::specs::Basics::both))]
 fn references_ok(image: &[u8]) -> bool
     ensures { For (raw_program image.now) (λ p. result ≡ references p) }
 {
-    if references::rules_hold(image) {
-        return command_checks::names_exist(image);
-    }
-    false
+    references::rules_hold(image) && command_checks::names_exist(image)
 }
 
 // Form, references, placement and depth of an image: 16 to 19.
-pub fn image_check(image: &[u8]) -> Checked
+pub fn image_check(image: &[u8]) -> Result<(), Refusal>
     ensures { refusal_of result ≡ first_failing (image_checks image.now) }
 {
-    if image::form_ok(image) {
-        if references_ok(image) {
-            if command_checks::breaks_lie(image) {
-                if command_checks::depth_holds(image) {
-                    return Checked::Fine;
-                }
-                return Checked::Refused(Refusal::BadDepth);
-            }
-            return Checked::Refused(Refusal::BadPlacement);
-        }
-        return Checked::Refused(Refusal::BadReferences);
+    if !image::form_ok(image) {
+        return Err(Refusal::BadForm);
     }
-    Checked::Refused(Refusal::BadForm)
+    if !references_ok(image) {
+        return Err(Refusal::BadReferences);
+    }
+    if !command_checks::breaks_lie(image) {
+        return Err(Refusal::BadPlacement);
+    }
+    if !command_checks::depth_holds(image) {
+        return Err(Refusal::BadDepth);
+    }
+    Ok(())
 }
 
 // Lengths and fuel: the lowest applicable number from 9 to 14.
+#[tactic(auto, unfolding(answers::specs::Answers::refusal_of, meaning::specs::Basics::first_failing, meaning::specs::Basics::choose))]
 pub fn length_check(
     l: Layout,
     nodes: &[u8],
@@ -53,37 +51,34 @@ pub fn length_check(
     image: &[u8],
     fuel: u32,
     report: &[u8],
-) -> Checked
+) -> Result<(), Refusal>
     requires { Sized l }
     ensures { refusal_of result ≡ first_failing (size_checks l nodes.now edges.now journal.now image.now fuel report.now) }
 {
-    let fit = answers::lengths(l, nodes, edges, journal, report);
-    match fit {
-        Checked::Refused(w) => fit,
-        Checked::Fine => {
-            if fuel > Limit::FUEL {
-                return Checked::Refused(Refusal::TooMuchFuel);
-            }
-            if image.len() > Limit::BYTES {
-                return Checked::Refused(Refusal::ImageTooLong);
-            }
-            Checked::Fine
-        }
+    answers::lengths(l, nodes, edges, journal, report)?;
+    if fuel > Limit::FUEL {
+        return Err(Refusal::TooMuchFuel);
     }
+    if image.len() > Limit::BYTES {
+        return Err(Refusal::ImageTooLong);
+    }
+    Ok(())
 }
 
 // The host and the image: 15 to 19.
-pub fn content_check(l: Layout, nodes: &[u8], edges: &[u8], image: &[u8]) -> Checked
+#[tactic(auto, unfolding(answers::specs::Answers::refusal_of, meaning::specs::Basics::first_failing, meaning::specs::Basics::choose))]
+pub fn content_check(l: Layout, nodes: &[u8], edges: &[u8], image: &[u8]) -> Result<(), Refusal>
     requires { Sized l }
     ensures { refusal_of result ≡ first_failing (content_checks l nodes.now edges.now image.now) }
 {
-    if host::keeps_layout(l, nodes, edges) {
-        return image_check(image);
+    if !host::keeps_layout(l, nodes, edges) {
+        return Err(Refusal::BadHost);
     }
-    Checked::Refused(Refusal::BadHost)
+    image_check(image)
 }
 
 // The lowest applicable number from 9 to 19.
+#[tactic(auto, unfolding(answers::specs::Answers::refusal_of))]
 pub fn run_check(
     l: Layout,
     nodes: &[u8],
@@ -92,15 +87,12 @@ pub fn run_check(
     image: &[u8],
     fuel: u32,
     report: &[u8],
-) -> Checked
+) -> Result<(), Refusal>
     requires { Sized l }
     ensures { refusal_of result ≡ run_refusal l (lending nodes.now edges.now journal.now image.now fuel report.now) }
 {
-    let fit = length_check(l, nodes, edges, journal, image, fuel, report);
-    match fit {
-        Checked::Refused(w) => fit,
-        Checked::Fine => content_check(l, nodes, edges, image),
-    }
+    length_check(l, nodes, edges, journal, image, fuel, report)?;
+    content_check(l, nodes, edges, image)
 }
 
 // The same at document 01's layout, on all inputs.
@@ -111,7 +103,7 @@ pub fn run_refusal(
     image: &[u8],
     fuel: u32,
     report: &[u8],
-) -> Checked
+) -> Result<(), Refusal>
     ensures { refusal_of result ≡ run_refusal base (lending nodes.now edges.now journal.now image.now fuel report.now) }
 {
     run_check(Layout::base(), nodes, edges, journal, image, fuel, report)
