@@ -5,8 +5,9 @@ use mathlib.Core.Bool.{Bool, true, false}
 use mathlib.Core.List.{List, [], ◌∷◌, ◌++◌}
 use Prim.Native.Nat.{ℕ, ◌+◌, ◌-◌, ◌<◌, ◌≤◌}
 use native.Mathlib.Omega.{arith}
-use native.Mathlib.Decide.{ℕ_discrete}
 use lib.ListN.{length, get_or, drop}
+use Rattle.std.specs.Prelude.{Option, Some, None}
+use Rattle.std.specs.Option.{MatchOption, unwrap_or}
 use Rattle.meaning.specs.Basics.{both, clauses, all, absent}
 use Rattle.meaning.specs.Layout.{Host, live_at}
 use Rattle.meaning.specs.Image.{Rule}
@@ -19,7 +20,7 @@ use Rattle.laws.specs.Assignment.{label-node, label-edge}
 use Rattle.plan.specs.Plan.{label_of, edges_at, nodes_at}
 use Rattle.agreeing.specs.Placed.{Known, label_at}
 use Rattle.agreeing.specs.Candidates.{Candidate, Guessed, Likely}
-use Rattle.fitting.specs.Fitting.{joins_at, NodeLike}
+use Rattle.fitting.specs.Fitting.{joins_at, NodeLike, NextLike}
 
 -- Items and slots for them.
 
@@ -119,14 +120,15 @@ module _ (h : Host) (r : Rule) (sort i c : ℕ) where
         label = λ e. rw e at g;
       }
 
--- the slots passed do not fit, nor does one more
-pub passed-more : (h : Host) (r : Rule) (i c x : ℕ) → ((y : ℕ) → c ≤ y → y < x → (p : List ℕ) → node_fits h r p i y ≡ false)
-    → ((p : List ℕ) → node_fits h r p i x ≡ false) → (y : ℕ) → c ≤ y → y < x + 1 → (p : List ℕ) → node_fits h r p i y ≡ false
-passed-more h r i c x f g y j k p = go (ℕ_discrete y x)
-  where
-    go : Dec (y ≡ x) → node_fits h r p i y ≡ false
-    go (yes e) = rw e (g p)
-    go (no d) = f y j (omega arith) p
+-- the first slot that is like it, or else the end: those before it do not fit
+pub next_is : (h : Host) (r : Rule) (sort i c n y : ℕ) (o : Option ℕ)
+    → MatchOption o ((k : ℕ) → c ≤ k → k < n → NodeLike h r sort i k false)
+    (λ x. (c ≤ x) × (x < n) × NodeLike h r sort i x true × ((k : ℕ) → c ≤ k → k < x → NodeLike h r sort i k false))
+    → y ≡ unwrap_or o n → NextLike h r sort i c n y
+next_is h r sort i c n y None m e =
+    rw e (record { onward = λ k. k; inside = λ k. omega arith; passed = λ x j k. (m x j k).no refl; like = λ k. absurd (omega arith) })
+next_is h r sort i c n y (Some x) m e =
+    rw e (record { onward = λ k. m.0; inside = λ k. omega (arith, m.1); passed = λ z j k. (m.3 z j k).no refl; like = λ k. m.2 })
 
 -- A slot beside the items placed.
 

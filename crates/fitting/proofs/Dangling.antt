@@ -2,10 +2,8 @@
 use mathlib.Core.Path.{◌≡◌, refl, sym, ◌∙◌, ap}
 use mathlib.Core.Bool.{Bool, true, false}
 use mathlib.Core.List.{List}
-use Prim.Native.Nat.{ℕ, zero, suc, ◌+◌, ◌<◌, ◌≤◌}
+use Prim.Native.Nat.{ℕ, zero, suc, ◌+◌, ◌<◌}
 use native.Mathlib.Omega.{arith}
-use native.Mathlib.Decide.{ℕ_discrete}
-use borrow.Author.Tests.{lt-leb, le-leb, eq-eqb, ne_eqb}
 use lib.Dec.{leb, eqb}
 use lib.ListN.{get_or, take, drop}
 use lib.Seq.{get_or-take}
@@ -14,40 +12,9 @@ use Rattle.meaning.specs.Layout.{Host, live_at}
 use Rattle.meaning.specs.Image.{Rule}
 use Rattle.meaning.specs.Matching.{edge_at, left_nodes, total, node_slot, edge_touches}
 use Rattle.meaning.specs.FirstMatch.{touches_gone, dangles}
-use Rattle.meaning.specs.Laws.Tests.{both_yes, both-no, both_of, either_left, either-right, exists-of, exists-no}
+use Rattle.meaning.specs.Laws.Tests.{both_yes, both-no, exists-no}
 use Rattle.fitting.specs.Fitting.{gone_at, Numbers}
 use Rattle.plan.specs.Plan.{edges_at, interface_at, nodes_at}
-
--- The slots of nodes that go, one at a time.
-
-module _ (k : ℕ) (at : List ℕ) (s t : ℕ) where
-  pub gone-below : (y : ℕ) → y < k → gone_at k at s t y ≡ false
-  gone-below y h = both-no _ _ (lt-leb k y h)
-
-  pub gone-not : (y : ℕ) → (s ≡ get_or at y 0 → ⊥) → (t ≡ get_or at y 0 → ⊥) → gone_at k at s t y ≡ false
-  unfolding both either
-  gone-not y d f = go (leb k y)
-    where
-      go : (b : Bool) → both b (either (eqb s (get_or at y 0)) (eqb t (get_or at y 0))) ≡ false
-      go true = rw (ne_eqb s (get_or at y 0) d, ne_eqb t (get_or at y 0) f)
-      go false = refl
-
-  pub gone-source : (n y : ℕ) → k ≤ y → y < n → s ≡ get_or at y 0 → true ≡ exists (gone_at k at s t) n
-  gone-source n y h l e = sym (exists-of (gone_at k at s t) n y l (both_of _ _ (le-leb k y h) (either_left _ _ (eq-eqb _ _ e))))
-
-  pub gone-target : (n y : ℕ) → k ≤ y → y < n → t ≡ get_or at y 0 → true ≡ exists (gone_at k at s t) n
-  gone-target n y h l e = sym (exists-of (gone_at k at s t) n y l (both_of _ _ (le-leb k y h) (either-right _ _ (eq-eqb _ _ e))))
-
-  pub gone-next : (j : ℕ) → ((y : ℕ) → y < j → gone_at k at s t y ≡ false) → (s ≡ get_or at j 0 → ⊥) → (t ≡ get_or at j 0 → ⊥)
-      → (y : ℕ) → y < j + 1 → gone_at k at s t y ≡ false
-  gone-next j n d f y h = go (ℕ_discrete y j)
-    where
-      go : Dec (y ≡ j) → gone_at k at s t y ≡ false
-      go (yes e) = rw e (gone-not j d f)
-      go (no e) = n y (omega arith)
-
-  pub gone-end : (n j : ℕ) → n ≤ j → ((y : ℕ) → y < j → gone_at k at s t y ≡ false) → false ≡ exists (gone_at k at s t) n
-  gone-end n j h f = sym (exists-no (gone_at k at s t) n (λ y l. f y (omega arith)))
 
 -- An edge that dangles.
 

@@ -1,4 +1,5 @@
--- What the proofs share: edges that join, candidates by all but label and tests, and edges that dangle.
+-- What the proofs share: questions of a range, edges that join, candidates by all but label and tests, and edges that dangle.
+mod Ranges
 mod Joining
 mod Candidates
 mod Dangling

@@ -21,26 +21,19 @@ use plan::{At, Side};
 
 // Marks, roots, slots and edges.
 
+#[tactic(auto, unfolding(meaning::specs::FirstMatch::marks_agree, meaning::specs::Basics::either))]
 pub fn marks_agree(left: u8, mark: u8) -> bool
     ensures { result ≡ marks_agree left mark }
 {
-    if left == Mark::ANY {
-        return true;
-    }
-    left == mark
+    left == Mark::ANY || left == mark
 }
 
 // Whether a left node's root flag agrees with a host node's.
+#[tactic(auto, unfolding(meaning::specs::Matching::roots_agree, meaning::specs::Basics::either, meaning::specs::Basics::both))]
 fn roots_agree(preserving: bool, left: u8, host: u8) -> bool
     ensures { result ≡ roots_agree preserving left host }
 {
-    if left == host {
-        return true;
-    }
-    if preserving {
-        return left == 0;
-    }
-    false
+    left == host || preserving && left == 0
 }
 
 // Whether slot c is none of at[from..to].
@@ -48,17 +41,11 @@ fn absent(at: &[usize; Room::ITEMS], from: usize, to: usize, c: usize) -> bool
     requires { (from ≤ to) × (to ≤ most_items) × (length at.now ≡ most_items) }
     ensures { result ≡ absent c (drop from (take to at.now)) }
 {
-    let mut j = from;
-    while j < to {
-        if at[j] == c {
-            return false;
-        }
-        j += 1;
-    }
-    true
+    !at[from..to].contains(&c)
 }
 
 // Whether host edge x can stand for left edge k, whose ends are at slots s and t, as far as its mark and ends go.
+#[tactic(auto, unfolding(meaning::specs::Basics::both))]
 fn joins(
     l: Layout,
     nodes: &[u8],
@@ -75,13 +62,11 @@ fn joins(
     requires x_in_bounds { x < length (host_of l nodes.now edges.now).edges }
     ensures { For rule.now plan.now (λ r. result ≡ joins_at (host_of l nodes.now edges.now) r k s t x) }
 {
-    if graph::edge_runs(l, nodes, edges, s, t, x) {
-        return marks_agree(
+    graph::edge_runs(l, nodes, edges, s, t, x)
+        && marks_agree(
             plan::mark(rule, plan, plan[At::NODES] + k),
             graph::edge_mark(l, nodes, edges, x),
-        );
-    }
-    false
+        )
 }
 
 fn any_joins(
@@ -98,15 +83,7 @@ fn any_joins(
     requires has_edge { HasEdge rule.now plan.now k }
     ensures { For rule.now plan.now (λ r. result ≡ exists (joins_at (host_of l nodes.now edges.now) r k s t) (length (host_of l nodes.now edges.now).edges)) }
 {
-    let n = graph::edge_slots(l, edges);
-    let mut x: usize = 0;
-    while x < n {
-        if joins(l, nodes, edges, rule, plan, k, s, t, x) {
-            return true;
-        }
-        x += 1;
-    }
-    false
+    (0..graph::edge_slots(l, edges)).any(|x| joins(l, nodes, edges, rule, plan, k, s, t, x))
 }
 
 // Whether left edge k has a host edge, if node i, tried at slot c, is the later of its ends.
@@ -127,8 +104,8 @@ fn link_holds(
 {
     let s = plan::end_of(rule, plan, k, Side::Source);
     let t = plan::end_of(rule, plan, k, Side::Target);
-    if plan::later(s, t) == i {
-        return any_joins(
+    plan::later(s, t) != i
+        || any_joins(
             l,
             nodes,
             edges,
@@ -137,9 +114,7 @@ fn link_holds(
             k,
             slot_of(at, i, c, s),
             slot_of(at, i, c, t),
-        );
-    }
-    true
+        )
 }
 
 fn linked(
@@ -156,46 +131,28 @@ fn linked(
     requires tried { Tried (host_of l nodes.now edges.now) rule.now plan.now at.now i c }
     ensures { (w : Tried (host_of l nodes.now edges.now) rule.now plan.now at.now i c) → result ≡ all (isLinked (host_of l nodes.now edges.now) w.trial.rule w.trial.placed i) (left_edges w.trial.rule) }
 {
-    let m = plan[At::EDGES];
-    let mut k: usize = 0;
-    while k < m {
-        if !link_holds(l, nodes, edges, rule, plan, at, i, c, k) {
-            return false;
-        }
-        k += 1;
-    }
-    true
+    (0..plan[At::EDGES]).all(|k| link_holds(l, nodes, edges, rule, plan, at, i, c, k))
 }
 
+#[tactic(auto, unfolding(meaning::specs::FirstMatch::left_touches, meaning::specs::Basics::either))]
 fn left_touches(rule: &[u8], plan: &[usize; At::LENGTH], i: usize, k: usize) -> bool
     requires { HasEdge rule.now plan.now k }
     ensures { For rule.now plan.now (λ r. (h : Host) → result ≡ left_touches h r i k) }
 {
-    if plan::end_of(rule, plan, k, Side::Source) == i {
-        return true;
-    }
-    plan::end_of(rule, plan, k, Side::Target) == i
+    plan::end_of(rule, plan, k, Side::Source) == i || plan::end_of(rule, plan, k, Side::Target) == i
 }
 
 fn left_degree(rule: &[u8], plan: &[usize; At::LENGTH], i: usize) -> usize
     requires { IsLaid rule.now plan.now }
     ensures { For rule.now plan.now (λ r. (h : Host) → result ≡ count (left_touches h r i) (left_edges r)) }
 {
-    let m = plan[At::EDGES];
-    let mut k: usize = 0;
-    let mut d: usize = 0;
-    while k < m {
-        if left_touches(rule, plan, i, k) {
-            d += 1;
-            k += 1;
-        } else {
-            k += 1;
-        }
-    }
-    d
+    (0..plan[At::EDGES])
+        .filter(|k| left_touches(rule, plan, i, *k))
+        .count()
 }
 
 // Whether left node i stays, or slot c has no more edges than left node i.
+#[tactic(auto, unfolding(meaning::specs::FirstMatch::can_go, meaning::specs::Basics::either))]
 fn can_go(
     l: Layout,
     nodes: &[u8],
@@ -209,19 +166,16 @@ fn can_go(
     requires laid { IsLaid rule.now plan.now }
     ensures { For rule.now plan.now (λ r. result ≡ can_go (host_of l nodes.now edges.now) r i c) }
 {
-    if i < plan[At::INTERFACE] {
-        return true;
-    }
-    graph::degree(l, nodes, edges, c) <= left_degree(rule, plan, i)
+    i < plan[At::INTERFACE] || graph::degree(l, nodes, edges, c) <= left_degree(rule, plan, i)
 }
 
 // Candidates.
 
 // Whether slot c can stand for left node i, of this mark and root flag and in a rule of this mode, as far as the slot alone tells.
-fn node_like<'a>(
+fn node_like(
     l: Layout,
-    nodes: &'a [u8],
-    edges: &'a [u8],
+    nodes: &[u8],
+    edges: &[u8],
     rule: &[u8],
     plan: &[usize; At::LENGTH],
     mark: u8,
@@ -236,23 +190,17 @@ fn node_like<'a>(
     requires mark_value { (w : Known rule.now plan.now) → (mark ≡ (left_node w.rule i).mark) × (root ≡ (left_node w.rule i).root) × (preserving ≡ w.rule.preserving) }
     ensures { (w : Known rule.now plan.now) → NodeLike (host_of l nodes.now edges.now) w.rule (get_or plan.now (sort_at + i) 0) i c result }
 {
-    if !graph::node_live(l, nodes, edges, c) {
-        return false;
-    }
-    if !marks_agree(mark, graph::node_mark(l, nodes, edges, c)) {
-        return false;
-    }
-    if !roots_agree(preserving, root, graph::node_root(l, nodes, edges, c)) {
-        return false;
-    }
-    agreeing::label_likely(l, nodes, edges, rule, plan, i, c)
+    graph::node_live(l, nodes, edges, c)
+        && marks_agree(mark, graph::node_mark(l, nodes, edges, c))
+        && roots_agree(preserving, root, graph::node_root(l, nodes, edges, c))
+        && agreeing::label_likely(l, nodes, edges, rule, plan, i, c)
 }
 
 // The first slot from c to n that can, n if there is none.
-pub fn next_like<'a>(
+pub fn next_like(
     l: Layout,
-    nodes: &'a [u8],
-    edges: &'a [u8],
+    nodes: &[u8],
+    edges: &[u8],
     rule: &[u8],
     plan: &[usize; At::LENGTH],
     i: usize,
@@ -267,14 +215,9 @@ pub fn next_like<'a>(
     let mark = plan::mark(rule, plan, i);
     let root = plan::root(rule, plan, i);
     let preserving = plan[At::MODE] == Mode::PRESERVING;
-    let mut x = c;
-    while x < n {
-        if node_like(l, nodes, edges, rule, plan, mark, root, preserving, i, x) {
-            return x;
-        }
-        x += 1;
-    }
-    n
+    (c..n)
+        .find(|&x| node_like(l, nodes, edges, rule, plan, mark, root, preserving, i, x))
+        .unwrap_or(n)
 }
 
 // Whether slot c, which is like left node i, can stand for it beside the nodes placed, by all but label and tests.
@@ -295,20 +238,16 @@ pub fn node_likely(
     requires node_like { (w : Known rule.now plan.now) → NodeLike (host_of l nodes.now edges.now) w.rule (get_or plan.now (sort_at + i) 0) i c true }
     ensures { (w : Known rule.now plan.now) → Likely (host_of l nodes.now edges.now) w.rule (get_or plan.now (sort_at + i) 0) (take i at.now) i c result }
 {
-    if !absent(at, 0, i, c) {
-        return false;
-    }
-    if !linked(l, nodes, edges, rule, plan, at, i, c) {
-        return false;
-    }
-    can_go(l, nodes, edges, rule, plan, i, c)
+    absent(at, 0, i, c)
+        && linked(l, nodes, edges, rule, plan, at, i, c)
+        && can_go(l, nodes, edges, rule, plan, i, c)
 }
 
 // Whether slot c can stand for the left edge that is item i, whose ends are at slots s and t, by all but label and tests.
-pub fn edge_likely<'a>(
+pub fn edge_likely(
     l: Layout,
-    nodes: &'a [u8],
-    edges: &'a [u8],
+    nodes: &[u8],
+    edges: &[u8],
     rule: &[u8],
     plan: &[usize; At::LENGTH],
     at: &[usize; Room::ITEMS],
@@ -325,13 +264,9 @@ pub fn edge_likely<'a>(
     ensures { (w : Known rule.now plan.now) → Likely (host_of l nodes.now edges.now) w.rule (get_or plan.now (sort_at + i) 0) (take i at.now) i c result }
 {
     let n = plan[At::NODES];
-    if !joins(l, nodes, edges, rule, plan, i - n, s, t, c) {
-        return false;
-    }
-    if !absent(at, n, i, c) {
-        return false;
-    }
-    agreeing::label_likely(l, nodes, edges, rule, plan, i, c)
+    joins(l, nodes, edges, rule, plan, i - n, s, t, c)
+        && absent(at, n, i, c)
+        && agreeing::label_likely(l, nodes, edges, rule, plan, i, c)
 }
 
 // Edges that dangle.
@@ -341,19 +276,7 @@ fn touches_gone(plan: &[usize; At::LENGTH], at: &[usize; Room::ITEMS], s: usize,
     requires { HasRoom plan.now at.now }
     ensures { result ≡ exists (gone_at (get_or plan.now interface_at 0) at.now s t) (get_or plan.now nodes_at 0) }
 {
-    let n = plan[At::NODES];
-    let mut j = plan[At::INTERFACE];
-    while j < n {
-        let x = at[j];
-        if s == x {
-            return true;
-        }
-        if t == x {
-            return true;
-        }
-        j += 1;
-    }
-    false
+    (plan[At::INTERFACE]..plan[At::NODES]).any(|j| s == at[j] || t == at[j])
 }
 
 // Whether edge x would be left without an end.
@@ -370,17 +293,14 @@ fn dangles(
     requires x_in_bounds { x < length (host_of l nodes.now edges.now).edges }
     ensures { (r : Rule) → Numbers plan.now r → result ≡ isDangling (host_of l nodes.now edges.now) r (take (total r) at.now) x }
 {
-    if graph::edge_live(l, nodes, edges, x) {
-        if touches_gone(
+    graph::edge_live(l, nodes, edges, x)
+        && touches_gone(
             plan,
             at,
             graph::edge_source(l, nodes, edges, x),
             graph::edge_target(l, nodes, edges, x),
-        ) {
-            return absent(at, plan[At::NODES], plan[At::NODES] + plan[At::EDGES], x);
-        }
-    }
-    false
+        )
+        && absent(at, plan[At::NODES], plan[At::NODES] + plan[At::EDGES], x)
 }
 
 pub fn any_dangles(
@@ -394,13 +314,5 @@ pub fn any_dangles(
     requires has_room { HasRoom plan.now at.now }
     ensures { (r : Rule) → Numbers plan.now r → result ≡ exists (isDangling (host_of l nodes.now edges.now) r (take (total r) at.now)) (length (host_of l nodes.now edges.now).edges) }
 {
-    let n = graph::edge_slots(l, edges);
-    let mut x: usize = 0;
-    while x < n {
-        if dangles(l, nodes, edges, plan, at, x) {
-            return true;
-        }
-        x += 1;
-    }
-    false
+    (0..graph::edge_slots(l, edges)).any(|x| dangles(l, nodes, edges, plan, at, x))
 }

@@ -6,7 +6,7 @@ use Rattle.agreeing.specs.Placed.{Known, Tried}
 use Rattle.fitting.proofs.Candidates.{left-node, node_candidate, used-node, unlinked, likely_node}
 use Rattle.agreeing.specs.Trials.{before-length, tried_item}
 use Rattle.fitting.proofs.node_likely.Goals as goal
-use Rattle.fitting.proofs.node_likely.Goals.{Start}
+use Rattle.fitting.proofs.node_likely.Goals.{Start, then-absent, else-absent}
 
 abbrev host : (s : Start) → Host
 host s = host_of s.args.l s.args.nodes.now s.args.edges.now
@@ -25,30 +25,27 @@ tried s w =
     let k = s.requires.i_bound in
     tried_item _ _ _ _ w s.requires.at_len.0 _ _ s.requires.at_len.1 (node_candidate w _ _ k.0 k.1)
 
-pub absent-requires : goal.absent-requires
-absent-requires c =
-    let w = c.requires.known in
-    (omega arith, omega (arith, low (goal.at.absent-requires c).Start w, w.planned.laid.items.few_nodes), c.requires.at_len.0)
+pub linked-requires-clause-tried : goal.linked-requires-clause-tried
+linked-requires-clause-tried c = tried (goal.at.linked-requires-clause-tried c).Start c.requires.known
 
-pub returns-then-not-absent : goal.returns-then-not-absent
-returns-then-not-absent c =
-    λ w. used-node _ _ _ _ _ _ (placed (goal.at.returns-then-not-absent c).Start) (low (goal.at.returns-then-not-absent c).Start w) (sym c.absent.ensures ∙ c.if-not-absent.true)
-
-pub linked-requires : goal.linked-requires
-linked-requires c =
-    record {
-      legal = c.requires.legal;
-      tried = tried (goal.at.linked-requires c).Start c.requires.known;
-    }
-
-pub returns-then-not-linked : goal.returns-then-not-linked
-returns-then-not-linked c =
-    λ w. unlinked _ _ _ _ _ _ (placed (goal.at.returns-then-not-linked c).Start) (low (goal.at.returns-then-not-linked c).Start w) (sym (c.linked.ensures (tried (goal.at.returns-then-not-linked c).Start w)) ∙ c.if-not-linked.true)
-
-pub returns : goal.returns
-returns c =
+pub returns-then-linked : goal.returns-then-linked
+returns-then-linked c =
+    let s = (goal.at.returns-then-linked c).Start in
     λ w.
-    likely_node _ _ _ _ _ _ (placed (goal.at.returns c).Start) (low (goal.at.returns c).Start w) (c.requires.node_like w)
-    (sym c.absent.ensures ∙ c.if-not-absent.false)
-    (sym (c.linked.ensures (tried (goal.at.returns c).Start w)) ∙ c.if-not-linked.false)
-    _ (c.can_go.ensures w.rule w.planned.laid)
+    elim c.if-absent.branch [
+      | then-absent y ↦ likely_node _ _ _ _ _ _ (placed s) (low s w) (c.requires.node_like w)
+          (sym c.absent.ensures ∙ y.if-absent.true)
+          (sym (y.linked.ensures (tried s w)) ∙ sym y.value-is ∙ c.if-linked.true)
+          _ (c.can_go.ensures w.rule w.planned.laid)
+      | else-absent y ↦ absurd (cc)
+    ]
+
+pub returns-else-linked : goal.returns-else-linked
+returns-else-linked c =
+    let s = (goal.at.returns-else-linked c).Start in
+    λ w.
+    rw c.if-linked.false
+    (elim c.if-absent.branch [
+      | then-absent y ↦ unlinked _ _ _ _ _ _ (placed s) (low s w) (sym (y.linked.ensures (tried s w)) ∙ sym y.value-is ∙ c.if-linked.false)
+      | else-absent y ↦ used-node _ _ _ _ _ _ (placed s) (low s w) (sym c.absent.ensures ∙ y.if-absent.false)
+    ])
