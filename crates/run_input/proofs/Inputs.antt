@@ -1,26 +1,26 @@
 -- Each way out of the reader says what the definition reads. Rests on Input and Reading.
 use mathlib.Core.Path.{◌≡◌, refl, sym}
 use mathlib.Core.Bool.{Bool, true, false}
-use mathlib.Core.Option.{Option, some, none}
+use mathlib.Core.Option.{Option as Maybe, some, none}
 use mathlib.Core.List.{List}
 use Prim.Native.Nat.{ℕ, ◌+◌, ◌-◌, ◌<◌, ◌≤◌}
 use native.Mathlib.Omega.{arith}
-use borrow.Author.Tests.{le-leb, lt-leb, eq-eqb, ne_eqb}
+use borrow.Author.Tests.{leb-true, leb-false, le-leb, lt-leb, eq-eqb, ne_eqb}
 use lib.ListN.{length, take, drop, length-take, length-drop, drop_of_length-le}
 use lib.Seq.{drop-cons, length-take-le}
 use lib.Dec.{eqb, leb}
+use Rattle.std.specs.Prelude.{Some, None}
+use Rattle.std.specs.Bool.{then_some}
 use Rattle.meaning.specs.Basics.{is_empty, ensure, ◌>>◌, ◌>>=◌}
 use Rattle.meaning.specs.Numbers.{number}
 use Rattle.meaning.specs.Image.{Field, expect}
 use Rattle.run_input.specs.Input.{nodes_tag, edges_tag, records_tag, fuel_tag, program_tag, most_input, most_records, records_size, fuel_size, input}
-use Rattle.run_input.specs.Reading.{Five, Finds, Inside, Reading, Payload, field_head, input_of}
+use Rattle.run_input.specs.Reading.{Five, Inside, Reading, Payload, field_head, input_of}
 use Rattle.run_input.specs.declared.Ends.{Ends}
-use Rattle.run_input.specs.declared.Read.{Read}
-use Rattle.run_input.specs.declared.Read.TheVariants.{Accepted, Refused}
 
 -- A field that is not there.
 
-ensure-none : {A : Type 0} (t : Bool) → ◌≡◌ {A = Option A} (ensure t >> none) none
+ensure-none : {A : Type 0} (t : Bool) → ◌≡◌ {A = Maybe A} (ensure t >> none) none
 unfolding ensure ◌>>◌
 ensure-none true = refl
 ensure-none false = refl
@@ -49,21 +49,13 @@ module _ (bs : List ℕ) where
         unfolding input ◌>>=◌
         no_program ef e = rw (en, ed, ej, ef, e) (ensure-none (leb (length bs) most_input))
 
--- What the finder of fields says.
-
-pub five : (bs : List ℕ) (r : Read) (e : Ends) → r ≡ Accepted e → Finds bs r → Five bs e
-five bs r e q f = rw q at f
-
-pub missing : (bs : List ℕ) (r : Read) → r ≡ Refused → Finds bs r → input bs ≡ none
-missing bs r q f = rw q at f
-
 -- The input.
 
 module _ (bs : List ℕ) where
-  pub refusing : input bs ≡ none → Reading bs Refused
+  pub refusing : input bs ≡ none → Reading bs None
   refusing e = record { same = sym e; within = tt }
 
-  pub too_long : most_input < length bs → Reading bs Refused
+  pub too_long : most_input < length bs → Reading bs None
   unfolding input ensure ◌>>◌
   too_long h = refusing (rw (lt-leb (length bs) most_input h))
 
@@ -82,7 +74,7 @@ module _ (bs : List ℕ) where
         → length (take (end - (at + field_head)) (drop (at + field_head) bs)) ≡ end - (at + field_head)
     payload-length at end i k = length-take-le (end - (at + field_head)) (drop (at + field_head) bs) (rw (length-drop (at + field_head) bs) (omega arith))
 
-    pub behind : e.program < length bs → Reading bs Refused
+    pub behind : e.program < length bs → Reading bs None
     unfolding is_empty ensure ◌>>◌
     behind i = refusing (rw (found, drop-cons bs e.program 0 i))
 
@@ -91,7 +83,7 @@ module _ (bs : List ℕ) where
       unfolding is_empty
       all_read = rw (drop_of_length-le bs {i = e.program} end)
 
-      pub other-records : (e.records ≡ e.edges + (field_head + records_size) → ⊥) → Reading bs Refused
+      pub other-records : (e.records ≡ e.edges + (field_head + records_size) → ⊥) → Reading bs None
       unfolding ensure ◌>>◌
       other-records i =
           let size = payload-length e.edges e.records f.records.inside f.records.ordered in
@@ -104,7 +96,7 @@ module _ (bs : List ℕ) where
             rw (payload-length e.edges e.records f.records.inside f.records.ordered)
             (eq-eqb (e.records - (e.edges + field_head)) records_size (omega arith))
 
-        pub other-fuel : (e.fuel ≡ e.records + (field_head + fuel_size) → ⊥) → Reading bs Refused
+        pub other-fuel : (e.fuel ≡ e.records + (field_head + fuel_size) → ⊥) → Reading bs None
         unfolding ensure ◌>>◌
         other-fuel i =
             let size = payload-length e.records e.fuel f.fuel.inside f.fuel.ordered in
@@ -122,11 +114,11 @@ module _ (bs : List ℕ) where
             counted : count ≡ (input_of bs e).records
             counted = let z : e.records - (e.edges + field_head) ≡ records_size = omega arith in rw z counts
 
-            pub many : most_records < count → Reading bs Refused
+            many : most_records < count → Reading bs None
             unfolding ensure ◌>>◌
             many i = refusing (rw (found, all_read, is-two, is-four, ← counted, lt-leb count most_records i))
 
-            pub accepting : count ≤ most_records → Reading bs (Accepted e)
+            accepting : count ≤ most_records → Reading bs (Some e)
             unfolding ensure ◌>>◌
             accepting i =
                 record {
@@ -142,6 +134,10 @@ module _ (bs : List ℕ) where
                     few = rw (← counted) i;
                   };
                 }
+
+            pub judged : (t : Bool) → t ≡ leb count most_records → Reading bs (then_some t e)
+            judged true q = accepting (leb-true count most_records (sym q))
+            judged false q = many (leb-false count most_records (sym q))
 
 -- The parts of an input.
 

@@ -1,14 +1,10 @@
 -- What the reader of a run image says of its five fields, by the ends of their payloads. Rests on Input and the meaning's Image.
-use Rattle.std.specs.Prelude.{◌≡◌, List, ℕ, ◌+◌, ◌-◌, ◌≤◌, length, take, drop}
-use Rattle.std.proofs.Math.Option.{Option, some, none}
+use Rattle.std.specs.Prelude.{◌≡◌, List, ℕ, ◌+◌, ◌-◌, ◌≤◌, length, take, drop, Option, Some, None}
+use Rattle.std.proofs.Math.Option.{Option as Maybe, some, none}
 use Rattle.meaning.specs.Numbers.{number}
 use Rattle.meaning.specs.Image.{Field, expect}
 use Rattle.run_input.specs.Input.{Input, nodes_tag, edges_tag, records_tag, fuel_tag, program_tag, most_input, most_records, records_size, fuel_size, input}
-use Rattle.run_input.specs.declared.Place.{Place}
-use Rattle.run_input.specs.declared.Place.TheVariants.{Until, Nowhere}
 use Rattle.run_input.specs.declared.Ends.{Ends}
-use Rattle.run_input.specs.declared.Read.{Read}
-use Rattle.run_input.specs.declared.Read.TheVariants.{Accepted, Refused}
 
 -- One field.
 
@@ -25,9 +21,9 @@ pub record Expected (bs : List ℕ) (at tag end : ℕ) : Type 0 where
   pub ordered : at + field_head ≤ end
   pub inside : end ≤ length bs
 
-abbrev pub Expects : List ℕ → ℕ → ℕ → Place → Type 0
-Expects bs at tag (Until end) = Expected bs at tag end
-Expects bs at tag Nowhere = expect tag (drop at bs) ≡ none
+abbrev pub Expects : List ℕ → ℕ → ℕ → Option ℕ → Type 0
+Expects bs at tag (Some end) = Expected bs at tag end
+Expects bs at tag None = expect tag (drop at bs) ≡ none
 
 -- The five fields.
 
@@ -38,9 +34,9 @@ pub record Five (bs : List ℕ) (e : Ends) : Type 0 where
   pub fuel : Expected bs e.records fuel_tag e.fuel
   pub program : Expected bs e.fuel program_tag e.program
 
-abbrev pub Finds : List ℕ → Read → Type 0
-Finds bs (Accepted e) = Five bs e
-Finds bs Refused = input bs ≡ none
+abbrev pub Finds : List ℕ → Option Ends → Type 0
+Finds bs (Some e) = Five bs e
+Finds bs None = input bs ≡ none
 
 -- where they lie
 pub record Inside (bs : List ℕ) (e : Ends) : Type 0 where
@@ -65,16 +61,16 @@ input_of bs e =
       program = (field_in bs program_tag e.fuel e.program).payload;
     }
 
-abbrev pub input_in : List ℕ → Read → Option Input
-input_in bs (Accepted e) = some (input_of bs e)
-input_in bs Refused = none
+abbrev pub input_in : List ℕ → Option Ends → Maybe Input
+input_in bs (Some e) = some (input_of bs e)
+input_in bs None = none
 
-abbrev pub Within : List ℕ → Read → Type 0
-Within bs (Accepted e) = Inside bs e
-Within bs Refused = Unit {0}
+abbrev pub Within : List ℕ → Option Ends → Type 0
+Within bs (Some e) = Inside bs e
+Within bs None = Unit {0}
 
 -- what reading says: which input it is, and where its parts lie
-pub record Reading (bs : List ℕ) (r : Read) : Type 0 where
+pub record Reading (bs : List ℕ) (r : Option Ends) : Type 0 where
   pub same : input_in bs r ≡ input bs
   pub within : Within bs r
 

@@ -7,7 +7,6 @@ ghost use Rattle.std.specs.Prelude.{◌≡◌, ◌+◌, ◌-◌, ◌≤◌, leng
 ghost use Rattle.run_input.specs.Input.{most_input, most_records};
 ghost use Rattle.run_input.specs.Reading.{field_head, Expects, Finds, Inside, Reading, Payload, input_of};
 
-use fields::Found;
 use meaning::JournalTable;
 
 // A run image: the most bytes that it has, the bytes that are read so that a longer one is seen, the tags of its fields in
@@ -37,13 +36,6 @@ impl RunImage {
     pub const FUEL_FIELD: usize = 7;
 }
 
-// Where the payload of a field that was looked for ends.
-#[derive(Drop)]
-pub enum Place {
-    Until(usize),
-    Nowhere,
-}
-
 // Where the payloads of the five fields of an input end. Each begins behind a head, at the end of the one before.
 #[derive(Clone, Copy)]
 pub struct Ends {
@@ -54,82 +46,45 @@ pub struct Ends {
     pub program: usize,
 }
 
-// What an input is read as.
-#[derive(Drop)]
-pub enum Read {
-    Accepted(Ends),
-    Refused,
-}
-
-// The field at a place, if it has this tag.
-pub fn expect(image: &[u8], at: usize, tag: u8) -> Place
+// Where the payload of the field at a place ends, if it has this tag.
+pub fn expect(image: &[u8], at: usize, tag: u8) -> Option<usize>
     ensures { Expects image.now at tag result }
 {
-    let found = fields::read_field(image, at);
-    match found {
-        Found::Field(t, start, end) => {
-            if t == tag {
-                return Place::Until(end);
-            }
-            return Place::Nowhere;
-        }
-        Found::Short => Place::Nowhere,
-        Found::End => Place::Nowhere,
-    }
+    let field = fields::read_field(image, at)?.ok()?;
+    (field.tag == tag).then_some(field.end)
 }
 
 // The five fields, each once in order.
-fn find_fields(image: &[u8]) -> Read
+fn find_fields(image: &[u8]) -> Option<Ends>
     ensures { Finds image.now result }
 {
-    let Place::Until(nodes) = expect(image, 0, RunImage::NODES) else {
-        return Read::Refused;
-    };
-    let Place::Until(edges) = expect(image, nodes, RunImage::EDGES) else {
-        return Read::Refused;
-    };
-    let Place::Until(records) = expect(image, edges, RunImage::RECORDS) else {
-        return Read::Refused;
-    };
-    let Place::Until(fuel) = expect(image, records, RunImage::FUEL) else {
-        return Read::Refused;
-    };
-    let Place::Until(program) = expect(image, fuel, RunImage::PROGRAM) else {
-        return Read::Refused;
-    };
-    Read::Accepted(Ends {
-        nodes: nodes,
-        edges: edges,
-        records: records,
-        fuel: fuel,
-        program: program,
+    let nodes = expect(image, 0, RunImage::NODES)?;
+    let edges = expect(image, nodes, RunImage::EDGES)?;
+    let records = expect(image, edges, RunImage::RECORDS)?;
+    let fuel = expect(image, records, RunImage::FUEL)?;
+    let program = expect(image, fuel, RunImage::PROGRAM)?;
+    Some(Ends {
+        nodes,
+        edges,
+        records,
+        fuel,
+        program,
     })
 }
 
 // The input of an image.
-pub fn read_input(image: &[u8]) -> Read
+pub fn read_input(image: &[u8]) -> Option<Ends>
     ensures { Reading image.now result }
 {
-    let len = image.len();
-    if len > RunImage::MOST {
-        return Read::Refused;
+    if image.len() > RunImage::MOST {
+        return None;
     }
-    let Read::Accepted(e) = find_fields(image) else {
-        return Read::Refused;
-    };
-    if e.program < len {
-        return Read::Refused;
-    }
-    if e.records != e.edges + RunImage::RECORDS_FIELD {
-        return Read::Refused;
-    }
-    if e.fuel != e.records + RunImage::FUEL_FIELD {
-        return Read::Refused;
-    }
-    if fields::number2(image, e.edges + RunImage::HEAD) > JournalTable::MOST {
-        return Read::Refused;
-    }
-    Read::Accepted(e)
+    let e = find_fields(image)?;
+    let whole = e.program >= image.len()
+        && e.records == e.edges + RunImage::RECORDS_FIELD
+        && e.fuel == e.records + RunImage::FUEL_FIELD
+        && fields::number2(image, e.edges + RunImage::HEAD) <= JournalTable::MOST;
+    whole.then_some(e)
 }
 
 // The parts of an input that was read.

@@ -1,48 +1,30 @@
 -- `find_fields` meets its contract: each field is the one that is expected, or the definition reads nothing.
-use Rattle.run_input.specs.Laws.{until, nowhere}
 use Rattle.run_input.proofs.Inputs.{no-nodes, no_edges, no-records, no_fuel, no_program}
 use Rattle.run_input.proofs.find_fields.Goals as goal
 
-pub returns-in_default : goal.returns-in_default
-returns-in_default c =
-    let bs = c.args.image.now in
-    no-nodes bs (nowhere bs 0 _ _ c.in_default.is c.expect.ensures)
+pub returns-in_err-nodes : goal.returns-in_err-nodes
+returns-in_err-nodes c = rw c.from_residual.ensures (no-nodes c.args.image.now c.in_err-nodes.ensures)
 
-pub returns-in_default-expect : goal.returns-in_default-expect
-returns-in_default-expect c =
-    let bs = c.args.image.now in
-    let en = until _ _ c.in-Until.is c.expect.ensures in
-    no_edges bs en.is (nowhere bs c.in-Until.nodes _ _ c.in_default-expect.is c.expect-2.ensures)
+pub returns-in_err-edges : goal.returns-in_err-edges
+returns-in_err-edges c = let n = c.in_ok-nodes.ensures in rw c.from_residual-in_err-edges.ensures (no_edges c.args.image.now n.is c.in_err-edges.ensures)
 
-pub returns-in_default-expect-2 : goal.returns-in_default-expect-2
-returns-in_default-expect-2 c =
-    let bs = c.args.image.now in
-    let en = until _ _ c.in-Until.is c.expect.ensures in
-    let ed = until _ _ c.in-Until-expect.is c.expect-2.ensures in
-    no-records bs en.is ed.is (nowhere bs c.in-Until-expect.edges _ _ c.in_default-expect-2.is c.expect-3.ensures)
+pub returns-in_err-records : goal.returns-in_err-records
+returns-in_err-records c =
+    let n = c.in_ok-nodes.ensures in
+    let d = c.in_ok-edges.ensures in
+    rw c.from_residual-in_err-records.ensures (no-records c.args.image.now n.is d.is c.in_err-records.ensures)
 
-pub returns-in_default-expect-3 : goal.returns-in_default-expect-3
-returns-in_default-expect-3 c =
-    let bs = c.args.image.now in
-    let en = until _ _ c.in-Until.is c.expect.ensures in
-    let ed = until _ _ c.in-Until-expect.is c.expect-2.ensures in
-    let ej = until _ _ c.in-Until-expect-2.is c.expect-3.ensures in
-    no_fuel bs en.is ed.is ej.is (nowhere bs c.in-Until-expect-2.records _ _ c.in_default-expect-3.is c.expect-4.ensures)
+pub returns-in_err-fuel : goal.returns-in_err-fuel
+returns-in_err-fuel c =
+    let n = c.in_ok-nodes.ensures in
+    let d = c.in_ok-edges.ensures in
+    let j = c.in_ok-records.ensures in
+    rw c.from_residual-in_err-fuel.ensures (no_fuel c.args.image.now n.is d.is j.is c.in_err-fuel.ensures)
 
-pub returns-in_default-expect-4 : goal.returns-in_default-expect-4
-returns-in_default-expect-4 c =
-    let bs = c.args.image.now in
-    let en = until _ _ c.in-Until.is c.expect.ensures in
-    let ed = until _ _ c.in-Until-expect.is c.expect-2.ensures in
-    let ej = until _ _ c.in-Until-expect-2.is c.expect-3.ensures in
-    let ef = until _ _ c.in-Until-expect-3.is c.expect-4.ensures in
-    no_program bs en.is ed.is ej.is ef.is (nowhere bs c.in-Until-expect-3.fuel _ _ c.in_default-expect-4.is c.expect-5.ensures)
-
-pub returns : goal.returns
-returns c =
-    let en = until _ _ c.in-Until.is c.expect.ensures in
-    let ed = until _ _ c.in-Until-expect.is c.expect-2.ensures in
-    let ej = until _ _ c.in-Until-expect-2.is c.expect-3.ensures in
-    let ef = until _ _ c.in-Until-expect-3.is c.expect-4.ensures in
-    let ep = until _ _ c.in-Until-expect-4.is c.expect-5.ensures in
-    record { nodes = en; edges = ed; records = ej; fuel = ef; program = ep }
+pub returns-in_err-program : goal.returns-in_err-program
+returns-in_err-program c =
+    let n = c.in_ok-nodes.ensures in
+    let d = c.in_ok-edges.ensures in
+    let j = c.in_ok-records.ensures in
+    let f = c.in_ok-fuel.ensures in
+    rw c.from_residual-in_err-program.ensures (no_program c.args.image.now n.is d.is j.is f.is c.in_err-program.ensures)
