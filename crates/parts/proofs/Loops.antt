@@ -1,9 +1,8 @@
 -- One turn of a loop over fields: what the reader found, as the laws of rows take it. Rests on fields' Finding and on Series.
 use mathlib.Core.Path.{◌≡◌, refl, sym, ◌∙◌}
 use mathlib.Core.List.{List, []}
-use Prim.Native.Nat.{ℕ, ◌<◌, ◌≤◌}
-use native.Mathlib.Omega.{arith}
-use lib.ListN.{length, drop, drop_of_length-le}
+use Prim.Native.Nat.{ℕ, ◌≤◌}
+use lib.ListN.{length}
 use Rattle.std.specs.Prelude.{Some, None, Ok, Err}
 use Rattle.fields.specs.Fields.{Found, found, nth_field}
 pub use Rattle.fields.proofs.Finding.{NoField, no_field, a-field, part_in, nearer, starts, gives-field, gives-cut, gives-end, tail_part}
@@ -21,6 +20,3 @@ no-tag None g e k = sym (tag-end g (sym e))
 
 pub nth_in : (bs : List ℕ) (n : ℕ) {tag start end : ℕ} {f : Found} → f ≡ nth_field n bs 0 → f ≡ found tag start end → (start ≤ end) × (end ≤ length bs)
 nth_in bs n {tag} {start} {end} e g = nth_inside bs n 0 tag start end (sym g ∙ e)
-
-pub no_tail : (n : ℕ) (bs : List ℕ) → length bs < n → [] ≡ drop n bs
-no_tail n bs h = sym (drop_of_length-le bs {i = n} (omega arith))

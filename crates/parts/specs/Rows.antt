@@ -271,11 +271,8 @@ module _ (bs : List ℕ) (all n : ℕ) (h : (l : List ℕ) → Series tag_item l
       ∙ length-append (map node g.nodes) (map edge g.edges)
       ∙ rw (length-map g.nodes node, length-map g.edges edge)
 
-  pub edges-behind : n ≤ all → For (rule_graph bs) (λ g. n ≡ length g.nodes → all - n ≡ length g.edges)
-  edges-behind k g e q = omega (arith, together g e)
-
-  pub no_edges : all < n → For (rule_graph bs) (λ g. n ≡ length g.nodes → 0 ≡ length g.edges)
-  no_edges k g e q = omega (arith, together g e)
+  pub edges-behind : For (rule_graph bs) (λ g. n ≡ length g.nodes → all - n ≡ length g.edges)
+  edges-behind g e q = omega (arith, together g e)
 
 -- the edge of a number, where the node count is known
 pub edge-there : (bs part : List ℕ) (i n : ℕ) → For (rule_graph bs) (λ g. n ≡ length g.nodes) → part ≡ nth_part (n + i) bs

@@ -18,15 +18,8 @@ pub fn takes_list(types: &[u8], e: Element) -> bool
     ensures { (x : Rule) → x.variables ≡ types.now → result ≡ takes_list x e }
 {
     match e {
-        Element::Constant(c) => false,
-        Element::Variable(v) => {
-            if v < types.len() {
-                return types[v] == VariableType::LIST;
-            }
-            false
-        }
-        Element::Sum(a, b) => false,
-        Element::Difference(a, b) => false,
+        Element::Variable(v) => v < types.len() && types[v] == VariableType::LIST,
+        _ => false,
     }
 }
 
@@ -62,9 +55,10 @@ pub fn length_fits(s: Counts, n: usize) -> bool
     ensures { (x : Rule) (l : List Element) (m : List ℕ) → Counted x l s → n ≡ length m → result ≡ length_fits x l m }
 {
     if s.lists == 0 {
-        return n == s.elements;
+        n == s.elements
+    } else {
+        s.elements - s.lists <= n
     }
-    s.elements - s.lists <= n
 }
 
 // How many atoms are left for a list, of n in all.
@@ -72,19 +66,12 @@ pub fn spare(s: Counts, n: usize) -> usize
     requires { s.lists ≤ s.elements }
     ensures { (result ≤ n) × ((x : Rule) (l : List Element) → Counted x l s → result ≡ spare x l n) }
 {
-    let single = s.elements - s.lists;
-    if n < single {
-        return 0;
-    }
-    n - single
+    n.saturating_sub(s.elements - s.lists)
 }
 
 // How many atoms an element takes, where a list takes n of them.
 pub fn share(types: &[u8], e: Element, n: usize) -> usize
     ensures { (result ≤ n + 1) × ((x : Rule) → x.variables ≡ types.now → result ≡ share x n e) }
 {
-    if takes_list(types, e) {
-        return n;
-    }
-    1
+    if takes_list(types, e) { n } else { 1 }
 }

@@ -27,10 +27,7 @@ pub struct Counts {
 pub fn byte_at(p: &[u8], i: usize) -> u8
     ensures { result ≡ get_or p.now i 0 }
 {
-    if i < p.len() {
-        return p[i];
-    }
-    0
+    if i < p.len() { p[i] } else { 0 }
 }
 
 // The same, as a number of a node or a variable.
@@ -51,10 +48,7 @@ pub fn flag(p: &[u8]) -> bool
 pub fn behind(p: &[u8], n: usize) -> &[u8]
     ensures { result.now ≡ drop n p.now }
 {
-    if n <= p.len() {
-        return &p[n..];
-    }
-    &p[..0]
+    p.get(n..).unwrap_or(&[])
 }
 
 // The word of a constant; 0 if there is none.
@@ -62,9 +56,10 @@ pub fn word_of(p: &[u8]) -> u32
     ensures { For (constant p.now) (λ c. result ≡ c) × (constant p.now ≡ none → result ≡ 0) }
 {
     if p.len() == 4 {
-        return fields::number4(p, 0) as u32;
+        fields::number4(p, 0) as u32
+    } else {
+        0
     }
-    0
 }
 
 // The number of a degree test, behind its node; 0 if there is none.
@@ -72,9 +67,10 @@ pub fn degree_of(p: &[u8]) -> usize
     ensures { (length p.now ≡ 3 → result ≡ number (drop 1 p.now)) × ((length p.now ≡ 3 → ⊥) → result ≡ 0) }
 {
     if p.len() == 3 {
-        return fields::number2(p, 1);
+        fields::number2(p, 1)
+    } else {
+        0
     }
-    0
 }
 
 // The payload of the field of number n in a row of fields.
@@ -143,11 +139,7 @@ pub fn node_count(p: &[u8]) -> usize
 pub fn edge_count(p: &[u8], n: usize) -> usize
     ensures { For (rule_graph p.now) (λ g. n ≡ length g.nodes → result ≡ length g.edges) }
 {
-    let all = count_fields(p);
-    if n <= all {
-        return all - n;
-    }
-    0
+    count_fields(p).saturating_sub(n)
 }
 
 pub fn node_part(p: &[u8], i: usize) -> &[u8]
@@ -160,9 +152,10 @@ pub fn edge_part(p: &[u8], i: usize) -> &[u8]
     ensures { For (rule_graph p.now) (λ g. i < length g.edges → (d : RuleEdge) → rule_edge result.now ≡ some (get_or g.edges i d)) }
 {
     if i < p.len() {
-        return nth_part(p, node_count(p) + i);
+        nth_part(p, node_count(p) + i)
+    } else {
+        &[]
     }
-    &p[..0]
 }
 
 // The mark of the node of number i, 0 if there is none.
@@ -170,9 +163,10 @@ pub fn mark_at(p: &[u8], i: usize) -> u8
     ensures { For (rule_graph p.now) (λ g. result ≡ mark_at g i) }
 {
     if i < node_count(p) {
-        return byte_at(nth_part(p, i), 0);
+        byte_at(nth_part(p, i), 0)
+    } else {
+        0
     }
-    0
 }
 
 // A rule.
@@ -246,22 +240,13 @@ pub fn rule_part(image: &[u8], i: usize) -> &[u8]
 fn main_number(image: &[u8]) -> usize
     ensures { For (raw_program image.now) (λ p. result ≡ length p.rules + length p.procedures) }
 {
-    let all = count_fields(image);
-    if all > 0 {
-        return all - 1;
-    }
-    0
+    count_fields(image).saturating_sub(1)
 }
 
 pub fn procedure_count(image: &[u8]) -> usize
     ensures { For (raw_program image.now) (λ p. result ≡ length p.procedures) }
 {
-    let rules = rule_count(image);
-    let main = main_number(image);
-    if rules < main {
-        return main - rules;
-    }
-    0
+    main_number(image).saturating_sub(rule_count(image))
 }
 
 // The command that a procedure is, as a field. Fields are counted from the first that is no rule.
@@ -299,8 +284,5 @@ pub fn main_part(image: &[u8]) -> &[u8]
 pub fn label_part(tag: u8, p: &[u8]) -> &[u8]
     ensures { For (graph_item tag p.now) (λ i. label result.now ≡ some (item_label i)) }
 {
-    if tag == Tag::NODE {
-        return behind(p, 2);
-    }
-    behind(p, 3)
+    behind(p, if tag == Tag::NODE { 2 } else { 3 })
 }

@@ -12,9 +12,10 @@ pub fn read_operand(tag: u8, p: &[u8]) -> Operand
     ensures { For (operand tag p.now) (λ o. result ≡ o) }
 {
     if tag == Tag::CONSTANT {
-        return Operand::Constant(crate::word_of(p));
+        Operand::Constant(crate::word_of(p))
+    } else {
+        Operand::Variable(crate::number_at(p, 0))
     }
-    Operand::Variable(crate::number_at(p, 0))
 }
 
 // The operand of number n in a row of operands.
@@ -27,18 +28,12 @@ pub fn operand_at(p: &[u8], n: usize) -> Operand
 pub fn read_element(tag: u8, p: &[u8]) -> Element
     ensures { For (element tag p.now) (λ e. result ≡ e) }
 {
-    if tag == Tag::CONSTANT {
-        return Element::Constant(crate::word_of(p));
+    match tag {
+        Tag::CONSTANT => Element::Constant(crate::word_of(p)),
+        Tag::VARIABLE => Element::Variable(crate::number_at(p, 0)),
+        Tag::SUM => Element::Sum(operand_at(p, 0), operand_at(p, 1)),
+        _ => Element::Difference(operand_at(p, 0), operand_at(p, 1)),
     }
-    if tag == Tag::VARIABLE {
-        return Element::Variable(crate::number_at(p, 0));
-    }
-    let a = operand_at(p, 0);
-    let b = operand_at(p, 1);
-    if tag == Tag::SUM {
-        return Element::Sum(a, b);
-    }
-    Element::Difference(a, b)
 }
 
 // Equal or less, and two operands.
@@ -49,35 +44,29 @@ pub fn read_relation(p: &[u8]) -> Condition
     let a = operand_at(operands, 0);
     let b = operand_at(operands, 1);
     if crate::byte_at(p, 0) == Relation::EQUAL {
-        return Condition::Equal(a, b);
+        Condition::Equal(a, b)
+    } else {
+        Condition::Less(a, b)
     }
-    Condition::Less(a, b)
 }
 
 // A condition, from its tag and the bytes behind the test's flag.
 pub fn read_condition(tag: u8, p: &[u8]) -> Condition
     ensures { For (condition tag p.now) (λ c. result ≡ c) }
 {
-    if tag == Tag::RELATION {
-        return read_relation(p);
+    match tag {
+        Tag::RELATION => read_relation(p),
+        Tag::EDGE_TEST => Condition::Edge(crate::number_at(p, 0), crate::number_at(p, 1)),
+        Tag::IN_DEGREE => Condition::InDegree(crate::number_at(p, 0), crate::degree_of(p)),
+        _ => Condition::OutDegree(crate::number_at(p, 0), crate::degree_of(p)),
     }
-    let a = crate::number_at(p, 0);
-    if tag == Tag::EDGE_TEST {
-        return Condition::Edge(a, crate::number_at(p, 1));
-    }
-    let n = crate::degree_of(p);
-    if tag == Tag::IN_DEGREE {
-        return Condition::InDegree(a, n);
-    }
-    Condition::OutDegree(a, n)
 }
 
 pub fn read_test(tag: u8, p: &[u8]) -> Test
     ensures { For (test tag p.now) (λ t. result ≡ t) }
 {
-    let c = read_condition(tag, crate::behind(p, 1));
     Test {
         negated: crate::flag(p),
-        condition: c,
+        condition: read_condition(tag, crate::behind(p, 1)),
     }
 }

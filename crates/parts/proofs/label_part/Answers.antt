@@ -1,9 +1,11 @@
--- `parts::label_part` meets its contract.
+-- `label_part` meets its contract.
 use Rattle.parts.specs.Rows.{label-edge, label-node}
 use Rattle.parts.proofs.label_part.Goals as goal
-
-pub returns-then-tag-eq-NODE : goal.returns-then-tag-eq-NODE
-returns-then-tag-eq-NODE c = label-node _ _ _ c.if-tag-eq-NODE.true c.behind.ensures
+use Rattle.parts.proofs.label_part.Goals.{then-tag-eq-NODE, else-tag-eq-NODE}
 
 pub returns : goal.returns
-returns c = label-edge _ _ _ c.if-tag-eq-NODE.false c.behind-2.ensures
+returns c =
+    elim c.if-tag-eq-NODE.branch [
+      | then-tag-eq-NODE w ↦ label-node _ _ _ w.if-tag-eq-NODE.true (rw w.behind-is at c.behind.ensures)
+      | else-tag-eq-NODE w ↦ label-edge _ _ _ w.if-tag-eq-NODE.false (rw w.behind-is at c.behind.ensures)
+    ]
