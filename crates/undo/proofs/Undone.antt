@@ -1,46 +1,25 @@
--- Laws of what undo checks, and of what it leaves.
+-- Laws of what undo leaves, and of what holds where nothing is refused.
 use Prim.Native.Nat.{ℕ, ◌/◌, ◌%◌, ◌≤◌}
 use mathlib.Core.Path.{◌≡◌, refl, sym, ◌∙◌, ap}
-use mathlib.Core.List.{List, [], ◌∷◌}
-use mathlib.Core.Bool.{Bool, true, false}
+use mathlib.Core.List.{List}
+use mathlib.Core.Bool.{true}
 use mathlib.Core.Option.{Option, some, none}
 use native.Mathlib.Nat.{zero-mul, sub-zero}
 use lib.Dec.{eqb}
 use lib.ListN.{length}
-use Rattle.meaning.specs.Basics.{choose, every, concat, first_failing}
+use Rattle.meaning.specs.Basics.{choose, every, concat}
 use Rattle.meaning.specs.Layout.{Tables, node_length, edge_length, record_length, keeps_record}
-use Rattle.meaning.specs.Calls.{report_of, length_checks, refused, keeps_records, undo_refusal, tables_undone, undo_on, undo, answer_number, refusal_number, lending_undo, Yields}
-use Rattle.meaning.specs.Laws.Checks.{first-no, first-yes, behind-fine, behind-refused}
+use Rattle.meaning.specs.Calls.{report_of, refused, undo_refusal, tables_undone, undo_on, undo, answer_number, refusal_number, lending_undo, Yields}
 use Rattle.laws.specs.Calls.{undo-accepted}
 use Rattle.laws.specs.Pieces.{concat-cut, fits-length}
 use Rattle.meaning.specs.declared.Layout.{Layout}
 use Rattle.meaning.specs.declared.Refusal.{Refusal}
-use Rattle.meaning.specs.declared.Refusal.TheVariants.{BadRecords}
 use Rattle.answers.specs.Answers.{report_length}
 use Rattle.journal.specs.Journal.{tables_of, records_from, put_back, cleared_from}
-
--- What undo checks.
 
 module _ (L : Layout) (nodes edges journal : List ℕ) (count : ℕ) (report : List ℕ) where
   abbrev undo_fails : Option Refusal
   undo_fails = undo_refusal L (lending_undo nodes edges journal count report)
-
-  pub check-lengths : (w : Refusal) → first_failing (length_checks L nodes edges journal report) ≡ some w → some w ≡ undo_fails
-  unfolding undo_refusal
-  check-lengths w e = sym (behind-refused (length_checks L nodes edges journal report) ((keeps_records L nodes edges journal count, BadRecords) ∷ []) w e)
-
-  module _ (e : first_failing (length_checks L nodes edges journal report) ≡ none) (t : Bool) (k : t ≡ keeps_records L nodes edges journal count) where
-    pub check-kept : t ≡ true → none ≡ undo_fails
-    unfolding undo_refusal first_failing
-    check-kept h =
-        sym (behind-fine (length_checks L nodes edges journal report) ((keeps_records L nodes edges journal count, BadRecords) ∷ []) e
-        ∙ first-yes (keeps_records L nodes edges journal count) BadRecords [] (sym k ∙ h))
-
-    pub check-bad : t ≡ false → some BadRecords ≡ undo_fails
-    unfolding undo_refusal
-    check-bad h =
-        sym (behind-fine (length_checks L nodes edges journal report) ((keeps_records L nodes edges journal count, BadRecords) ∷ []) e
-        ∙ first-no (keeps_records L nodes edges journal count) BadRecords [] (sym k ∙ h))
 
   -- what holds where nothing fails
   pub record Sound : Type 0 where
