@@ -17,23 +17,14 @@ fn keeps_node(l: Layout, b: &[u8]) -> bool
     requires b_len { (length b.now ≡ node_length l) × Filled l b.now }
     ensures { result ≡ keeps_node l b.now }
 {
-    if held::mark(b) > Mark::GREY {
-        return false;
-    }
-    if held::root(b) > 1 {
-        return false;
-    }
-    held::zeros_behind(b, Place::NODE_ATOMS)
+    held::mark(b) <= Mark::GREY && held::root(b) <= 1 && held::zeros_behind(b, Place::NODE_ATOMS)
 }
 
 // Whether an edge's mark is one for edges.
 fn is_edge_mark(mark: u8) -> bool
     ensures { result ≡ is_edge_mark mark }
 {
-    if mark <= Mark::BLUE {
-        return true;
-    }
-    mark == Mark::DASHED
+    mark <= Mark::BLUE || mark == Mark::DASHED
 }
 
 // Whether node slot i, an edge's end, is there and live.
@@ -50,19 +41,11 @@ fn keeps_edge(l: Layout, nodes: &[u8], b: &[u8]) -> bool
     requires b_len { (length b.now ≡ edge_length l) × Filled l b.now }
     ensures { result ≡ keeps_edge l (read_nodes l nodes.now) b.now }
 {
-    if !is_edge_mark(held::mark(b)) {
-        return false;
-    }
-    if held::root(b) != 0 {
-        return false;
-    }
-    if !is_end(l, nodes, held::source(l, b)) {
-        return false;
-    }
-    if !is_end(l, nodes, held::target(l, b)) {
-        return false;
-    }
-    held::zeros_behind(b, held::edge_atoms(l))
+    is_edge_mark(held::mark(b))
+        && held::root(b) == 0
+        && is_end(l, nodes, held::source(l, b))
+        && is_end(l, nodes, held::target(l, b))
+        && held::zeros_behind(b, held::edge_atoms(l))
 }
 
 // Whether a slot of a table keeps the layout: what nodes and edges have in common, then the rest.
@@ -71,24 +54,18 @@ fn keeps_slot(l: Layout, nodes: &[u8], which: Table, b: &[u8]) -> bool
     requires b_len { length b.now ≡ slot_length l which }
     ensures { result ≡ keeps_slot l (read_nodes l nodes.now) which b.now }
 {
-    let state = held::state(b);
-    if state == SlotState::FREE {
-        return slots::bytes::zeros_from(b, 0);
-    }
-    if state != SlotState::LIVE {
-        return false;
-    }
-    if held::atom_count(b) > l.atoms {
-        return false;
-    }
-    match which {
-        Table::Nodes => keeps_node(l, b),
-        Table::Edges => keeps_edge(l, nodes, b),
+    match held::state(b) {
+        SlotState::FREE => slots::bytes::zeros_from(b, 0),
+        SlotState::LIVE if held::atom_count(b) <= l.atoms => match which {
+            Table::Nodes => keeps_node(l, b),
+            Table::Edges => keeps_edge(l, nodes, b),
+        },
+        _ => false,
     }
 }
 
 // The bytes of a slot of a table.
-fn slot_length(l: Layout, which: Table) -> usize
+pub fn slot_length(l: Layout, which: Table) -> usize
     requires { Sized l }
     ensures { result ≡ slot_length l which }
 {
@@ -105,15 +82,7 @@ fn keeps_slots(l: Layout, nodes: &[u8], which: Table, table: &[u8]) -> bool
 {
     let w = slot_length(l, which);
     let n = table.len() / w;
-    let mut i: usize = 0;
-    while i < n {
-        if keeps_slot(l, nodes, which, slots::slot(table, w, i)) {
-            i += 1;
-        } else {
-            return false;
-        }
-    }
-    true
+    (0..n).all(|i| keeps_slot(l, nodes, which, slots::slot(table, w, i)))
 }
 
 // Whether a host keeps the layout, in one pass over each table.
@@ -121,8 +90,5 @@ pub fn keeps_layout(l: Layout, nodes: &[u8], edges: &[u8]) -> bool
     requires { Sized l }
     ensures { result ≡ keeps_layout l nodes.now edges.now }
 {
-    if keeps_slots(l, nodes, Table::Nodes, nodes) {
-        return keeps_slots(l, nodes, Table::Edges, edges);
-    }
-    false
+    keeps_slots(l, nodes, Table::Nodes, nodes) && keeps_slots(l, nodes, Table::Edges, edges)
 }
