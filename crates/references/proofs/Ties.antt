@@ -2,17 +2,18 @@
 use mathlib.Core.Path.{◌≡◌, refl, sym, ◌∙◌, ap}
 use mathlib.Core.Bool.{Bool, true, false, not}
 use mathlib.Core.List.{List, [], ◌∷◌, ◌++◌, map}
-use Prim.Native.Nat.{ℕ, zero, suc, ◌+◌, ◌<◌, ◌≤◌}
+use Prim.Native.Nat.{ℕ, zero, suc, ◌+◌, ◌<◌}
 use native.Mathlib.Omega.{arith}
-use native.Mathlib.Numerals.{add-one}
-use borrow.Author.Tests.{ltb-true, lt-ltb, le-ltb, le-leb, lt-leb, eq-eqb, ne_eqb}
+use borrow.Author.Tests.{ltb-true}
 use lib.ListN.{length, get_or}
 use lib.Dec.{eqb, leb, ltb}
+use Rattle.std.specs.Prelude.{◌&&◌}
+use Rattle.std.specs.List.{list_all, range_with_len}
 use Rattle.meaning.specs.Basics.{choose, both, either, clauses, all, every, absent, concat}
 use Rattle.meaning.specs.Image.{RuleGraph, Rule, Raw, RawProgram, rule}
 use Rattle.meaning.specs.Tags.{any_mark, rule_tag}
 use Rattle.meaning.specs.References.{operand_names, element_operands, element_names, condition_operands, is_plain, labels, elements, names, test_operands, test_names, takes_list, lists, operand_int, variables_exist, ends_exist, test_nodes_exist, interface_fits, left_plain, left_simple, operands_int, variables_on_left, any_kept, any_placed, rule_holds}
-use Rattle.meaning.specs.Laws.Tests.{both_of, both_true, both_yes, both-no, both-last, either_left, either-right, every_append, every_map, every_true, absent-true, absent-false, all_of, all-no}
+use Rattle.meaning.specs.Laws.Tests.{both_of, both_true, both_yes, both-last, either_left, either-right, every_append, every_map, every_true, absent-true, absent-false, all_of, all-no}
 use Rattle.meaning.specs.declared.Operand.{Operand}
 use Rattle.meaning.specs.declared.Operand.TheVariants.{Constant as constant_operand, Variable as variable_operand}
 use Rattle.meaning.specs.declared.Element.{Element}
@@ -20,9 +21,9 @@ use Rattle.meaning.specs.declared.Element.TheVariants.{Constant, Variable, Sum, 
 use Rattle.references.specs.declared.Ask.{Ask}
 use Rattle.references.specs.declared.Ask.TheVariants.{Left, Right, Lacks}
 use Rattle.parts.specs.Series.{For}
-use Rattle.parts.specs.Rows.{Item, node, edge, items, mark_at, item_label}
+use Rattle.parts.specs.Rows.{Item, node, edge, items, item_label}
 use Rattle.parts.specs.Images.{rule_of, procedure_of, main_of, command_parts, image_part, image_parts, part-is, command-above}
-use Rattle.references.specs.Asked.{int_operand, exist, operand_asked, element_asked, lists_in, ends_below, edge_marked, item_fits, item_asked, graph_asked, condition_fits, condition_asked, test_asked, right_asked, sides_asked, kept_on_left, part_holds}
+use Rattle.references.specs.Asked.{int_operand, exist, operand_asked, element_asked, lists_in, ends_below, edge_marked, item_fits, item_asked, graph_asked, condition_fits, condition_asked, test_asked, sides_asked, kept_on_left, part_holds}
 use Rattle.references.proofs.Asks.{absent_append, both-swap}
 
 -- Tests over lists.
@@ -236,9 +237,9 @@ module _ (x : Rule) where
       let u = both_true _ _ t.1 in
       (t.0, u.0, u.1)
 
-  pub sides-exist : sides_asked x ≡ true → variables_exist x ≡ true
+  pub sides_exist : sides_asked x ≡ true → variables_exist x ≡ true
   unfolding variables_exist
-  sides-exist e =
+  sides_exist e =
       let s = sides-true e in
       three (λ v. ltb v (length ts)) (names x.left) (names x.right) (test_names x)
       ∙ both_of _ _ s.left_names (both_of _ _ s.right_names s.tests_named)
@@ -267,7 +268,7 @@ module _ (x : Rule) where
       let s = sides-true t.0 in
       let u = both_true _ _ t.1 in
       let v = both_true _ _ u.1 in
-      both_of _ _ (sides-exist t.0)
+      both_of _ _ (sides_exist t.0)
       (both_of _ _ s.left_ends
       (both_of _ _ s.right_ends
       (both_of _ _ s.test_nodes
@@ -308,16 +309,8 @@ module _ (x : Rule) where
       })
       (both_of _ _ c4.0 (both_of _ _ c8.0 marks.0))
 
-  pub rule-is : both (sides_asked x) (both (interface_fits x) (both (variables_on_left x) all_kept)) ≡ rule_holds x
-  rule-is = alike _ _ holds_so holds_then
-
-  pub fits-yes : (k m n : ℕ) → k ≡ x.interface → m ≡ length x.left.nodes → n ≡ length x.right.nodes → k ≤ m → leb k n ≡ interface_fits x
-  unfolding interface_fits
-  fits-yes k m n p q r h = sym (both_yes (leb k m) (leb k n) (le-leb k m h)) ∙ rw (p, q, r)
-
-  pub fits-no : (k m : ℕ) → k ≡ x.interface → m ≡ length x.left.nodes → m < k → false ≡ interface_fits x
-  unfolding interface_fits
-  fits-no k m p q h = sym (both-no (leb x.interface (length x.left.nodes)) _ (lt-leb x.interface (length x.left.nodes) (omega arith)))
+  pub rule_is : rule_holds x ≡ both (sides_asked x) (both (interface_fits x) (both (variables_on_left x) all_kept))
+  rule_is = alike _ _ holds_then holds_so
 
 -- Variables of the right side occur on the left.
 
@@ -390,51 +383,34 @@ kept-left x e =
     let below : every f N ≡ true = every_append f (names x.right) (test_names x) ∙ (both_true (every f L) _ (sym (three f L (names x.right) (test_names x)) ∙ e)).1 in
     all_same _ _ (kept-is x) (length x.variables) ∙ kept-all L N (length x.variables) below
 
-module _ (x : Rule) (v : ℕ) (a : Bool) (q : a ≡ graph_asked (Lacks v) x.variables x.left) where
-  pub lacking : (r : Bool) → a ≡ true → r ≡ right_asked (Lacks v) (Lacks v) x → r ≡ kept_on_left x v
-  unfolding kept_on_left either
-  lacking r h p = rw (← q, h) p
+-- A row of numbers from 0 on.
 
-  pub occurring : a ≡ false → true ≡ kept_on_left x v
-  unfolding kept_on_left either
-  occurring h = rw (← q, h)
+all-front : (f : ℕ → Bool) (n : ℕ) → both (f 0) (all (λ k. f (suc k)) n) ≡ all f (suc n)
+unfolding all both
+all-front f zero = refl
+all-front f (suc n) = at (f 0) (f (suc n)) (all-front f n)
+  where
+    at : (a b : Bool) → both a (all (λ k. f (suc k)) n) ≡ all f (suc n) → both a (both b (all (λ k. f (suc k)) n)) ≡ both b (all f (suc n))
+    at true true e = e
+    at true false e = refl
+    at false true e = e
+    at false false e = refl
 
--- the loop over the variables
-module _ (x : Rule) (exist : variables_exist x ≡ true) (n v : ℕ) (h : n ≡ length x.variables) where
-  pub kept-fails : v < n → kept_on_left x v ≡ false → false ≡ variables_on_left x
-  kept-fails k q = sym (all-no (kept_on_left x) (length x.variables) v (omega arith) q) ∙ kept-left x exist
+row-all : (f : ℕ → Bool) (n a : ℕ) → list_all f (range_with_len a n) ≡ all (λ k. f (a + k)) n
+unfolding all both
+row-all f zero a = refl
+row-all f (suc n) a =
+    at (f a) (row-all f n (a + 1) ∙ all_same _ _ (λ k. ap f (omega arith)) n)
+    ∙ ap (λ (x : ℕ). both (f x) (all (λ k. f (a + suc k)) n)) (omega arith)
+    ∙ all-front (λ k. f (a + k)) n
+  where
+    at : (b : Bool) {x y : Bool} → x ≡ y → b && x ≡ both b y
+    at true e = e
+    at false e = refl
 
-  pub kept-done : v ≤ n → n ≤ v → all (kept_on_left x) v ≡ true → true ≡ variables_on_left x
-  kept-done k l q =
-      let z : v ≡ length x.variables = omega arith in
-      sym q ∙ ap (all (kept_on_left x)) z ∙ kept-left x exist
-
--- Mark any.
-
-module _ (x : Rule) (j m : ℕ) (q : m ≡ mark_at x.right j) where
-  pub other-mark : (m ≡ any_mark → ⊥) → true ≡ any_kept x j
-  unfolding any_kept
-  other-mark h = sym (either_left _ _ (ap not (ne_eqb (mark_at x.right j) any_mark (λ z. h (q ∙ z)))))
-
-  module _ (h : m ≡ any_mark) (k : ℕ) (p : k ≡ x.interface) where
-    kept_any : any_kept x j ≡ both (ltb j x.interface) (eqb (mark_at x.left j) any_mark)
-    unfolding any_kept either
-    kept_any = rw (eq-eqb (mark_at x.right j) any_mark (sym q ∙ h))
-
-    pub inside-mark : (l : ℕ) → l ≡ mark_at x.left j → j < k → eqb l any_mark ≡ any_kept x j
-    inside-mark l z g = sym (kept_any ∙ both_yes _ _ (lt-ltb j x.interface (omega arith)) ∙ ap (λ (w : ℕ). eqb w any_mark) (sym z))
-
-    pub outside-mark : k ≤ j → false ≡ any_kept x j
-    outside-mark g = sym (kept_any ∙ both-no _ _ (le-ltb j x.interface (omega arith)))
-
--- all numbers below one that is the other
-pub all-at : (f : ℕ → Bool) {n m : ℕ} → n ≡ m → all f n ≡ true → all f m ≡ true
-all-at f e h = rw (← e) h
-
--- one more number that passes
-pub all-next : (f : ℕ → Bool) (n : ℕ) → all f n ≡ true → f n ≡ true → all f (n + 1) ≡ true
-unfolding all
-all-next f n h k = rw (add-one n) (both_yes _ _ k ∙ h)
+-- what is asked of each number of a row, one after the other
+pub numbers-all : (f : ℕ → Bool) (n : ℕ) → list_all f (range_with_len 0 n) ≡ all f n
+numbers-all f n = row-all f n 0 ∙ all_same _ _ (λ k. ap f (omega arith)) n
 
 -- of procedures and the main command nothing is asked
 commands_hold : (ks : List Raw) (t : ℕ) (c : Raw) → every part_holds (map procedure_of ks ++ main_of t c ∷ []) ≡ true

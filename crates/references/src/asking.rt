@@ -19,8 +19,7 @@ fn variable_holds(ask: Ask, v: usize, types: &[u8]) -> bool
     ensures { result ≡ element_asked ask types.now (Variable v) }
 {
     match ask {
-        Ask::Left(n) => v < types.len(),
-        Ask::Right(n) => v < types.len(),
+        Ask::Left(_) | Ask::Right(_) => v < types.len(),
         Ask::Lacks(u) => v != u,
     }
 }
@@ -30,8 +29,8 @@ fn operand_variable_holds(ask: Ask, v: usize, types: &[u8]) -> bool
     ensures { result ≡ operand_asked ask types.now (variable_operand v) }
 {
     match ask {
-        Ask::Left(n) => false,
-        Ask::Right(n) => parts::byte_at(types, v) == VariableType::INT,
+        Ask::Left(_) => false,
+        Ask::Right(_) => parts::byte_at(types, v) == VariableType::INT,
         Ask::Lacks(u) => v != u,
     }
 }
@@ -40,40 +39,33 @@ fn operand_variable_holds(ask: Ask, v: usize, types: &[u8]) -> bool
 fn constant_holds(ask: Ask) -> bool
     ensures { (ts : List ℕ) (c : ℕ) → result ≡ operand_asked ask ts (constant_operand c) }
 {
-    match ask {
-        Ask::Left(n) => false,
-        Ask::Right(n) => true,
-        Ask::Lacks(u) => true,
-    }
+    !matches!(ask, Ask::Left(_))
 }
 
 fn operand_holds(ask: Ask, o: Operand, types: &[u8]) -> bool
     ensures { result ≡ operand_asked ask types.now o }
 {
     match o {
-        Operand::Constant(c) => constant_holds(ask),
+        Operand::Constant(_) => constant_holds(ask),
         Operand::Variable(v) => operand_variable_holds(ask, v, types),
     }
 }
 
 // Both operands of a sum, a difference or a relation.
+#[tactic(auto, unfolding(meaning::specs::Basics::both))]
 fn operands_hold(ask: Ask, a: Operand, b: Operand, types: &[u8]) -> bool
     ensures { result ≡ both (operand_asked ask types.now a) (operand_asked ask types.now b) }
 {
-    if operand_holds(ask, a, types) {
-        return operand_holds(ask, b, types);
-    }
-    false
+    operand_holds(ask, a, types) && operand_holds(ask, b, types)
 }
 
 fn element_holds(ask: Ask, e: Element, types: &[u8]) -> bool
     ensures { result ≡ element_asked ask types.now e }
 {
     match e {
-        Element::Constant(c) => true,
+        Element::Constant(_) => true,
         Element::Variable(v) => variable_holds(ask, v, types),
-        Element::Sum(a, b) => operands_hold(ask, a, b, types),
-        Element::Difference(a, b) => operands_hold(ask, a, b, types),
+        Element::Sum(a, b) | Element::Difference(a, b) => operands_hold(ask, a, b, types),
     }
 }
 
@@ -96,33 +88,25 @@ fn label_holds(ask: Ask, p: &[u8], types: &[u8]) -> bool
     true
 }
 
+#[tactic(auto, unfolding(meaning::specs::Basics::both))]
 fn both_below(a: usize, b: usize, n: usize) -> bool
     ensures { result ≡ both (ltb a n) (ltb b n) }
 {
-    if a < n {
-        return b < n;
-    }
-    false
+    a < n && b < n
 }
 
 // Whether the ends of an edge are among n nodes; a node has none.
 fn ends_exist(tag: u8, p: &[u8], n: usize) -> bool
     ensures { For (graph_item tag p.now) (λ i. result ≡ ends_below n i) }
 {
-    if tag == Tag::NODE {
-        return true;
-    }
-    both_below(parts::number_at(p, 1), parts::number_at(p, 2), n)
+    tag == Tag::NODE || both_below(parts::number_at(p, 1), parts::number_at(p, 2), n)
 }
 
 // Whether an edge has another mark than any.
 fn edge_marked(tag: u8, p: &[u8]) -> bool
     ensures { For (graph_item tag p.now) (λ i. result ≡ edge_marked i) }
 {
-    if tag == Tag::NODE {
-        return true;
-    }
-    parts::byte_at(p, 0) != Mark::ANY
+    tag == Tag::NODE || parts::byte_at(p, 0) != Mark::ANY
 }
 
 // How many elements of a label are list variables.
@@ -133,34 +117,23 @@ fn lists_in(types: &[u8], p: &[u8]) -> usize
 }
 
 // What is asked of a node or an edge beside the elements of its label.
+#[tactic(auto, unfolding(meaning::specs::Basics::both, crate::specs::Asked::item_fits))]
 fn item_fits(ask: Ask, tag: u8, p: &[u8], types: &[u8]) -> bool
     ensures { For (graph_item tag p.now) (λ i. result ≡ item_fits ask types.now i) }
 {
     match ask {
-        Ask::Left(n) => {
-            if lists_in(types, parts::label_part(tag, p)) <= 1 {
-                return ends_exist(tag, p, n);
-            }
-            false
-        }
-        Ask::Right(n) => {
-            if edge_marked(tag, p) {
-                return ends_exist(tag, p, n);
-            }
-            false
-        }
-        Ask::Lacks(u) => true,
+        Ask::Left(n) => lists_in(types, parts::label_part(tag, p)) <= 1 && ends_exist(tag, p, n),
+        Ask::Right(n) => edge_marked(tag, p) && ends_exist(tag, p, n),
+        Ask::Lacks(_) => true,
     }
 }
 
 // A node or an edge, from its tag and payload.
+#[tactic(auto, unfolding(meaning::specs::Basics::both, crate::specs::Asked::item_asked))]
 fn item_holds(ask: Ask, tag: u8, p: &[u8], types: &[u8]) -> bool
     ensures { For (graph_item tag p.now) (λ i. result ≡ item_asked ask types.now i) }
 {
-    if item_fits(ask, tag, p, types) {
-        return label_holds(ask, parts::label_part(tag, p), types);
-    }
-    false
+    item_fits(ask, tag, p, types) && label_holds(ask, parts::label_part(tag, p), types)
 }
 
 pub fn graph_holds(ask: Ask, p: &[u8], types: &[u8]) -> bool
@@ -181,48 +154,43 @@ pub fn graph_holds(ask: Ask, p: &[u8], types: &[u8]) -> bool
     true
 }
 
+#[tactic(auto, unfolding(meaning::specs::Basics::both, meaning::specs::Basics::every, meaning::specs::References::condition_operands))]
 fn condition_operands_hold(ask: Ask, c: Condition, types: &[u8]) -> bool
     ensures { result ≡ every (operand_asked ask types.now) (condition_operands c) }
 {
     match c {
-        Condition::Edge(a, b) => true,
-        Condition::InDegree(a, n) => true,
-        Condition::OutDegree(a, n) => true,
-        Condition::Equal(a, b) => operands_hold(ask, a, b, types),
-        Condition::Less(a, b) => operands_hold(ask, a, b, types),
+        Condition::Edge(_, _) | Condition::InDegree(_, _) | Condition::OutDegree(_, _) => true,
+        Condition::Equal(a, b) | Condition::Less(a, b) => operands_hold(ask, a, b, types),
     }
 }
 
+#[tactic(auto, unfolding(meaning::specs::Basics::both, meaning::specs::Basics::every, meaning::specs::References::condition_nodes))]
 fn condition_nodes_exist(c: Condition, n: usize) -> bool
     ensures { result ≡ every (λ a. ltb a n) (condition_nodes c) }
 {
     match c {
         Condition::Edge(a, b) => both_below(a, b, n),
-        Condition::InDegree(a, k) => a < n,
-        Condition::OutDegree(a, k) => a < n,
-        Condition::Equal(a, b) => true,
-        Condition::Less(a, b) => true,
+        Condition::InDegree(a, _) | Condition::OutDegree(a, _) => a < n,
+        Condition::Equal(_, _) | Condition::Less(_, _) => true,
     }
 }
 
 // What is asked of a test beside its operands.
+#[tactic(auto, unfolding(crate::specs::Asked::condition_fits))]
 fn condition_fits(ask: Ask, c: Condition) -> bool
     ensures { result ≡ condition_fits ask c }
 {
     match ask {
-        Ask::Left(n) => condition_nodes_exist(c, n),
-        Ask::Right(n) => condition_nodes_exist(c, n),
-        Ask::Lacks(u) => true,
+        Ask::Left(n) | Ask::Right(n) => condition_nodes_exist(c, n),
+        Ask::Lacks(_) => true,
     }
 }
 
+#[tactic(auto, unfolding(meaning::specs::Basics::both, crate::specs::Asked::condition_asked))]
 fn condition_holds(ask: Ask, c: Condition, types: &[u8]) -> bool
     ensures { result ≡ condition_asked ask types.now c }
 {
-    if condition_fits(ask, c) {
-        return condition_operands_hold(ask, c, types);
-    }
-    false
+    condition_fits(ask, c) && condition_operands_hold(ask, c, types)
 }
 
 pub fn tests_hold(ask: Ask, p: &[u8], types: &[u8]) -> bool

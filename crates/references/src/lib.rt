@@ -34,10 +34,7 @@ pub enum Ask {
 fn part_holds(tag: u8, p: &[u8]) -> bool
     ensures { For (image_part tag p.now) (λ i. result ≡ part_holds i) }
 {
-    if tag == Tag::RULE {
-        return rules::rule_holds(p);
-    }
-    true
+    tag != Tag::RULE || rules::rule_holds(p)
 }
 
 pub fn rules_hold(image: &[u8]) -> bool

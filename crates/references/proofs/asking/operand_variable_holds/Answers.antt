@@ -1,12 +1,19 @@
 -- `asking::operand_variable_holds` meets its contract.
-use Rattle.references.proofs.Asks.{operand-lacks, operand-left, operand-right}
+use Rattle.std.proofs.Common.{arith}
+use Rattle.std.proofs.lemmas.Grind.{common_steps}
+use Rattle.meaning.specs.Basics.{both, every, absent}
+use Rattle.meaning.specs.References.{operand_names}
+use Rattle.references.specs.Asked.{int_operand, operand_asked}
 use Rattle.references.proofs.asking.operand_variable_holds.Goals as goal
 
 pub returns-in-Left : goal.returns-in-Left
-returns-in-Left c = operand-left _ _ _ _ c.in-Left.is
+unfolding both every absent operand_names int_operand operand_asked
+returns-in-Left c = grind (arith, common_steps)
 
 pub returns-in-Right : goal.returns-in-Right
-returns-in-Right c = operand-right _ _ _ _ _ c.byte_at.ensures c.in-Right.is
+unfolding both every absent operand_names int_operand operand_asked
+returns-in-Right c = grind (arith, common_steps)
 
 pub returns-in-Lacks : goal.returns-in-Lacks
-returns-in-Lacks c = operand-lacks _ _ _ _ c.in-Lacks.is
+unfolding both every absent operand_names int_operand operand_asked
+returns-in-Lacks c = grind (arith, common_steps)

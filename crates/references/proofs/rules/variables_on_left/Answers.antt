@@ -1,18 +1,15 @@
-use Rattle.std.proofs.Common.{◌∙◌, ap, refl, sym, arith, length}
+-- `rules::variables_on_left` meets its contract.
+use Rattle.std.proofs.Common.{◌∙◌, ap, refl, arith, length, rules, tests}
+use Rattle.std.proofs.lemmas.Iterator.{YieldsList-from_range}
+use Rattle.std.proofs.lemmas.Iterator.Search.{all_from_yields_List}
 use Rattle.meaning.specs.Basics.{all}
 use Rattle.references.specs.Asked.{kept_on_left}
-use Rattle.references.proofs.Ties.{all-next, kept-done, kept-fails}
+use Rattle.references.proofs.Ties.{kept-left, numbers-all}
 use Rattle.references.proofs.rules.variables_on_left.Goals as goal
 
-pub loop-v-init : goal.loop-v-init
-unfolding all
-loop-v-init c = (λ x e. refl, omega arith)
-
-pub loop-v-preserved : goal.loop-v-preserved
-loop-v-preserved c = (λ x e. all-next (kept_on_left x) _ (c.loop-v.invariant.0 x e) (sym (c.variable_kept.ensures x e) ∙ c.if-variable_kept.true), omega arith)
-
-pub returns-else-variable_kept : goal.returns-else-variable_kept
-returns-else-variable_kept c x e h = kept-fails x h _ _ (ap length (c.variables_part-n.ensures x e)) c.loop-v-test.true (sym (c.variable_kept.ensures x e) ∙ c.if-variable_kept.false)
-
 pub returns : goal.returns
-returns c x e h = kept-done x h _ _ (ap length (c.variables_part-n.ensures x e)) c.loop-v.invariant.1 c.loop-v-test.false (c.loop-v.invariant.0 x e)
+returns c x e h =
+    all_from_yields_List (kept_on_left x) _ _ _ c.all.ensures.ran (YieldsList-from_range 0 _ _ refl (omega arith)) (λ v b q k. search (rules, tests))
+    ∙ numbers-all (kept_on_left x) (length c.variables_part.result.now)
+    ∙ ap (λ l. all (kept_on_left x) (length l)) (c.variables_part.ensures x e)
+    ∙ kept-left x h
