@@ -1,16 +1,14 @@
--- Laws for the code that walks commands: a command by its tag, commands one after the other, what is asked of the first part, rule
--- numbers and calls. Rests on Asked and Demands.
+-- Laws for the code that walks commands: a command by its tag, commands one after the other, and a test of each element of a list.
+-- Rests on Asked and Demands.
 use mathlib.Core.Path.{◌≡◌, refl, sym, ◌∙◌, ap}
 use mathlib.Core.Bool.{Bool, true, false}
 use mathlib.Core.Option.{some, none}
 use mathlib.Core.List.{List, [], ◌∷◌}
-use Prim.Native.Nat.{ℕ, suc, ◌+◌, ◌-◌, ◌<◌, ◌≤◌}
+use Prim.Native.Nat.{ℕ, suc, ◌-◌, ◌<◌, ◌≤◌}
 use native.Mathlib.Omega.{arith}
-use native.Mathlib.Numerals.{add-one}
-use borrow.Author.Tests.{lt-ltb, le-ltb}
-use lib.ListN.{length, get_or, take, drop, drop_of_length-le}
-use lib.Seq.{drop-cons}
-use lib.Dec.{ltb}
+use lib.ListN.{length, get_or, take, drop}
+use Rattle.std.specs.Prelude.{◌&&◌}
+use Rattle.std.specs.List.{list_all}
 use Rattle.meaning.specs.Basics.{both, every, is_empty, ensure, ◌>>◌, ◌>>=◌}
 use Rattle.meaning.specs.Tags.{rule_set_tag, sequence_tag, loop_tag, break_tag, call_tag, guarded_tag}
 use Rattle.meaning.specs.Image.{Raw, rule_set, sequence, guarded, loop, skip, fail, break, call, field, leading, only, passes_all, in_order, command}
@@ -18,7 +16,6 @@ use Rattle.meaning.specs.Laws.Tests.{both_yes, both-no, both-last, choose_eq, ch
 use Rattle.fields.specs.Parsed.{tag_of, command-tag, rule-set-read, sequence-read, guarded-read, loop-read, skip_read, fail-read, break-read, call-read}
 use Rattle.fields.specs.Laws.{Lies}
 use Rattle.command_checks.specs.declared.Demand.{Demand}
-use Rattle.command_checks.specs.declared.Demand.TheVariants.{Depth}
 use Rattle.parts.specs.Series.{For, Series, only-series, series-none, series-some, series-there}
 use Rattle.command_checks.specs.Asked.{room_asked, numbers_asked, break_asked, call_asked, inside, breaking, command_asked, commands_asked, parts_asked, of_first, inner_of}
 use Rattle.command_checks.proofs.Demands.{nothing-stands}
@@ -164,47 +161,12 @@ module _ {first others : Demand} {t : List ℕ} {n : ℕ} {bs : List ℕ} {at : 
         let u = series-some (command n) bs at s.0 s.1 h tag start end k in
         sym (s.2 ∙ ap (parts_asked d others t) u.parts ∙ both-no (command_asked d t u.first) (parts_asked others others t u.others) (sym (q u.first (ap (command n tag) p ∙ u.read)) ∙ g))
 
--- What is asked of the first part, of rule numbers and of calls.
-
-module _ (d : Demand) (tag : ℕ) where
-  pub first_body : (r : Demand) → r ≡ breaking d true → tag ≡ loop_tag → r ≡ of_first d tag
-  unfolding of_first
-  first_body r q h = q ∙ sym (choose_eq tag loop_tag _ _ h)
-
-  pub first-same : (tag ≡ loop_tag → ⊥) → tag ≡ sequence_tag → d ≡ of_first d tag
-  unfolding of_first
-  first-same h k = sym (choose_ne tag loop_tag _ _ h ∙ choose_eq tag sequence_tag _ _ k)
-
-  pub first-guard : (r : Demand) → r ≡ breaking d false → (tag ≡ loop_tag → ⊥) → (tag ≡ sequence_tag → ⊥) → r ≡ of_first d tag
-  unfolding of_first
-  first-guard r q h k = q ∙ sym (choose_ne tag loop_tag _ _ h ∙ choose_ne tag sequence_tag _ _ k)
-
-module _ (d : Demand) (t : List ℕ) (i n h : ℕ) (e : d ≡ Depth n) (q : h ≡ get_or t i 1) where
-  pub call_known : 0 < h → ltb h n ≡ call_asked d t i
-  unfolding call_asked
-  call_known k = rw (e, ← q) (sym (both_yes _ _ (lt-ltb 0 h k)))
-
-  pub call_unknown : h ≤ 0 → false ≡ call_asked d t i
-  unfolding call_asked
-  call_unknown k = rw (e, ← q) (sym (both-no _ _ (le-ltb 0 h k)))
-
--- what stands for an element that is not there does not matter where it is
-pub in_range : (l : List ℕ) (i d e : ℕ) → i < length l → get_or l i d ≡ get_or l i e
-in_range l i d e h = cc (drop-cons l i d h, drop-cons l i e h)
-
--- a loop over the bytes
-module _ (f : ℕ → Bool) (bs : List ℕ) (i : ℕ) (w : every f bs ≡ every f (drop i bs)) where
-  pub bytes-done : length bs ≤ i → true ≡ every f bs
-  unfolding every
-  bytes-done h = sym (w ∙ ap (every f) (drop_of_length-le bs h))
-
-  module _ (h : i < length bs) where
-    here : every f bs ≡ both (f (get_or bs i 0)) (every f (drop (i + 1) bs))
-    unfolding every
-    here = w ∙ ap (every f) (drop-cons bs i 0 h) ∙ rw (add-one i)
-
-    pub bytes_next : f (get_or bs i 0) ≡ true → every f bs ≡ every f (drop (i + 1) bs)
-    bytes_next g = here ∙ both_yes _ _ g
-
-    pub bytes-stop : f (get_or bs i 0) ≡ false → false ≡ every f bs
-    bytes-stop g = sym (here ∙ both-no _ _ g)
+-- a test of each element, one after the other
+pub every_is : {A : Type 0} (f : A → Bool) (l : List A) → list_all f l ≡ every f l
+unfolding every both
+every_is f [] = refl
+every_is f (a ∷ l) = at (f a) (every_is f l)
+  where
+    at : (b : Bool) → list_all f l ≡ every f l → b && list_all f l ≡ both b (every f l)
+    at true e = e
+    at false e = refl

@@ -35,8 +35,7 @@ fn has_room(demand: Demand) -> bool
     ensures { result ≡ room_asked demand }
 {
     match demand {
-        Demand::Names(n, m) => true,
-        Demand::Breaks(ok) => true,
+        Demand::Names(_, _) | Demand::Breaks(_) => true,
         Demand::Depth(n) => n > 0,
     }
 }
@@ -44,60 +43,43 @@ fn has_room(demand: Demand) -> bool
 fn numbers_below(p: &[u8], n: usize) -> bool
     ensures { result ≡ every (λ i. ltb i n) p.now }
 {
-    let mut i: usize = 0;
-    while i < p.len() {
-        if fields::wide(p[i]) < n {
-            i += 1;
-        } else {
-            return false;
-        }
-    }
-    true
+    p.iter().all(|&i| usize::from(i) < n)
 }
 
+#[tactic(auto, unfolding(crate::specs::Asked::numbers_asked))]
 fn rule_set_holds(demand: Demand, p: &[u8]) -> bool
     ensures { result ≡ numbers_asked demand p.now }
 {
     match demand {
-        Demand::Names(n, m) => numbers_below(p, n),
-        Demand::Breaks(ok) => true,
-        Demand::Depth(n) => true,
+        Demand::Names(n, _) => numbers_below(p, n),
+        Demand::Breaks(_) | Demand::Depth(_) => true,
     }
 }
 
 fn break_holds(demand: Demand) -> bool
     ensures { result ≡ break_asked demand }
 {
-    match demand {
-        Demand::Names(n, m) => true,
-        Demand::Breaks(ok) => ok,
-        Demand::Depth(n) => true,
-    }
+    !matches!(demand, Demand::Breaks(false))
 }
 
 // How deep the procedure of number i is, 0 where that is not known; one that there is not stands for skip.
 fn height(heights: &[u8], i: usize) -> u8
     ensures { result ≡ get_or heights.now i 1 }
 {
-    if i < heights.len() {
-        return heights[i];
-    }
-    1
+    heights.get(i).copied().unwrap_or(1)
 }
 
 // A call of procedure i; the call itself is one level.
+#[tactic(auto, unfolding(crate::specs::Asked::call_asked, meaning::specs::Basics::both))]
 fn call_holds(demand: Demand, heights: &[u8], i: usize) -> bool
     ensures { result ≡ call_asked demand heights.now i }
 {
     match demand {
-        Demand::Names(n, m) => i < m,
-        Demand::Breaks(ok) => true,
+        Demand::Names(_, m) => i < m,
+        Demand::Breaks(_) => true,
         Demand::Depth(n) => {
-            let h = fields::wide(height(heights, i));
-            if h > 0 {
-                return h < n;
-            }
-            false
+            let h = usize::from(height(heights, i));
+            h > 0 && h < n
         }
     }
 }
@@ -108,8 +90,7 @@ fn inside(demand: Demand) -> Demand
     ensures { result ≡ inside demand }
 {
     match demand {
-        Demand::Names(n, m) => Demand::Names(n, m),
-        Demand::Breaks(ok) => Demand::Breaks(ok),
+        Demand::Names(_, _) | Demand::Breaks(_) => demand,
         Demand::Depth(n) => Demand::Depth(n - 1),
     }
 }
@@ -119,34 +100,34 @@ fn breaking(demand: Demand, may: bool) -> Demand
     ensures { result ≡ breaking demand may }
 {
     match demand {
-        Demand::Names(n, m) => Demand::Names(n, m),
-        Demand::Breaks(ok) => Demand::Breaks(may),
-        Demand::Depth(n) => Demand::Depth(n),
+        Demand::Breaks(_) => Demand::Breaks(may),
+        Demand::Names(_, _) | Demand::Depth(_) => demand,
     }
 }
 
 // What is asked of the first of a command's parts, from what is asked of the others: a break may stand in a loop's body, and not in a
 // guard; a sequence treats its first command as the others.
+#[tactic(auto, unfolding(crate::specs::Asked::of_first, meaning::specs::Basics::choose))]
 fn of_first(demand: Demand, tag: u8) -> Demand
     ensures { result ≡ of_first demand tag }
 {
-    if tag == Tag::LOOP {
-        return breaking(demand, true);
+    match tag {
+        Tag::LOOP => breaking(demand, true),
+        Tag::SEQUENCE => demand,
+        _ => breaking(demand, false),
     }
-    if tag == Tag::SEQUENCE {
-        return demand;
-    }
-    breaking(demand, false)
 }
 
 // The commands in a command, from its tag and payload; those in a guarded one are behind its flag.
+#[tactic(auto, unfolding(crate::specs::Asked::inner_of, meaning::specs::Basics::choose))]
 fn inner(tag: u8, p: &[u8]) -> &[u8]
     ensures { result.now ≡ inner_of tag p.now }
 {
     if tag == Tag::GUARDED {
-        return parts::behind(p, 1);
+        parts::behind(p, 1)
+    } else {
+        p
     }
-    p
 }
 
 // A command, nested at most `depth` deep, from its tag and payload.
@@ -160,23 +141,21 @@ fn command_holds(demand: Demand, heights: &[u8], tag: u8, p: &[u8], depth: usize
     if !has_room(demand) {
         return false;
     }
-    if tag == Tag::RULE_SET {
-        return rule_set_holds(demand, p);
+    match tag {
+        Tag::RULE_SET => rule_set_holds(demand, p),
+        Tag::BREAK => break_holds(demand),
+        Tag::CALL => call_holds(demand, heights, parts::number_at(p, 0)),
+        _ => {
+            let within = inside(demand);
+            commands_hold(
+                of_first(within, tag),
+                within,
+                heights,
+                inner(tag, p),
+                depth - 1,
+            )
+        }
     }
-    if tag == Tag::BREAK {
-        return break_holds(demand);
-    }
-    if tag == Tag::CALL {
-        return call_holds(demand, heights, parts::number_at(p, 0));
-    }
-    let within = inside(demand);
-    commands_hold(
-        of_first(within, tag),
-        within,
-        heights,
-        inner(tag, p),
-        depth - 1,
-    )
 }
 
 // Commands one after the other: what is asked of the first, and of the others.
@@ -225,13 +204,11 @@ fn procedure_holds(demand: Demand, heights: &[u8], image: &[u8], i: usize) -> bo
 fn part_holds(demand: Demand, heights: &[u8], tag: u8, p: &[u8]) -> bool
     ensures { For (image_part tag p.now) (λ i. result ≡ part_asked demand heights.now i) }
 {
-    if tag == Tag::RULE {
-        return true;
+    match tag {
+        Tag::RULE => true,
+        Tag::PROCEDURE => body_holds(demand, heights, p),
+        _ => command_holds(demand, heights, tag, p, Limit::DEPTH),
     }
-    if tag == Tag::PROCEDURE {
-        return body_holds(demand, heights, p);
-    }
-    command_holds(demand, heights, tag, p, Limit::DEPTH)
 }
 
 // Every procedure, called or not, and the main command.

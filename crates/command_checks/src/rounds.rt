@@ -15,22 +15,20 @@ fn raised(image: &[u8], heights: &[u8], i: usize, n: u8) -> u8
 {
     let h = crate::height(heights, i);
     if h > 0 {
-        return h;
+        h
+    } else if crate::procedure_holds(Demand::Depth(usize::from(n)), heights, image, i) {
+        n
+    } else {
+        0
     }
-    if crate::procedure_holds(Demand::Depth(fields::wide(n)), heights, image, i) {
-        return n;
-    }
-    0
 }
 
 // Round n. Heights that it has found stand among the others: a call in this round has no room for them.
 fn raise(image: &[u8], heights: &mut [u8], n: u8)
     ensures { For (raw_program image.now) (λ p. Heights p.procedures (n - 1) heights.old → Heights p.procedures n heights.new) }
 {
-    let mut i: usize = 0;
-    while i < heights.len() {
+    for i in 0..heights.len() {
         heights[i] = raised(image, heights, i, n);
-        i += 1;
     }
 }
 
@@ -38,10 +36,8 @@ fn raise(image: &[u8], heights: &mut [u8], n: u8)
 pub fn depth_fits(image: &[u8], heights: &mut [u8]) -> bool
     ensures { For (raw_program image.now) (λ p. Heights p.procedures 0 heights.old → result ≡ depth_holds p) }
 {
-    let mut n: usize = 1;
-    while n < Limit::DEPTH {
+    for n in 1..Limit::DEPTH {
         raise(image, heights, n as u8);
-        n += 1;
     }
     crate::all_hold(Demand::Depth(Limit::DEPTH), heights, image)
 }

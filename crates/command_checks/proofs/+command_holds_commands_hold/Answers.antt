@@ -10,20 +10,20 @@ command_holds-returns-then-depth-eq0 t c = no-depth _ _ _ _ _ _ c.if-depth-eq0.t
 pub command_holds-returns-then-not-has_room : goal.command_holds-returns-then-not-has_room
 command_holds-returns-then-not-has_room t c = no_room _ _ _ _ _ (sym c.has_room.ensures ∙ c.if-not-has_room.true)
 
-pub command_holds-returns-then-tag-eq-RULE_SET : goal.command_holds-returns-then-tag-eq-RULE_SET
-command_holds-returns-then-tag-eq-RULE_SET t c = rule-set-at _ _ _ _ _ _ c.if-depth-eq0.false (sym c.has_room.ensures ∙ c.if-not-has_room.false) c.rule_set_holds.ensures c.if-tag-eq-RULE_SET.true
+pub command_holds-returns-in-80 : goal.command_holds-returns-in-80
+command_holds-returns-in-80 t c = rule-set-at _ _ _ _ _ _ c.if-depth-eq0.false (sym c.has_room.ensures ∙ c.if-not-has_room.false) c.rule_set_holds.ensures c.in-80.is
 
-pub command_holds-returns-then-tag-eq-BREAK : goal.command_holds-returns-then-tag-eq-BREAK
-command_holds-returns-then-tag-eq-BREAK t c = break-at _ _ _ _ _ _ c.if-depth-eq0.false (sym c.has_room.ensures ∙ c.if-not-has_room.false) c.break_holds.ensures c.if-tag-eq-BREAK.true
+pub command_holds-returns-in-87 : goal.command_holds-returns-in-87
+command_holds-returns-in-87 t c = break-at _ _ _ _ _ _ c.if-depth-eq0.false (sym c.has_room.ensures ∙ c.if-not-has_room.false) c.break_holds.ensures c.in-87.is
 
-pub command_holds-returns-then-tag-eq-CALL : goal.command_holds-returns-then-tag-eq-CALL
-command_holds-returns-then-tag-eq-CALL t c = call_at _ _ _ _ _ _ c.if-depth-eq0.false (sym c.has_room.ensures ∙ c.if-not-has_room.false) _ c.number_at.ensures.0 c.call_holds.ensures c.if-tag-eq-CALL.true
+pub command_holds-returns-in-88 : goal.command_holds-returns-in-88
+command_holds-returns-in-88 t c = call_at _ _ _ _ _ _ c.if-depth-eq0.false (sym c.has_room.ensures ∙ c.if-not-has_room.false) _ c.number_at.ensures.0 c.call_holds.ensures c.in-88.is
 
 pub command_holds-commands_hold-requires : goal.command_holds-commands_hold-requires
 command_holds-commands_hold-requires t c = (omega (arith, c.decreases), tt)
 
-pub command_holds-returns : goal.command_holds-returns
-command_holds-returns t c = parts_at _ _ _ _ _ _ c.if-depth-eq0.false (sym c.has_room.ensures ∙ c.if-not-has_room.false) _ c.inside-within.ensures _ c.of_first.ensures _ c.inner.ensures c.commands_hold.ensures c.if-tag-eq-RULE_SET.false c.if-tag-eq-BREAK.false c.if-tag-eq-CALL.false
+pub command_holds-returns-in_default : goal.command_holds-returns-in_default
+command_holds-returns-in_default t c = parts_at _ _ _ _ _ _ c.if-depth-eq0.false (sym c.has_room.ensures ∙ c.if-not-has_room.false) _ c.inside-within.ensures _ c.of_first.ensures _ c.inner.ensures c.commands_hold.ensures (λ h. omega arith) (λ h. omega arith) (λ h. omega arith)
 
 pub commands_hold-loop-at-init : goal.commands_hold-loop-at-init
 commands_hold-loop-at-init t c = parting_start _ _ _ _ _

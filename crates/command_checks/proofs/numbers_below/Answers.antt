@@ -1,12 +1,11 @@
-use Rattle.std.proofs.Common.{◌∙◌, ap, sym, ℕ, le-ltb, lt-ltb, ltb}
-use Rattle.command_checks.proofs.Commanding.{bytes-done, bytes_next, bytes-stop}
+-- `numbers_below` meets its contract.
+use Rattle.std.proofs.Common.{◌∙◌, ℕ, ltb, rules, tests}
+use Rattle.std.proofs.lemmas.Iterator.{YieldsList-from_slice}
+use Rattle.std.proofs.lemmas.Iterator.Search.{all_from_yields_List}
+use Rattle.command_checks.proofs.Commanding.{every_is}
 use Rattle.command_checks.proofs.numbers_below.Goals as goal
 
-pub loop-i-preserved : goal.loop-i-preserved
-loop-i-preserved c = bytes_next (λ (m : ℕ). ltb m c.args.n) c.args.p.now c.loop-i.i c.loop-i.invariant c.loop-i-test.true (ap (λ (m : ℕ). ltb m c.args.n) (sym c.wide.ensures.0) ∙ lt-ltb c.wide.result c.args.n c.if-wide-n.true)
-
-pub returns-else-wide-n : goal.returns-else-wide-n
-returns-else-wide-n c = bytes-stop (λ (m : ℕ). ltb m c.args.n) c.args.p.now c.loop-i.i c.loop-i.invariant c.loop-i-test.true (ap (λ (m : ℕ). ltb m c.args.n) (sym c.wide.ensures.0) ∙ le-ltb c.wide.result c.args.n c.if-wide-n.false)
-
 pub returns : goal.returns
-returns c = bytes-done (λ (m : ℕ). ltb m c.args.n) c.args.p.now c.loop-i.i c.loop-i.invariant c.loop-i-test.false
+returns c =
+    all_from_yields_List (λ (i : ℕ). ltb i c.args.n) _ _ _ c.all.ensures.ran (YieldsList-from_slice c.args.p.now cc) (λ i b q k. search (rules, tests))
+    ∙ every_is (λ (i : ℕ). ltb i c.args.n) c.args.p.now

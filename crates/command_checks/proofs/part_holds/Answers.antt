@@ -1,12 +1,13 @@
 -- `part_holds` meets its contract.
+use Rattle.std.proofs.Common.{arith}
 use Rattle.command_checks.proofs.Parts.{part-main, part-procedure, part-rule}
 use Rattle.command_checks.proofs.part_holds.Goals as goal
 
-pub returns-then-tag-eq-RULE : goal.returns-then-tag-eq-RULE
-returns-then-tag-eq-RULE c = part-rule _ _ _ _ c.if-tag-eq-RULE.true
+pub returns-in-16 : goal.returns-in-16
+returns-in-16 c = part-rule _ _ _ _ c.in-16.is
 
-pub returns-then-tag-eq-PROCEDURE : goal.returns-then-tag-eq-PROCEDURE
-returns-then-tag-eq-PROCEDURE c = part-procedure _ _ _ _ _ c.if-tag-eq-PROCEDURE.true c.body_holds.ensures
+pub returns-in-23 : goal.returns-in-23
+returns-in-23 c = part-procedure _ _ _ _ _ c.in-23.is c.body_holds.ensures
 
-pub returns : goal.returns
-returns c = part-main _ _ _ _ _ c.if-tag-eq-RULE.false c.if-tag-eq-PROCEDURE.false c.command_holds.ensures
+pub returns-in_default : goal.returns-in_default
+returns-in_default c = part-main _ _ _ _ _ (λ h. omega arith) (λ h. omega arith) c.command_holds.ensures

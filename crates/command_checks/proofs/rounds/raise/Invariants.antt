@@ -1,5 +1,5 @@
--- `raise` meets its contract. The loop's invariant: the heights of the procedures passed are found. The measure is how many are left.
-use Rattle.std.proofs.Common.{◌≡◌, ◌-◌, length}
+-- `raise` meets its contract. The loop's invariant: the heights of the procedures passed are found.
+use Rattle.std.proofs.Common.{◌-◌}
 use Rattle.meaning.specs.Image.{raw_program}
 use Rattle.parts.specs.Series.{For}
 use Rattle.command_checks.specs.Heights.{Heights}
@@ -7,7 +7,4 @@ use Rattle.command_checks.proofs.Raising.{Raising}
 use Rattle.command_checks.proofs.rounds.raise.Given as goal
 
 abbrev pub invariant-loop-i : goal.invariant-loop-i
-invariant-loop-i l = (length l.heights ≡ length l.initial.heights) × (For (raw_program l.image) (λ p. Heights p.procedures (l.n - 1) l.initial.heights → Raising p.procedures (l.n - 1) l.n l.i l.heights))
-
-abbrev pub decreases-loop-i : goal.decreases-loop-i
-decreases-loop-i l = length l.heights - l.i
+invariant-loop-i l = For (raw_program l.image) (λ p. Heights p.procedures (l.n - 1) l.initial.heights → Raising p.procedures (l.n - 1) l.n l.i l.heights)
