@@ -14,7 +14,7 @@ ghost use Rattle.parts.specs.Series.{For};
 ghost use Rattle.parts.specs.Images.{image_part, procedure};
 ghost use Rattle.command_checks.specs.Asked.{room_asked, numbers_asked, break_asked, call_asked, inside, breaking, of_first, inner_of, command_asked, parts_asked, part_asked};
 
-use fields::Found;
+use fields::{Field, Fields};
 use meaning::tags::{Limit, Tag};
 
 mod rounds;
@@ -163,19 +163,15 @@ fn command_holds(demand: Demand, heights: &[u8], tag: u8, p: &[u8], depth: usize
 fn commands_hold(first: Demand, others: Demand, heights: &[u8], p: &[u8], depth: usize) -> bool
     ensures { For (only passes_all (command depth) limits.commands p.now) (λ l. result ≡ parts_asked first others heights.now l) }
 {
-    let mut at: usize = 0;
     let mut demand = first;
-    while at < p.len() {
-        let found = fields::read_field(p, at);
-        let Found::Field(tag, start, end) = found else {
+    for field in Fields::of(p) {
+        let Ok(Field { tag, start, end }) = field else {
             return false;
         };
-        if command_holds(demand, heights, tag, fields::part(p, start, end), depth) {
-            at = end;
-            demand = others;
-        } else {
+        if !command_holds(demand, heights, tag, &p[start..end], depth) {
             return false;
         }
+        demand = others;
     }
     true
 }
@@ -215,15 +211,11 @@ fn part_holds(demand: Demand, heights: &[u8], tag: u8, p: &[u8]) -> bool
 fn all_hold(demand: Demand, heights: &[u8], image: &[u8]) -> bool
     ensures { For (raw_program image.now) (λ p. result ≡ everywhere (command_asked demand heights.now) p) }
 {
-    let mut at: usize = 0;
-    while at < image.len() {
-        let found = fields::read_field(image, at);
-        let Found::Field(tag, start, end) = found else {
+    for field in Fields::of(image) {
+        let Ok(Field { tag, start, end }) = field else {
             return false;
         };
-        if part_holds(demand, heights, tag, fields::part(image, start, end)) {
-            at = end;
-        } else {
+        if !part_holds(demand, heights, tag, &image[start..end]) {
             return false;
         }
     }

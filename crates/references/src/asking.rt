@@ -9,8 +9,7 @@ ghost use Rattle.parts.specs.Series.{For};
 ghost use Rattle.parts.specs.Rows.{graph_item};
 ghost use Rattle.references.specs.Asked.{operand_asked, element_asked, lists_in, ends_below, edge_marked, item_fits, item_asked, graph_asked, condition_fits, condition_asked, test_asked};
 
-use crate::Ask;
-use fields::Found;
+use crate::{Ask, every_field};
 use meaning::tags::{Mark, Tag, VariableType};
 use meaning::{Condition, Element, Operand};
 
@@ -72,20 +71,10 @@ fn element_holds(ask: Ask, e: Element, types: &[u8]) -> bool
 fn label_holds(ask: Ask, p: &[u8], types: &[u8]) -> bool
     ensures { For (label p.now) (λ l. result ≡ every (element_asked ask types.now) l) }
 {
-    let mut at: usize = 0;
-    while at < p.len() {
-        let found = fields::read_field(p, at);
-        let Found::Field(tag, start, end) = found else {
-            return false;
-        };
-        let e = parts::reading::read_element(tag, fields::part(p, start, end));
-        if element_holds(ask, e, types) {
-            at = end;
-        } else {
-            return false;
-        }
-    }
-    true
+    every_field(
+        p,
+        |tag, part| element_holds(ask, parts::reading::read_element(tag, part), types),
+    )
 }
 
 #[tactic(auto, unfolding(meaning::specs::Basics::both))]
@@ -139,19 +128,7 @@ fn item_holds(ask: Ask, tag: u8, p: &[u8], types: &[u8]) -> bool
 pub fn graph_holds(ask: Ask, p: &[u8], types: &[u8]) -> bool
     ensures { For (rule_graph p.now) (λ g. result ≡ graph_asked ask types.now g) }
 {
-    let mut at: usize = 0;
-    while at < p.len() {
-        let found = fields::read_field(p, at);
-        let Found::Field(tag, start, end) = found else {
-            return false;
-        };
-        if item_holds(ask, tag, fields::part(p, start, end), types) {
-            at = end;
-        } else {
-            return false;
-        }
-    }
-    true
+    every_field(p, |tag, part| item_holds(ask, tag, part, types))
 }
 
 #[tactic(auto, unfolding(meaning::specs::Basics::both, meaning::specs::Basics::every, meaning::specs::References::condition_operands))]
@@ -196,19 +173,8 @@ fn condition_holds(ask: Ask, c: Condition, types: &[u8]) -> bool
 pub fn tests_hold(ask: Ask, p: &[u8], types: &[u8]) -> bool
     ensures { For (only passes_all test limits.tests p.now) (λ l. result ≡ every (test_asked ask types.now) l) }
 {
-    let mut at: usize = 0;
-    while at < p.len() {
-        let found = fields::read_field(p, at);
-        let Found::Field(tag, start, end) = found else {
-            return false;
-        };
-        let t = parts::reading::read_test(tag, fields::part(p, start, end));
-        let c = t.condition;
-        if condition_holds(ask, c, types) {
-            at = end;
-        } else {
-            return false;
-        }
-    }
-    true
+    every_field(
+        p,
+        |tag, part| condition_holds(ask, parts::reading::read_test(tag, part).condition, types),
+    )
 }

@@ -1,7 +1,7 @@
 -- The cycle of `command_holds` and `commands_hold` meets its contracts.
-use Rattle.std.proofs.Common.{◌∙◌, sym, arith}
+use Rattle.std.proofs.Common.{refl, ◌∙◌, sym, arith}
 use Rattle.command_checks.proofs.Commanding.{break-at, call_at, no-depth, no_room, parting_cut, parting_done, parting_next, parting_start, parting_stop, parts_at, rule-set-at}
-use Rattle.parts.proofs.Loops.{a-field, nearer, no_field, part_in}
+use Rattle.parts.proofs.Loops.{starts, gives-field, gives-cut, gives-end}
 use Rattle.command_checks.proofs.+command_holds_commands_hold.Goals as goal
 
 pub command_holds-returns-then-depth-eq0 : goal.command_holds-returns-then-depth-eq0
@@ -25,26 +25,37 @@ command_holds-commands_hold-requires t c = (omega (arith, c.decreases), tt)
 pub command_holds-returns-in_default : goal.command_holds-returns-in_default
 command_holds-returns-in_default t c = parts_at _ _ _ _ _ _ c.if-depth-eq0.false (sym c.has_room.ensures ∙ c.if-not-has_room.false) _ c.inside-within.ensures _ c.of_first.ensures _ c.inner.ensures c.commands_hold.ensures (λ h. omega arith) (λ h. omega arith) (λ h. omega arith)
 
-pub commands_hold-loop-at-init : goal.commands_hold-loop-at-init
-commands_hold-loop-at-init t c = parting_start _ _ _ _ _
+pub commands_hold-loop-field-init : goal.commands_hold-loop-field-init
+commands_hold-loop-field-init t c =
+    let s = starts c.into_iter-field-iterator.ensures.into_iter_gives c.of-field-items.ensures in
+    (s.0, rw s.1 (parting_start _ _ _ _ _))
 
 pub commands_hold-returns-in_default : goal.commands_hold-returns-in_default
-commands_hold-returns-in_default t c = parting_cut c.loop-at.invariant c.loop-at-test.true (no_field _ _ _ c.read_field-found.ensures c.in_default.not-Field)
+commands_hold-returns-in_default t c =
+    let s = gives-cut c.loop-field.invariant.0 c.in-Some.ensures.steps c.in_default.is in
+    parting_cut c.loop-field.invariant.1 s.0 s.1
 
-pub commands_hold-part-requires : goal.commands_hold-part-requires
-commands_hold-part-requires t c = part_in (a-field _ _ c.read_field-found.ensures c.in-Field.is)
+pub commands_hold-slice_bounds-command_holds-count : goal.commands_hold-slice_bounds-command_holds-count
+commands_hold-slice_bounds-command_holds-count t c = (gives-field c.loop-field.invariant.0 c.in-Some.ensures.steps c.in-Ok.is).part.0
+
+pub commands_hold-slice_bounds-command_holds-start : goal.commands_hold-slice_bounds-command_holds-start
+commands_hold-slice_bounds-command_holds-start t c = (gives-field c.loop-field.invariant.0 c.in-Some.ensures.steps c.in-Ok.is).part.0
+
+pub commands_hold-slice_bounds-command_holds-end : goal.commands_hold-slice_bounds-command_holds-end
+commands_hold-slice_bounds-command_holds-end t c = (gives-field c.loop-field.invariant.0 c.in-Some.ensures.steps c.in-Ok.is).part.1
 
 pub commands_hold-command_holds-requires : goal.commands_hold-command_holds-requires
 commands_hold-command_holds-requires t c = (omega (arith, c.decreases), tt)
 
-pub commands_hold-loop-at-smaller : goal.commands_hold-loop-at-smaller
-commands_hold-loop-at-smaller t c = nearer (a-field _ _ c.read_field-found.ensures c.in-Field.is)
+pub commands_hold-loop-field-preserved : goal.commands_hold-loop-field-preserved
+commands_hold-loop-field-preserved t c =
+    let s = gives-field c.loop-field.invariant.0 c.in-Some.ensures.steps c.in-Ok.is in
+    (s.same, rw s.place (parting_next c.loop-field.invariant.1 s.inside s.lies refl c.command_holds.ensures c.if-not-command_holds.false))
 
-pub commands_hold-loop-at-preserved : goal.commands_hold-loop-at-preserved
-commands_hold-loop-at-preserved t c = parting_next c.loop-at.invariant c.loop-at-test.true (a-field _ _ c.read_field-found.ensures c.in-Field.is) c.part.ensures c.command_holds.ensures c.if-command_holds.true
-
-pub commands_hold-returns-else-command_holds : goal.commands_hold-returns-else-command_holds
-commands_hold-returns-else-command_holds t c = parting_stop c.loop-at.invariant c.loop-at-test.true (a-field _ _ c.read_field-found.ensures c.in-Field.is) c.part.ensures c.command_holds.ensures c.if-command_holds.false
+pub commands_hold-returns-then-not-command_holds : goal.commands_hold-returns-then-not-command_holds
+commands_hold-returns-then-not-command_holds t c =
+    let s = gives-field c.loop-field.invariant.0 c.in-Some.ensures.steps c.in-Ok.is in
+    parting_stop c.loop-field.invariant.1 s.inside s.lies refl c.command_holds.ensures c.if-not-command_holds.true
 
 pub commands_hold-returns : goal.commands_hold-returns
-commands_hold-returns t c = parting_done c.loop-at.invariant c.loop-at-test.false
+commands_hold-returns t c = parting_done c.loop-field.invariant.1 (gives-end c.loop-field.invariant.0 c.in-None.ensures.steps)

@@ -1,6 +1,6 @@
 -- The measure is twice the depth, and one more for commands in a row. The loop's invariant: what is asked of all is what is asked
--- from the place on, and its measure is what is left of the bytes.
-use Rattle.std.proofs.Common.{◌+◌, ◌-◌, ◌*◌, length}
+-- from the place on.
+use Rattle.std.proofs.Common.{◌≡◌, ◌+◌, ◌*◌}
 use Rattle.command_checks.proofs.Commanding.{Parting}
 use Rattle.command_checks.proofs.+command_holds_commands_hold.Given as goal
 
@@ -10,8 +10,6 @@ decreases-command_holds l = 2 * l.depth
 abbrev pub decreases-commands_hold : goal.decreases-commands_hold
 decreases-commands_hold l = 2 * l.depth + 1
 
-abbrev pub invariant-commands_hold-loop-at : goal.invariant-commands_hold-loop-at
-invariant-commands_hold-loop-at l = Parting l.initial.demand l.others l.heights l.depth l.p l.at l.demand
-
-abbrev pub decreases-commands_hold-loop-at : goal.decreases-commands_hold-loop-at
-decreases-commands_hold-loop-at l = length l.p - l.at
+abbrev pub invariant-commands_hold-loop-field : goal.invariant-commands_hold-loop-field
+invariant-commands_hold-loop-field l =
+    (l.field-iterator.bytes.now ≡ l.p) × Parting l.initial.demand l.others l.heights l.depth l.p l.field-iterator.place l.demand

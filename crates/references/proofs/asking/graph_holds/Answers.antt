@@ -1,28 +1,10 @@
-use Rattle.std.proofs.Common.{refl}
-use Rattle.references.specs.Asked.{graph_asked}
-use Rattle.parts.specs.Rows.{graph-series, items}
-use Rattle.parts.specs.Series.{walk_cut, walk_done, walk_next, walk_start, walk_stop}
-use Rattle.parts.proofs.Loops.{a-field, nearer, no_field, part_in}
+-- `asking::graph_holds` meets its contract.
+use Rattle.std.proofs.Common.{rules}
+use Rattle.parts.specs.Rows.{graph_item, graph-series, items}
+use Rattle.references.specs.Asked.{graph_asked, item_asked}
+use Rattle.references.proofs.Walks.{every_answers}
 use Rattle.references.proofs.asking.graph_holds.Goals as goal
 
-pub loop-at-init : goal.loop-at-init
-unfolding graph_asked
-loop-at-init c = walk_start (λ g e. (items g, graph-series _ g e, refl))
-
-pub returns-in_default : goal.returns-in_default
-returns-in_default c = walk_cut c.loop-at.invariant c.loop-at-test.true (no_field _ _ _ c.read_field-found.ensures c.in_default.not-Field)
-
-pub part-requires : goal.part-requires
-part-requires c = part_in (a-field _ _ c.read_field-found.ensures c.in-Field.is)
-
-pub loop-at-smaller : goal.loop-at-smaller
-loop-at-smaller c = nearer (a-field _ _ c.read_field-found.ensures c.in-Field.is)
-
-pub loop-at-preserved : goal.loop-at-preserved
-loop-at-preserved c = walk_next c.loop-at.invariant c.loop-at-test.true (a-field _ _ c.read_field-found.ensures c.in-Field.is) c.part.ensures c.item_holds.ensures c.if-item_holds.true
-
-pub returns-else-item_holds : goal.returns-else-item_holds
-returns-else-item_holds c = walk_stop c.loop-at.invariant c.loop-at-test.true (a-field _ _ c.read_field-found.ensures c.in-Field.is) c.part.ensures c.item_holds.ensures c.if-item_holds.false
-
 pub returns : goal.returns
-returns c = walk_done c.loop-at.invariant c.loop-at-test.false
+unfolding graph_asked
+returns c g e = every_answers graph_item (item_asked c.args.ask c.args.types.now) (λ tag part r q i k. search rules) c.every_field.ensures (items g) (graph-series _ g e)
