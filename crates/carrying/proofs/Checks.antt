@@ -5,10 +5,10 @@ use mathlib.Core.Option.{some, none}
 use mathlib.Core.List.{List}
 use Prim.Native.Nat.{ℕ, ◌*◌, ◌/◌, ◌≤◌}
 use lib.ListN.{length}
-use Rattle.meaning.specs.Basics.{choose, both, clauses, first_failing}
-use Rattle.meaning.specs.Layout.{Sized, most_atoms, node_length, edge_length, fits_table, keeps_layout}
+use Rattle.meaning.specs.Basics.{choose, both, first_failing}
+use Rattle.meaning.specs.Layout.{Sized, most_atoms, node_length, edge_length, keeps_layout}
 use Rattle.meaning.specs.Calls.{answer_number}
-use Rattle.meaning.specs.Carrying.{LentTables, Carries, counts_agree, lengths_agree, slots_fit, host_fits, unfit, carry_refusal, carry_on, carry}
+use Rattle.meaning.specs.Carrying.{LentTables, Carries, lengths_agree, slots_fit, host_fits, unfit, carry_refusal, carry_on, carry}
 use Rattle.meaning.specs.Laws.Tests.{both_true}
 use Rattle.laws.specs.Pieces.{fits_whole}
 use Rattle.meaning.specs.declared.Layout.{Layout}
@@ -20,36 +20,6 @@ use Rattle.meaning.specs.declared.Table.TheVariants.{Nodes, Edges}
 use Rattle.graph.specs.Graph.{Legal}
 use Rattle.carrying.specs.Tables.{labels_fit_in, fits_in, table_carried}
 use Rattle.laws.specs.Carrying.{lengths-agree, Taken, taken}
-
--- Lengths.
-
-module _ (k : Manner) (w most : ℕ) (table : List ℕ) (v most' : ℕ) (to : List ℕ) where
-  pub other_from : fits_table w most table ≡ false → false ≡ lengths_agree k w most table v most' to
-  unfolding lengths_agree clauses both
-  other_from e = rw e
-
-  module _ (from : fits_table w most table ≡ true) where
-    pub other-into : fits_table v most' to ≡ false → false ≡ lengths_agree k w most table v most' to
-    unfolding lengths_agree clauses both
-    other-into e = rw (from, e)
-
-    pub counted : fits_table v most' to ≡ true → counts_agree k (length table / w) (length to / v) ≡ lengths_agree k w most table v most' to
-    unfolding lengths_agree clauses both
-    counted e = rw (from, e) (at (counts_agree k (length table / w) (length to / v)))
-      where
-        at : (b : Bool) → b ≡ both true (both true (both b true))
-        at true = refl
-        at false = refl
-
--- What fits.
-
-pub fits_so : (a b : Bool) → a ≡ true → b ≡ both a b
-unfolding both
-fits_so a b e = rw e
-
-pub fits_not : (a b : Bool) → a ≡ false → false ≡ both a b
-unfolding both
-fits_not a b e = rw e
 
 -- The checks in their order.
 

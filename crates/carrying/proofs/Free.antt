@@ -4,7 +4,10 @@ use mathlib.Core.Bool.{Bool, true, false, not}
 use mathlib.Core.List.{List}
 use Prim.Native.Nat.{ℕ, ◌+◌, ◌-◌, ◌<◌, ◌≤◌}
 use native.Mathlib.Omega.{arith}
-use native.Mathlib.Decide.{ℕ_discrete}
+use Rattle.std.specs.Bool.{MatchBool}
+use Rattle.std.specs.List.{AllWithin, HoldsAt, range_with_len}
+use Rattle.std.proofs.Common.{subst}
+use Rattle.std.proofs.lemmas.List.FromFn.{length-range_with_len, get_or-range_with_len}
 use lib.ListN.{length, drop, length-drop}
 use lib.Seq.{get_or-drop}
 use Rattle.meaning.specs.Basics.{every}
@@ -17,13 +20,17 @@ use Rattle.meaning.specs.declared.Table.TheVariants.{Nodes, Edges}
 use Rattle.graph.specs.Graph.{slots_in}
 use Rattle.carrying.specs.Tables.{live_in, free_from_in}
 
--- what holds from a number up to another, and of that, holds up to the next
-pub one_further : (P : ℕ → Type 0) (n x : ℕ) → ((i : ℕ) → n ≤ i → i < x → P i) → P x → (i : ℕ) → n ≤ i → i < x + 1 → P i
-one_further P n x f p i h k = at (ℕ_discrete i x)
-  where
-    at : Dec (i ≡ x) → P i
-    at (yes e) = rw e p
-    at (no e) = f i h (omega arith)
+-- a test of each number from one on up to another
+pub all-between : (Yes No : ℕ → Type 0) (n end : ℕ) (r : Bool)
+    → MatchBool r (AllWithin Yes (range_with_len n (end - n)) 0 (length (range_with_len n (end - n))))
+    ((k : ℕ) × (k < length (range_with_len n (end - n))) × HoldsAt No (range_with_len n (end - n)) k)
+    → MatchBool r ((x : ℕ) → n ≤ x → x < end → Yes x) ((x : ℕ) × (n ≤ x) × (x < end) × No x)
+all-between Yes No n end true f = λ x h k.
+    let i : x - n < end - n = omega arith in
+    subst Yes (get_or-range_with_len n (end - n) (x - n) 0 i ∙ omega arith) (f (x - n) 0 (omega arith) (rw (length-range_with_len n (end - n)) i))
+all-between Yes No n end false h =
+    let i : h.0 < end - n = rw (← (length-range_with_len n (end - n))) h.1 in
+    (n + h.0, omega arith, omega arith, subst No (get_or-range_with_len n (end - n) h.0 0 i) (h.2 0))
 
 module _ {A : Type 0} (l : List (Slot A)) (n : ℕ) where
   abbrev free_from : Bool
@@ -50,15 +57,23 @@ module _ {A : Type 0} (l : List (Slot A)) (n : ℕ) where
           ∙ every_true (λ s. not (is_live s)) (drop n l) free q (x - n) d
 
 module _ (L : Layout) (nodes edges : List ℕ) where
-  pub free_of : (t : Table) (n : ℕ) → ((x : ℕ) → n ≤ x → x < slots_in L nodes edges t → live_in L nodes edges t x ≡ false)
+  free_of : (t : Table) (n : ℕ) → ((x : ℕ) → n ≤ x → x < slots_in L nodes edges t → live_in L nodes edges t x ≡ false)
       → free_from_in L nodes edges t n ≡ true
   free_of Nodes n f = all-free (read_nodes L nodes) n f
   free_of Edges n f = all-free (read_edges L edges) n f
 
-  pub free-not : (t : Table) (n x : ℕ) → n ≤ x → x < slots_in L nodes edges t → live_in L nodes edges t x ≡ true
+  free-not : (t : Table) (n x : ℕ) → n ≤ x → x < slots_in L nodes edges t → live_in L nodes edges t x ≡ true
       → false ≡ free_from_in L nodes edges t n
   free-not Nodes n x = one-live (read_nodes L nodes) n x
   free-not Edges n x = one-live (read_edges L edges) n x
+
+  -- what a test of each slot says
+  pub free_told : (t : Table) (n : ℕ) (r : Bool)
+      → MatchBool r ((x : ℕ) → n ≤ x → x < slots_in L nodes edges t → live_in L nodes edges t x ≡ false)
+      ((x : ℕ) × (n ≤ x) × (x < slots_in L nodes edges t) × (live_in L nodes edges t x ≡ true))
+      → r ≡ free_from_in L nodes edges t n
+  free_told t n true f = sym (free_of t n f)
+  free_told t n false h = free-not t n h.0 h.1 h.2 h.3
 
   -- a live slot is there
   pub live-there : (t : Table) (x : ℕ) → live_in L nodes edges t x ≡ true → x < slots_in L nodes edges t

@@ -9,6 +9,7 @@ use lib.Dec.{leb}
 use lib.ListN.{length}
 use Rattle.meaning.specs.Layout.{Slot, free, live, Node, Edge, read_nodes, read_edges}
 use Rattle.meaning.specs.Matching.{node_in, edge_in}
+use Rattle.std.specs.Bool.{MatchBool}
 use Rattle.meaning.specs.Carrying.{label_fits}
 use Rattle.meaning.specs.Laws.Tests.{every_of}
 use Rattle.meaning.specs.Laws.Every.{Every-true, Every-at}
@@ -36,15 +37,23 @@ module _ (L : Layout) (nodes edges : List ℕ) (most : ℕ) where
   fit_at Nodes e x = leb-true _ _ (sym (node-fits most _) ∙ Every-at _ free refl (read_nodes L nodes) (Every-true _ _ (λ s q. q) (read_nodes L nodes) e) x)
   fit_at Edges e x = leb-true _ _ (sym (edge-fits most _) ∙ Every-at _ free refl (read_edges L edges) (Every-true _ _ (λ s q. q) (read_edges L edges) e) x)
 
-  pub fit_of : (t : Table) → ((x : ℕ) → x < slots_in L nodes edges t → length (label_in L nodes edges t x) ≤ most)
+  fit_of : (t : Table) → ((x : ℕ) → x < slots_in L nodes edges t → length (label_in L nodes edges t x) ≤ most)
       → labels_fit_in L nodes edges t most ≡ true
   fit_of Nodes f = every_of _ (read_nodes L nodes) free (λ x h. node-fits most _ ∙ le-leb _ _ (f x h))
   fit_of Edges f = every_of _ (read_edges L edges) free (λ x h. edge-fits most _ ∙ le-leb _ _ (f x h))
 
-  pub fit-not : (t : Table) (x : ℕ) → x < slots_in L nodes edges t → most < length (label_in L nodes edges t x)
+  fit-not : (t : Table) (x : ℕ) → x < slots_in L nodes edges t → most < length (label_in L nodes edges t x)
       → false ≡ labels_fit_in L nodes edges t most
   fit-not t x h k = at (labels_fit_in L nodes edges t most) refl
     where
       at : (b : Bool) → labels_fit_in L nodes edges t most ≡ b → false ≡ b
       at true e = absurd (omega (arith, fit_at t e x))
       at false e = refl
+
+  -- what a test of each label says
+  pub fit_told : (t : Table) (r : Bool)
+      → MatchBool r ((x : ℕ) → x < slots_in L nodes edges t → length (label_in L nodes edges t x) ≤ most)
+      ((x : ℕ) × (x < slots_in L nodes edges t) × (most < length (label_in L nodes edges t x)))
+      → r ≡ labels_fit_in L nodes edges t most
+  fit_told t true f = sym (fit_of t f)
+  fit_told t false h = fit-not t h.0 h.1 h.2

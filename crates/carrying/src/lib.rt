@@ -15,13 +15,13 @@ ghost use Rattle.graph.specs.Graph.{Legal, slots_in};
 ghost use Rattle.answers.specs.Answers.{refusal_of};
 ghost use Rattle.carrying.specs.Tables.{label_in, live_in, labels_fit_in, free_from_in, fits_in, slot_carried, table_carried};
 
-use answers::Checked;
 use labels::Label;
 use meaning::{Answer, Layout, Manner, Refusal, Table};
 
 // What is refused.
 
 // Whether a host may be carried from so many slots to so many.
+#[tactic(auto, unfolding(meaning::specs::Carrying::counts_agree))]
 fn counts_agree(manner: Manner, n: usize, m: usize) -> bool
     ensures { result ≡ counts_agree manner n m }
 {
@@ -32,6 +32,7 @@ fn counts_agree(manner: Manner, n: usize, m: usize) -> bool
 }
 
 // Whether a table and the one that it is carried to have lengths of their layouts, and slot counts that agree.
+#[tactic(auto, unfolding(meaning::specs::Carrying::lengths_agree, meaning::specs::Basics::clauses, meaning::specs::Basics::both))]
 fn lengths_agree(
     manner: Manner,
     table: &[u8],
@@ -44,12 +45,9 @@ fn lengths_agree(
     requires { (0 < w) × (0 < v) }
     ensures { result ≡ lengths_agree manner w most table.now v to_most to.now }
 {
-    if slots::fits_table(table, w, most) {
-        if slots::fits_table(to, v, to_most) {
-            return counts_agree(manner, table.len() / w, to.len() / v);
-        }
-    }
-    false
+    slots::fits_table(table, w, most)
+        && slots::fits_table(to, v, to_most)
+        && counts_agree(manner, table.len() / w, to.len() / v)
 }
 
 // How many atoms the label of a slot has.
@@ -70,14 +68,7 @@ fn labels_fit(l: Layout, nodes: &[u8], edges: &[u8], which: Table, most: usize) 
     ensures { result ≡ labels_fit_in l nodes.now edges.now which most }
 {
     let n = graph::slots_in(l, nodes, edges, which);
-    let mut x: usize = 0;
-    while x < n {
-        if atoms_in(l, nodes, edges, which, x) > most {
-            return false;
-        }
-        x += 1;
-    }
-    true
+    (0..n).all(|x| atoms_in(l, nodes, edges, which, x) <= most)
 }
 
 // Whether slot x of a table is there and live.
@@ -97,28 +88,20 @@ fn free_from(l: Layout, nodes: &[u8], edges: &[u8], which: Table, n: usize) -> b
     ensures { result ≡ free_from_in l nodes.now edges.now which n }
 {
     let end = graph::slots_in(l, nodes, edges, which);
-    let mut x = n;
-    while x < end {
-        if is_live(l, nodes, edges, which, x) {
-            return false;
-        }
-        x += 1;
-    }
-    true
+    (n..end).all(|x| !is_live(l, nodes, edges, which, x))
 }
 
 // Whether a table fits in n slots whose labels have at most so many atoms.
+#[tactic(auto, unfolding(meaning::specs::Basics::both))]
 fn fits(l: Layout, nodes: &[u8], edges: &[u8], which: Table, most: usize, n: usize) -> bool
     requires { Legal l nodes.now edges.now }
     ensures { result ≡ fits_in l nodes.now edges.now which most n }
 {
-    if labels_fit(l, nodes, edges, which, most) {
-        return free_from(l, nodes, edges, which, n);
-    }
-    false
+    labels_fit(l, nodes, edges, which, most) && free_from(l, nodes, edges, which, n)
 }
 
 // What is answered where the host does not fit.
+#[tactic(auto, unfolding(meaning::specs::Carrying::unfit))]
 fn unfit(manner: Manner) -> Refusal
     ensures { result ≡ unfit manner }
 {
@@ -137,7 +120,7 @@ fn check(
     edges: &[u8],
     to_nodes: &[u8],
     to_edges: &[u8],
-) -> Checked
+) -> Result<(), Refusal>
     requires sized { Sized from }
     requires sized_2 { Sized to }
     requires atoms_le_most_atoms { from.atoms ≤ most_atoms }
@@ -146,15 +129,15 @@ fn check(
     if !lengths_agree(
         manner, nodes, from.node, from.nodes, to_nodes, to.node, to.nodes,
     ) {
-        return Checked::Refused(Refusal::NodeTableLength);
+        return Err(Refusal::NodeTableLength);
     }
     if !lengths_agree(
         manner, edges, from.edge, from.edges, to_edges, to.edge, to.edges,
     ) {
-        return Checked::Refused(Refusal::EdgeTableLength);
+        return Err(Refusal::EdgeTableLength);
     }
     if !host::keeps_layout(from, nodes, edges) {
-        return Checked::Refused(Refusal::BadHost);
+        return Err(Refusal::BadHost);
     }
     if !fits(
         from,
@@ -164,7 +147,7 @@ fn check(
         to.atoms,
         to_nodes.len() / to.node,
     ) {
-        return Checked::Refused(unfit(manner));
+        return Err(unfit(manner));
     }
     if !fits(
         from,
@@ -174,9 +157,9 @@ fn check(
         to.atoms,
         to_edges.len() / to.edge,
     ) {
-        return Checked::Refused(unfit(manner));
+        return Err(unfit(manner));
     }
-    Checked::Fine
+    Ok(())
 }
 
 // What is written.
@@ -186,17 +169,12 @@ fn in_hand(a: &[u8]) -> Label
     requires { length (laid a.now) ≤ most_atoms }
     ensures { Holds (laid a.now) result }
 {
-    let n = slots::laid::count(a);
+    let len = slots::laid::count(a);
     let mut atoms = [0u32; labels::MOST];
-    let mut j: usize = 0;
-    while j < n {
+    for j in 0..len {
         atoms[j] = slots::laid::atom(a, j);
-        j += 1;
     }
-    Label {
-        len: n,
-        atoms: atoms,
-    }
+    Label { len, atoms }
 }
 
 // Carries a node's slot, or frees it where there is no live one.
@@ -210,10 +188,8 @@ fn carry_node(from: Layout, to: Layout, nodes: &[u8], edges: &[u8], x: usize, ou
     if is_live(from, nodes, edges, Table::Nodes, x) {
         let mark = graph::node_mark(from, nodes, edges, x);
         let root = graph::node_root(from, nodes, edges, x);
-        let label = in_hand(graph::node_label(from, nodes, edges, x));
-        let n = label.len;
-        let atoms = label.atoms;
-        slots::store_node(to, out, x, mark, root, &atoms[..n]);
+        let Label { len, atoms } = in_hand(graph::node_label(from, nodes, edges, x));
+        slots::store_node(to, out, x, mark, root, &atoms[..len]);
     } else {
         slots::free_slot(out, to.node, x);
     }
@@ -231,10 +207,8 @@ fn carry_edge(from: Layout, to: Layout, nodes: &[u8], edges: &[u8], x: usize, ou
         let mark = graph::edge_mark(from, nodes, edges, x);
         let source = graph::edge_source(from, nodes, edges, x);
         let target = graph::edge_target(from, nodes, edges, x);
-        let label = in_hand(graph::edge_label(from, nodes, edges, x));
-        let n = label.len;
-        let atoms = label.atoms;
-        slots::store_edge(to, out, x, mark, source, target, &atoms[..n]);
+        let Label { len, atoms } = in_hand(graph::edge_label(from, nodes, edges, x));
+        slots::store_edge(to, out, x, mark, source, target, &atoms[..len]);
     } else {
         slots::free_slot(out, to.edge, x);
     }
@@ -278,10 +252,8 @@ fn carry_slots(
     requires atoms_value { labels_fit_in from nodes.now edges.now which to.atoms ≡ true }
     ensures { out.new ≡ table_carried from to nodes.now edges.now which n }
 {
-    let mut x: usize = 0;
-    while x < n {
+    for x in 0..n {
         carry_slot(from, to, nodes, edges, which, x, out);
-        x += 1;
     }
 }
 
@@ -300,17 +272,12 @@ pub fn carry_tables(
     requires atoms_le_most_atoms { from.atoms ≤ most_atoms }
     ensures { Carries (carry manner from to (lending_tables nodes.now edges.now to_nodes.old to_edges.old)) (answer_number result) to_nodes.new to_edges.new }
 {
-    let checked = check(manner, from, to, nodes, edges, &to_nodes[..], &to_edges[..]);
-    match checked {
-        Checked::Refused(why) => {
-            return Answer::Refused(why);
-        }
-        Checked::Fine => {
-            let n = to_nodes.len() / to.node;
-            let m = to_edges.len() / to.edge;
-            carry_slots(from, to, nodes, edges, Table::Nodes, n, to_nodes);
-            carry_slots(from, to, nodes, edges, Table::Edges, m, to_edges);
-            return Answer::Result;
-        }
+    if let Err(why) = check(manner, from, to, nodes, edges, to_nodes, to_edges) {
+        return Answer::Refused(why);
     }
+    let n = to_nodes.len() / to.node;
+    let m = to_edges.len() / to.edge;
+    carry_slots(from, to, nodes, edges, Table::Nodes, n, to_nodes);
+    carry_slots(from, to, nodes, edges, Table::Edges, m, to_edges);
+    Answer::Result
 }

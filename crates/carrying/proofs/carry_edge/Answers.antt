@@ -45,13 +45,13 @@ edge_label-requires c =
     }
 
 pub slice_bounds-store_edge-end : goal.slice_bounds-store_edge-end
-slice_bounds-store_edge-end c = sym (held-length c.in_hand-label.result c.in_hand-label.ensures.held)
+slice_bounds-store_edge-end c = sym (held-length c.in_hand-len.result c.in_hand-len.ensures.held)
 
 pub store_edge-requires : goal.store_edge-requires
 store_edge-requires c =
     record {
       sized = c.requires.sized;
-      i_in_bounds = (c.requires.x_in_bounds, omega (arith, ap length c.in_hand-label.ensures.atoms, ap length c.edge_label.ensures.0, c.requires.x_len_bound));
+      i_in_bounds = (c.requires.x_in_bounds, omega (arith, ap length c.in_hand-len.ensures.atoms, ap length c.edge_label.ensures.0, c.requires.x_len_bound));
     }
 
 pub free_slot-requires : goal.free_slot-requires
@@ -61,7 +61,7 @@ free_slot-requires c =
 pub returns-then-is_live : goal.returns-then-is_live
 returns-then-is_live c =
     let a = c.args in
-    c.store_edge.ensures ∙ ap (λ (s : Slot Edge). stored (edge_length a.to) a.x (write_edge a.to s) a.out.now) (edge-again (get_or (read_edges a.from a.edges.now) a.x free) c.edge_mark-mark.result c.edge_source-source.result c.edge_target-target.result (atoms_in c.in_hand-label.result) (sym c.is_live.ensures ∙ c.if-is_live.true) c.edge_mark-mark.ensures c.edge_source-source.ensures c.edge_target-target.ensures (c.in_hand-label.ensures.atoms ∙ c.edge_label.ensures.0))
+    c.store_edge.ensures ∙ ap (λ (s : Slot Edge). stored (edge_length a.to) a.x (write_edge a.to s) a.out.now) (edge-again (get_or (read_edges a.from a.edges.now) a.x free) c.edge_mark-mark.result c.edge_source-source.result c.edge_target-target.result (atoms_in c.in_hand-len.result) (sym c.is_live.ensures ∙ c.if-is_live.true) c.edge_mark-mark.ensures c.edge_source-source.ensures c.edge_target-target.ensures (c.in_hand-len.ensures.atoms ∙ c.edge_label.ensures.0))
 
 pub returns-else-is_live : goal.returns-else-is_live
 returns-else-is_live c =

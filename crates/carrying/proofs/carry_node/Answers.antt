@@ -37,13 +37,13 @@ node_label-requires c =
     }
 
 pub slice_bounds-store_node-end : goal.slice_bounds-store_node-end
-slice_bounds-store_node-end c = sym (held-length c.in_hand-label.result c.in_hand-label.ensures.held)
+slice_bounds-store_node-end c = sym (held-length c.in_hand-len.result c.in_hand-len.ensures.held)
 
 pub store_node-requires : goal.store_node-requires
 store_node-requires c =
     record {
       sized = c.requires.sized;
-      i_in_bounds = (c.requires.x_in_bounds, omega (arith, ap length c.in_hand-label.ensures.atoms, ap length c.node_label.ensures.0, c.requires.x_len_bound));
+      i_in_bounds = (c.requires.x_in_bounds, omega (arith, ap length c.in_hand-len.ensures.atoms, ap length c.node_label.ensures.0, c.requires.x_len_bound));
     }
 
 pub free_slot-requires : goal.free_slot-requires
@@ -53,7 +53,7 @@ free_slot-requires c =
 pub returns-then-is_live : goal.returns-then-is_live
 returns-then-is_live c =
     let a = c.args in
-    c.store_node.ensures ∙ ap (λ (s : Slot Node). stored (node_length a.to) a.x (write_node a.to s) a.out.now) (node-again (get_or (read_nodes a.from a.nodes.now) a.x free) c.node_mark-mark.result c.node_root-root.result (atoms_in c.in_hand-label.result) (sym c.is_live.ensures ∙ c.if-is_live.true) c.node_mark-mark.ensures c.node_root-root.ensures (c.in_hand-label.ensures.atoms ∙ c.node_label.ensures.0))
+    c.store_node.ensures ∙ ap (λ (s : Slot Node). stored (node_length a.to) a.x (write_node a.to s) a.out.now) (node-again (get_or (read_nodes a.from a.nodes.now) a.x free) c.node_mark-mark.result c.node_root-root.result (atoms_in c.in_hand-len.result) (sym c.is_live.ensures ∙ c.if-is_live.true) c.node_mark-mark.ensures c.node_root-root.ensures (c.in_hand-len.ensures.atoms ∙ c.node_label.ensures.0))
 
 pub returns-else-is_live : goal.returns-else-is_live
 returns-else-is_live c =

@@ -1,10 +1,7 @@
 -- `carry_slots` meets its contract. The loop's invariant: x slots are carried, the others are as they were lent.
-use Rattle.std.proofs.Common.{◌≡◌, ◌-◌, ◌≤◌, length}
+use Rattle.std.proofs.Common.{◌≡◌, length}
 use Rattle.carrying.proofs.Filling.{so_far}
 use Rattle.carrying.proofs.carry_slots.Given as goal
 
 abbrev pub invariant-loop-x : goal.invariant-loop-x
-invariant-loop-x l = (l.x ≤ l.n) × ((length l.out ≡ length l.initial.out) × (l.out ≡ so_far l.from l.to l.nodes l.edges l.n l.initial.out l.which l.x))
-
-abbrev pub decreases-loop-x : goal.decreases-loop-x
-decreases-loop-x l = l.n - l.x
+invariant-loop-x l = (length l.out ≡ length l.initial.out) × (l.out ≡ so_far l.from l.to l.nodes l.edges l.n l.initial.out l.which l.x)

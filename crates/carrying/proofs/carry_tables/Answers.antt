@@ -1,23 +1,21 @@
 -- `carry_tables` meets its contract: refused, nothing is written; else both tables.
-use Rattle.std.proofs.Common.{sym, ap, ◌∙◌}
 use Rattle.meaning.specs.Carrying.{lending_tables}
 use Rattle.answers.specs.Answers.{refusal_of}
 use Rattle.carrying.proofs.Checks.{left-refused, left-taken, taken-legal, nodes-labels, edges-labels, nodes-size, edges-size}
 use Rattle.carrying.proofs.carry_tables.Goals as goal
 
-pub returns-in-Refused : goal.returns-in-Refused
+pub returns-in-Err : goal.returns-in-Err
 unfolding refusal_of
-returns-in-Refused c =
+returns-in-Err c =
     let a = c.args in
-    let x = lending_tables a.nodes.now a.edges.now a.to_nodes.now a.to_edges.now in
-    left-refused a.manner a.from a.to x _ (sym (ap refusal_of c.in-Refused.is) ∙ c.check-checked.ensures)
+    left-refused a.manner a.from a.to (lending_tables a.nodes.now a.edges.now a.to_nodes.now a.to_edges.now) _ c.in-Err.ensures
 
 pub carry_slots-requires : goal.carry_slots-requires
 unfolding refusal_of
 carry_slots-requires c =
     let a = c.args in
     let x = lending_tables a.nodes.now a.edges.now a.to_nodes.now a.to_edges.now in
-    let e = sym (ap refusal_of c.in-Fine.is) ∙ c.check-checked.ensures in
+    let e = c.in_default.ensures in
     record {
       legal = taken-legal a.manner a.from a.to x e c.requires.sized c.requires.atoms_le_most_atoms;
       sized = c.requires.sized_2;
@@ -25,12 +23,12 @@ carry_slots-requires c =
       atoms_value = nodes-labels a.manner a.from a.to x e;
     }
 
-pub carry_slots-requires-in-Fine : goal.carry_slots-requires-in-Fine
+pub carry_slots-requires-2 : goal.carry_slots-requires-2
 unfolding refusal_of
-carry_slots-requires-in-Fine c =
+carry_slots-requires-2 c =
     let a = c.args in
     let x = lending_tables a.nodes.now a.edges.now a.to_nodes.now a.to_edges.now in
-    let e = sym (ap refusal_of c.in-Fine.is) ∙ c.check-checked.ensures in
+    let e = c.in_default.ensures in
     record {
       legal = taken-legal a.manner a.from a.to x e c.requires.sized c.requires.atoms_le_most_atoms;
       sized = c.requires.sized_2;
@@ -38,10 +36,9 @@ carry_slots-requires-in-Fine c =
       atoms_value = edges-labels a.manner a.from a.to x e;
     }
 
-pub returns-in-Fine : goal.returns-in-Fine
+pub returns : goal.returns
 unfolding refusal_of
-returns-in-Fine c =
+returns c =
     let a = c.args in
     let x = lending_tables a.nodes.now a.edges.now a.to_nodes.now a.to_edges.now in
-    let e = sym (ap refusal_of c.in-Fine.is) ∙ c.check-checked.ensures in
-    left-taken a.manner a.from a.to x e c.requires.sized_2 _ _ c.carry_slots.ensures c.carry_slots-in-Fine.ensures
+    left-taken a.manner a.from a.to x c.in_default.ensures c.requires.sized_2 _ _ c.carry_slots.ensures c.carry_slots-2.ensures

@@ -4,15 +4,13 @@ use Rattle.slots.specs.Laid.{laid}
 use Rattle.carrying.proofs.in_hand.Goals as goal
 
 pub loop-j-init : goal.loop-j-init
-loop-j-init c = (filled_none _, omega arith)
+loop-j-init c = filled_none _
 
 pub loop-j-preserved : goal.loop-j-preserved
 loop-j-preserved c =
-    let a = c.args in
-    (filled_more (laid a.a.now) c.loop-j.atoms c.loop-j.j c.atom.result c.loop-j.invariant.0 (omega (arith, c.count-n.ensures, c.requires, c.loop-j-test.true)) (omega (arith, c.count-n.ensures, c.loop-j-test.true)) (omega (arith, c.atom.type_inv)) c.atom.ensures, omega arith)
+    filled_more (laid c.args.a.now) c.loop-j.atoms c.loop-j.j c.atom.result c.loop-j.invariant (omega (arith, c.count-len.ensures, c.requires)) (omega (arith, c.count-len.ensures)) (omega (arith, c.atom.type_inv)) c.atom.ensures
 
 pub returns : goal.returns
 returns c =
-    let a = c.args in
-    let e : c.loop-j.j ≡ c.count-n.result = omega (arith, c.loop-j-test.false, c.loop-j.invariant.1) in
-    filled-all (laid a.a.now) c.loop-j.atoms c.count-n.result (rw e at c.loop-j.invariant.0) (omega (arith, c.count-n.ensures, c.requires)) c.count-n.ensures
+    let e : c.loop-j.j ≡ c.count-len.result = omega arith in
+    filled-all (laid c.args.a.now) c.loop-j.atoms c.count-len.result (rw e at c.loop-j.invariant) (omega (arith, c.count-len.ensures, c.requires)) c.count-len.ensures

@@ -1,23 +1,15 @@
-use Rattle.std.proofs.Common.{◌≤◌, sym, arith, length}
+-- `labels_fit` meets its contract: what the tests of the labels say together.
+use Rattle.std.proofs.Common.{refl, ◌<◌, ◌≤◌, arith, rules, tests, length}
+use Rattle.std.proofs.lemmas.Iterator.{YieldsList-from_range, cases_from_all}
+use Rattle.slots.specs.Ranges.{all-below}
 use Rattle.carrying.specs.Tables.{label_in}
-use Rattle.carrying.proofs.Free.{one_further}
-use Rattle.carrying.proofs.Labels.{fit_of, fit-not}
+use Rattle.carrying.proofs.Labels.{fit_told}
 use Rattle.carrying.proofs.labels_fit.Goals as goal
-
-pub loop-x-init : goal.loop-x-init
-loop-x-init c = (omega arith, λ i h. absurd (omega arith))
-
-pub returns-then-atoms_in-most : goal.returns-then-atoms_in-most
-returns-then-atoms_in-most c =
-    let a = c.args in
-    fit-not a.l a.nodes.now a.edges.now a.most a.which c.loop-x.x (omega (arith, c.slots_in-n.ensures, c.loop-x-test.true)) (omega (arith, c.atoms_in.ensures, c.if-atoms_in-most.true))
-
-pub loop-x-preserved : goal.loop-x-preserved
-loop-x-preserved c =
-    let a = c.args in
-    (omega arith, λ i h. one_further (λ i. length (label_in a.l a.nodes.now a.edges.now a.which i) ≤ a.most) 0 c.loop-x.x (λ i z. c.loop-x.invariant.1 i) (omega (arith, c.atoms_in.ensures, c.if-atoms_in-most.false)) i (omega arith) h)
 
 pub returns : goal.returns
 returns c =
     let a = c.args in
-    sym (fit_of a.l a.nodes.now a.edges.now a.most a.which (λ i h. c.loop-x.invariant.1 i (omega (arith, c.slots_in-n.ensures, c.loop-x-test.false, c.loop-x.invariant.0))))
+    let n = c.slots_in-n.result in
+    let found = all-below _ _ n c.all.result
+    (cases_from_all _ _ c.all.result (λ x. length (label_in a.l a.nodes.now a.edges.now a.which x) ≤ a.most) (λ x. a.most < length (label_in a.l a.nodes.now a.edges.now a.which x)) c.all.ensures.ran (YieldsList-from_range 0 n n refl (omega arith)) (λ x q k. search (rules, tests)) (λ x q k. search (rules, tests))) in
+    fit_told a.l a.nodes.now a.edges.now a.most a.which c.all.result (rw (← c.slots_in-n.ensures) found)
