@@ -33,11 +33,10 @@ module _ {A : Type 0} (f : A → Bool) where
       at true e = e
       at false e = refl
 
-  pub every-below : (l : List A) (d : A) → list_all (λ i. f (get_or l i d)) (range_with_len 0 (length l)) ≡ every f l
-  every-below l d =
-      sym (list_all-map f (λ i. get_or l i d) (range_with_len 0 (length l)))
-      ∙ ap (list_all f) (sym (fill_by_all (λ i. get_or l i d) l (length l) d refl (λ k h. refl)))
-      ∙ every-listed l
+  pub every-below : (g : ℕ → A) (l : List A) (n : ℕ) (d : A) → length l ≡ n → ((k : ℕ) → k < n → get_or l k d ≡ g k)
+      → list_all (λ i. f (g i)) (range_with_len 0 n) ≡ every f l
+  every-below g l n d e h =
+      sym (list_all-map f g (range_with_len 0 n)) ∙ ap (list_all f) (sym (fill_by_all g l n d e h)) ∙ every-listed l
 
 -- one number more is the last
 range_suc : (a n : ℕ) → range_with_len a (suc n) ≡ range_with_len a n ++ (a + n) ∷ []

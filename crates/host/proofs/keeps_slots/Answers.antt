@@ -1,6 +1,5 @@
 -- `keeps_slots` meets its contract: what the walk over the slots' numbers gives.
-use Rattle.std.proofs.Common.{[], refl, sym, ap, ◌∙◌, ◌/◌, arith, get_or, length, rules, tests}
-use Rattle.std.specs.List.{list_all, range_with_len}
+use Rattle.std.proofs.Common.{[], refl, ◌∙◌, ◌/◌, arith, get_or, length, rules, tests}
 use Rattle.std.proofs.lemmas.Iterator.{YieldsList-from_range}
 use Rattle.std.proofs.lemmas.Iterator.Search.{all_from_yields_List}
 use Rattle.laws.specs.Pieces.{length-pieces}
@@ -18,5 +17,4 @@ returns c =
     let n = length a.table.now / w in
     rw (← c.slot_length-w.ensures)
     (all_from_yields_List (λ i. f (get_or ps i [])) _ _ c.all.result c.all.ensures.ran (YieldsList-from_range 0 n n refl (omega arith)) (λ x b q k. search (rules, tests))
-    ∙ ap (λ m. list_all (λ i. f (get_or ps i [])) (range_with_len 0 m)) (sym (length-pieces w n a.table.now))
-    ∙ every-below f ps [])
+    ∙ every-below f (λ i. get_or ps i []) ps n [] (length-pieces w n a.table.now) (λ k h. refl))
