@@ -56,10 +56,7 @@ fn filled(b: &[u8], width: usize) -> bool
     requires { (2 ≤ length b.now) × ((1 ≤ width) × (width ≤ 2)) }
     ensures { result ≡ zeros (take (width - 1) (drop 1 b.now)) }
 {
-    if width == 2 {
-        return b[1] == 0;
-    }
-    true
+    width == 1 || b[1] == 0
 }
 
 // Whether a record has a known kind, its filling zero, and names a slot of a table of so many nodes and edges.
@@ -69,18 +66,13 @@ fn keeps_record(l: Layout, b: &[u8], nodes: usize, edges: usize) -> bool
     ensures { result ≡ keeps_record l nodes edges b.now }
 {
     let width = l.width;
-    if !filled(b, width) {
-        return false;
-    }
     let i = slots::bytes::slot_number(b, width, width);
-    let kind = b[Record::KIND];
-    if kind == Record::NODE {
-        return i < nodes;
-    }
-    if kind == Record::EDGE {
-        return i < edges;
-    }
-    false
+    filled(b, width)
+        && match b[Record::KIND] {
+            Record::NODE => i < nodes,
+            Record::EDGE => i < edges,
+            _ => false,
+        }
 }
 
 // Whether the count is at most the journal's records, and each counted record keeps to its table.
@@ -89,20 +81,10 @@ pub fn keeps_records(l: Layout, nodes: &[u8], edges: &[u8], journal: &[u8], coun
     ensures { result ≡ keeps_records l nodes.now edges.now journal.now count }
 {
     let w = l.change;
-    if count > journal.len() / w {
-        return false;
-    }
     let n = nodes.len() / l.node;
     let e = edges.len() / l.edge;
-    let mut u: usize = 0;
-    while u < count {
-        if keeps_record(l, slots::slot(journal, w, u), n, e) {
-            u += 1;
-        } else {
-            return false;
-        }
-    }
-    true
+    count <= journal.len() / w
+        && (0..count).all(|u| keeps_record(l, slots::slot(journal, w, u), n, e))
 }
 
 // Puts one record back: the bytes before, in the slot that it names.
@@ -115,13 +97,10 @@ fn put_back(l: Layout, nodes: &mut [u8], edges: &mut [u8], b: &[u8])
     let width = l.width;
     let start = 2 * width;
     let i = slots::bytes::slot_number(b, width, width);
-    let kind = b[Record::KIND];
-    if kind == Record::NODE {
-        let w = l.node;
-        slots::put_slot(nodes, w, i, fields::part(b, start, start + w));
+    if b[Record::KIND] == Record::NODE {
+        slots::put_slot(nodes, l.node, i, &b[start..start + l.node]);
     } else {
-        let w = l.edge;
-        slots::put_slot(edges, w, i, fields::part(b, start, start + w));
+        slots::put_slot(edges, l.edge, i, &b[start..start + l.edge]);
     }
 }
 
@@ -140,9 +119,7 @@ fn put_back_from(
     ensures { (tables_of l nodes.new edges.new ≡ put_back l mark used journal.now (tables_of l nodes.old edges.old)) × RestKept l nodes.old edges.old nodes.new edges.new }
 {
     let w = l.change;
-    let mut u = used;
-    while u > mark {
-        u -= 1;
+    for u in (mark..used).rev() {
         put_back(l, nodes, edges, slots::slot(journal, w, u));
     }
 }

@@ -4,11 +4,11 @@ use Rattle.meaning.specs.Basics.{zeros}
 use Rattle.journal.proofs.Records.{filled-byte}
 use Rattle.journal.proofs.filled.Goals as goal
 
-pub returns-then-width-eq2 : goal.returns-then-width-eq2
-returns-then-width-eq2 c = rw c.if-width-eq2.true (filled-byte c.args.b.now c.requires.0)
-
-pub returns : goal.returns
+pub returns-then-width-eq1 : goal.returns-then-width-eq1
 unfolding zeros
-returns c =
-    let e : c.args.width ≡ 1 = omega (arith, c.requires, c.if-width-eq2.false) in
-    rw e
+returns-then-width-eq1 c = rw c.if-width-eq1.true
+
+pub returns-else-width-eq1 : goal.returns-else-width-eq1
+returns-else-width-eq1 c =
+    let e : c.args.width ≡ 2 = omega (arith, c.requires, c.if-width-eq1.false) in
+    rw e (filled-byte c.args.b.now c.requires.0)

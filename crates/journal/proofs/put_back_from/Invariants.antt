@@ -5,6 +5,3 @@ use Rattle.journal.proofs.put_back_from.Given as goal
 
 abbrev pub invariant-loop-u : goal.invariant-loop-u
 invariant-loop-u l = (l.mark ≤ l.u) × (l.u ≤ l.used) × (length l.nodes ≡ length l.initial.nodes) × (length l.edges ≡ length l.initial.edges) × (put_back l.l l.mark l.u l.journal (tables_of l.l l.nodes l.edges) ≡ put_back l.l l.mark l.used l.journal (tables_of l.l l.initial.nodes l.initial.edges)) × RestKept l.l l.initial.nodes l.initial.edges l.nodes l.edges
-
-abbrev pub decreases-loop-u : goal.decreases-loop-u
-decreases-loop-u l = l.u
