@@ -37,17 +37,17 @@ fn put_node(l: Layout, nodes: &[u8], edges: &[u8], x: usize, out: &mut [u8], at:
     requires node_size_in_bounds { at + node_size ≤ length out.old }
     ensures { Adds node_size (slot_line node_line x (get_or (read_nodes l nodes.now) x free)) out.old at out.new result }
 {
-    if graph::node_live(l, nodes, edges, x) {
-        let mark = graph::node_mark(l, nodes, edges, x);
-        let root = graph::node_root(l, nodes, edges, x);
-        let label = graph::node_label(l, nodes, edges, x);
-        let a = put(out, at, b"node");
-        let b = put_number(out, a, x);
-        let c = put_mark(out, b, mark);
-        let d = put_root(out, c, root);
-        return put_label(out, d, label);
+    if !graph::node_live(l, nodes, edges, x) {
+        return at;
     }
-    at
+    let mark = graph::node_mark(l, nodes, edges, x);
+    let root = graph::node_root(l, nodes, edges, x);
+    let label = graph::node_label(l, nodes, edges, x);
+    let a = put(out, at, b"node");
+    let b = put_number(out, a, x);
+    let c = put_mark(out, b, mark);
+    let d = put_root(out, c, root);
+    put_label(out, d, label)
 }
 
 // The line of an edge's slot, where it is live.
@@ -57,19 +57,19 @@ fn put_edge(l: Layout, nodes: &[u8], edges: &[u8], x: usize, out: &mut [u8], at:
     requires edge_size_in_bounds { at + edge_size ≤ length out.old }
     ensures { Adds edge_size (slot_line edge_line x (get_or (read_edges l edges.now) x free)) out.old at out.new result }
 {
-    if graph::edge_live(l, nodes, edges, x) {
-        let mark = graph::edge_mark(l, nodes, edges, x);
-        let source = graph::edge_source(l, nodes, edges, x);
-        let target = graph::edge_target(l, nodes, edges, x);
-        let label = graph::edge_label(l, nodes, edges, x);
-        let a = put(out, at, b"edge");
-        let b = put_number(out, a, x);
-        let c = put_number(out, b, source);
-        let d = put_number(out, c, target);
-        let e = put_mark(out, d, mark);
-        return put_label(out, e, label);
+    if !graph::edge_live(l, nodes, edges, x) {
+        return at;
     }
-    at
+    let mark = graph::edge_mark(l, nodes, edges, x);
+    let source = graph::edge_source(l, nodes, edges, x);
+    let target = graph::edge_target(l, nodes, edges, x);
+    let label = graph::edge_label(l, nodes, edges, x);
+    let a = put(out, at, b"edge");
+    let b = put_number(out, a, x);
+    let c = put_number(out, b, source);
+    let d = put_number(out, c, target);
+    let e = put_mark(out, d, mark);
+    put_label(out, e, label)
 }
 
 // The line of a slot of a table, where it is live.
@@ -106,12 +106,9 @@ fn put_table(
     requires table_in_bounds { start + line_size table * slots_in l nodes.now edges.now table ≤ length out.old }
     ensures { Adds (line_size table * slots_in l nodes.now edges.now table) (lines_from l nodes.now edges.now table 0) out.old start out.new result }
 {
-    let n = graph::slots_in(l, nodes, edges, table);
     let mut at = start;
-    let mut x: usize = 0;
-    while x < n {
+    for x in 0..graph::slots_in(l, nodes, edges, table) {
         at = put_slot(l, nodes, edges, table, x, out, at);
-        x += 1;
     }
     at
 }
@@ -131,9 +128,9 @@ pub fn put_outcome(
     ensures { Adds listing_room (outcome l answer report.now nodes.now edges.now) out.old 0 out.new result }
 {
     let at = put_answer(out, answer, report);
-    if answer == 0 {
-        let end = put_table(l, nodes, edges, Table::Nodes, out, at);
-        return put_table(l, nodes, edges, Table::Edges, out, end);
+    if answer != 0 {
+        return at;
     }
-    at
+    let end = put_table(l, nodes, edges, Table::Nodes, out, at);
+    put_table(l, nodes, edges, Table::Edges, out, end)
 }

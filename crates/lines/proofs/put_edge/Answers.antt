@@ -22,11 +22,11 @@ put_label-requires c = record {
   label_size_in_bounds = omega (arith, c.requires.edge_size_in_bounds, c.put-a.ensures.short, c.put_number-b.ensures.short, c.put_number-c.ensures.short, c.put_number-d.ensures.short, c.put_mark-e.ensures.short);
 }
 
-pub returns-then-edge_live : goal.returns-then-edge_live
+pub returns : goal.returns
 unfolding letters
-returns-then-edge_live c =
-    rw (slot-edge c.args.x _ (sym c.edge_live.ensures ∙ c.if-edge_live.true))
+returns c =
+    rw (slot-edge c.args.x _ (sym c.edge_live.ensures ∙ c.if-not-edge_live.false))
     (edge-said c.args.x c.edge_source-source.result c.edge_target-target.result c.edge_mark-mark.result (laid c.edge_label-label.result.now) _ c.edge_source-source.ensures c.edge_target-target.ensures c.edge_mark-mark.ensures c.edge_label-label.ensures.0 c.put-a.ensures c.put_number-b.ensures c.put_number-c.ensures c.put_number-d.ensures c.put_mark-e.ensures c.put_label.ensures)
 
-pub returns : goal.returns
-returns c = rw (slot-free _ c.args.x _ (sym c.edge_live.ensures ∙ c.if-edge_live.false)) (nothing _ _ _)
+pub returns-then-not-edge_live : goal.returns-then-not-edge_live
+returns-then-not-edge_live c = rw (slot-free _ c.args.x _ (sym c.edge_live.ensures ∙ c.if-not-edge_live.true)) (nothing _ _ _)

@@ -16,11 +16,11 @@ put_label-requires c = record {
   label_size_in_bounds = omega (arith, c.requires.node_size_in_bounds, c.put-a.ensures.short, c.put_number-b.ensures.short, c.put_mark-c.ensures.short, c.put_root-d.ensures.short);
 }
 
-pub returns-then-node_live : goal.returns-then-node_live
+pub returns : goal.returns
 unfolding letters
-returns-then-node_live c =
-    rw (slot-node c.args.x _ (sym c.node_live.ensures ∙ c.if-node_live.true))
+returns c =
+    rw (slot-node c.args.x _ (sym c.node_live.ensures ∙ c.if-not-node_live.false))
     (node-said c.args.x c.node_mark-mark.result c.node_root-root.result (laid c.node_label-label.result.now) _ c.node_mark-mark.ensures c.node_root-root.ensures c.node_label-label.ensures.0 c.put-a.ensures c.put_number-b.ensures c.put_mark-c.ensures c.put_root-d.ensures c.put_label.ensures)
 
-pub returns : goal.returns
-returns c = rw (slot-free _ c.args.x _ (sym c.node_live.ensures ∙ c.if-node_live.false)) (nothing _ _ _)
+pub returns-then-not-node_live : goal.returns-then-not-node_live
+returns-then-not-node_live c = rw (slot-free _ c.args.x _ (sym c.node_live.ensures ∙ c.if-not-node_live.true)) (nothing _ _ _)

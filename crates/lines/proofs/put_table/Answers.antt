@@ -6,7 +6,7 @@ use Rattle.lines.proofs.Walks.{table-next, table-end, line-room}
 use Rattle.lines.proofs.put_table.Goals as goal
 
 pub loop-x-init : goal.loop-x-init
-loop-x-init c = (omega arith, coming-start _ _ _ _)
+loop-x-init c = coming-start _ _ _ _
 
 pub put_slot-at-requires : goal.put_slot-at-requires
 put_slot-at-requires c =
@@ -14,18 +14,18 @@ put_slot-at-requires c =
     let loop = c.loop-x in
     record {
       legal = c.requires.legal;
-      x_bound = omega (arith, c.slots_in-n.ensures);
-      table_in_bounds = omega (arith, line-room c.args.table loop.x slots (omega (arith, c.slots_in-n.ensures)), loop.invariant.1.adds.short, loop.invariant.1.same, c.requires.table_in_bounds);
+      x_bound = omega (arith, c.slots_in-x-end.ensures);
+      table_in_bounds = omega (arith, line-room c.args.table loop.x slots (omega (arith, c.slots_in-x-end.ensures)), loop.invariant.adds.short, loop.invariant.same, c.requires.table_in_bounds);
     }
 
 pub loop-x-preserved : goal.loop-x-preserved
 loop-x-preserved c =
     let loop = c.loop-x in
-    (omega arith, coming-more loop.invariant.1 _ _ (line_size c.args.table * (loop.x + 1)) (table-next c.args.l c.args.nodes.now c.args.edges.now c.args.table loop.x (omega (arith, c.slots_in-n.ensures))) (search rules) c.put_slot-at.ensures (line-room c.args.table loop.x (loop.x + 1) (omega arith)))
+    coming-more loop.invariant _ _ (line_size c.args.table * (loop.x + 1)) (table-next c.args.l c.args.nodes.now c.args.edges.now c.args.table loop.x (omega (arith, c.slots_in-x-end.ensures))) (search rules) c.put_slot-at.ensures (line-room c.args.table loop.x (loop.x + 1) (omega arith))
 
 pub returns : goal.returns
 returns c =
     let slots = slots_in c.args.l c.args.nodes.now c.args.edges.now c.args.table in
     let loop = c.loop-x in
-    let all : loop.x ≡ slots = omega (arith, c.slots_in-n.ensures) in
-    coming-end loop.invariant.1 (line_size c.args.table * slots) (table-end c.args.l c.args.nodes.now c.args.edges.now c.args.table loop.x all) (omega (arith, ap (λ (k : ℕ). line_size c.args.table * k) all))
+    let all : loop.x ≡ slots = omega (arith, c.slots_in-x-end.ensures) in
+    coming-end loop.invariant (line_size c.args.table * slots) (table-end c.args.l c.args.nodes.now c.args.edges.now c.args.table loop.x all) (omega (arith, ap (λ (k : ℕ). line_size c.args.table * k) all))
