@@ -4,19 +4,22 @@ use mathlib.Core.Path.{◌≡◌, refl, sym, ap, ap₂, ◌∙◌}
 use mathlib.Core.Bool.{Bool, true, false, not}
 use mathlib.Core.Option.{Option, none}
 use mathlib.Core.List.{List, [], ◌∷◌}
-use Prim.Native.Nat.{ℕ, suc, ◌+◌, ◌-◌, ◌<◌, ◌≤◌}
+use Prim.Native.Nat.{ℕ, suc, ◌-◌, ◌<◌, ◌≤◌}
 use native.Mathlib.Omega.{arith}
 use native.Mathlib.Decide.{dec_lt, ℕ_discrete}
 use borrow.Author.Tests.{ne_eqb, le-leb, lt-leb, leb-true}
 use lib.Dec.{eqb, leb, lit<, leb-suc-suc}
-use lib.ListN.{length, drop, get_or, length-drop, drop_of_length-le}
-use lib.Seq.{drop-cons, drop-drop}
+use lib.ListN.{length, drop, get_or, length-drop}
+use lib.Seq.{drop-drop}
+use Rattle.std.specs.List.{list_all}
+use Rattle.std.specs.Prelude.{◌&&◌}
 use Rattle.meaning.specs.Basics.{both, either, every, is_empty, is_some, ◌>>=◌}
 use Rattle.meaning.specs.Layout.{is_node_mark, is_edge_mark}
-use Rattle.meaning.specs.Tags.{constant_tag, variable_tag, sum_tag, difference_tag, edge_test_tag, in_degree_tag, out_degree_tag, relation_tag, call_tag, guarded_tag, equal_relation, less_relation, blue_mark, grey_mark, dashed_mark, any_mark}
-use Rattle.meaning.specs.Image.{Raw, limits, only, passes_all, one_byte, flag, operand, two_operands, element, label, rule_node, rule_edge, condition, test, is_type, types, leaf, as_call, command}
+use Rattle.meaning.specs.Tags.{constant_tag, variable_tag, sum_tag, difference_tag, edge_test_tag, in_degree_tag, out_degree_tag, relation_tag, call_tag, guarded_tag, skip_tag, fail_tag, break_tag, equal_relation, less_relation, blue_mark, grey_mark, dashed_mark, any_mark}
+use Rattle.meaning.specs.Image.{Raw, limits, only, passes_all, one_byte, flag, operand, two_operands, element, label, rule_node, rule_edge, condition, test, leaf, as_call, command}
+use Rattle.meaning.specs.Image.Raw.{skip, fail, break}
 use Rattle.meaning.specs.Laws.Tests.{both-no, both_yes, both_true}
-use Rattle.fields.specs.Image.{is_some_no, is_some_map, is_some_after, is_some_then, first-at, one_byte_ok, flag_ok, operand-constant, operand-variable, operand-other, element-constant, element-variable, element-sum, element-difference, element-other, rule_node_ok, rule_edge_ok, related_ok, condition-edge, condition_in, condition-out, condition-relation, test_ok, types_ok, leaf_ok, command-no-depth, command-guarded, command-call}
+use Rattle.fields.specs.Image.{is_some_no, is_some_map, is_some_after, is_some_then, first-at, one_byte_ok, flag_ok, operand-constant, operand-variable, operand-other, element-constant, element-variable, element-sum, element-difference, element-other, rule_node_ok, rule_edge_ok, related_ok, condition-edge, condition_in, condition-out, condition-relation, test_ok, leaf_ok, command-no-depth, command-guarded, command-call, command-skip, command-fail, command-break}
 use Rattle.image.specs.declared.Row.{Row}
 use Rattle.image.specs.declared.Row.TheVariants.{Nodes, Edges, Tests, Elements, Operands, Guarded}
 use Rattle.image.specs.Form.{fits, rank, Holds}
@@ -104,11 +107,19 @@ module _ (tag : ℕ) (bs : List ℕ) {f : Bool} (e : f ≡ is_some (flag bs)) wh
     pub test-edge : tag ≡ edge_test_tag → eqb (length bs - 1) 2 ≡ is_some (test tag bs)
     test-edge t = sized 2 (condition-edge tag (drop 1 bs) t)
 
-    pub test_in : tag ≡ in_degree_tag → eqb (length bs - 1) 3 ≡ is_some (test tag bs)
+    test_in : tag ≡ in_degree_tag → eqb (length bs - 1) 3 ≡ is_some (test tag bs)
     test_in t = sized 3 (condition_in tag (drop 1 bs) t)
 
-    pub test-out : tag ≡ out_degree_tag → eqb (length bs - 1) 3 ≡ is_some (test tag bs)
+    test-out : tag ≡ out_degree_tag → eqb (length bs - 1) 3 ≡ is_some (test tag bs)
     test-out t = sized 3 (condition-out tag (drop 1 bs) t)
+
+    -- a test of either degree
+    pub test-degree : in_degree_tag ≤ tag → tag ≤ out_degree_tag → eqb (length bs - 1) 3 ≡ is_some (test tag bs)
+    test-degree a b = at (ℕ_discrete tag in_degree_tag)
+      where
+        at : Dec (tag ≡ in_degree_tag) → eqb (length bs - 1) 3 ≡ is_some (test tag bs)
+        at (yes t) = test_in t
+        at (no t) = test-out (omega arith)
 
     pub test-other : condition tag (drop 1 bs) ≡ none → false ≡ is_some (test tag bs)
     test-other q = failed _ q ∙ test-is
@@ -133,11 +144,19 @@ module _ (tag : ℕ) (bs : List ℕ) {f : Bool} (e : f ≡ is_some (flag bs)) wh
 -- Elements.
 
 module _ (tag : ℕ) (bs : List ℕ) where
-  pub sum_inside : tag ≡ sum_tag → Holds (rank Elements) (is_some (element tag bs)) bs Operands 0
+  sum_inside : tag ≡ sum_tag → Holds (rank Elements) (is_some (element tag bs)) bs Operands 0
   sum_inside h = record { lower = lit< tt; inside = omega arith; same = operands-fit bs ∙ sym (element-sum tag bs h) }
 
-  pub difference_inside : tag ≡ difference_tag → Holds (rank Elements) (is_some (element tag bs)) bs Operands 0
+  difference_inside : tag ≡ difference_tag → Holds (rank Elements) (is_some (element tag bs)) bs Operands 0
   difference_inside h = record { lower = lit< tt; inside = omega arith; same = operands-fit bs ∙ sym (element-difference tag bs h) }
+
+  -- a sum or a difference
+  pub pair_inside : sum_tag ≤ tag → tag ≤ difference_tag → Holds (rank Elements) (is_some (element tag bs)) bs Operands 0
+  pair_inside a b = at (ℕ_discrete tag sum_tag)
+    where
+      at : Dec (tag ≡ sum_tag) → Holds (rank Elements) (is_some (element tag bs)) bs Operands 0
+      at (yes t) = sum_inside t
+      at (no t) = difference_inside (omega arith)
 
   -- any other element is an operand
   pub operand-inside : {r : Bool} → (tag ≡ sum_tag → ⊥) → (tag ≡ difference_tag → ⊥) → r ≡ is_some (operand tag bs) → r ≡ is_some (element tag bs)
@@ -150,27 +169,15 @@ module _ (tag : ℕ) (bs : List ℕ) where
 
 -- Types.
 
-module _ (bs : List ℕ) where
-  pub types-many : limits.variables < length bs → false ≡ is_some (types bs)
-  types-many h = sym (types_ok bs ∙ both-no _ _ (lt-leb _ limits.variables h))
-
-  module _ (l : length bs ≤ limits.variables) (i : ℕ) (e : every is_type (drop i bs) ≡ every is_type bs) where
-    pub types-end : length bs ≤ i → true ≡ is_some (types bs)
-    unfolding every
-    types-end h = sym (types_ok bs ∙ both_yes _ _ (le-leb _ limits.variables l) ∙ sym e ∙ rw (drop_of_length-le bs h))
-
-    module _ (h : i < length bs) where
-      type_at : every is_type (drop i bs) ≡ both (is_type (get_or bs i 0)) (every is_type (drop (i + 1) bs))
-      unfolding every
-      type_at =
-          let z : suc i ≡ i + 1 = omega arith in
-          ap (every is_type) (drop-cons bs i 0 h ∙ ap (λ (k : ℕ). get_or bs i 0 ∷ drop k bs) z)
-
-      pub type_no : is_type (get_or bs i 0) ≡ false → false ≡ is_some (types bs)
-      type_no k = sym (types_ok bs ∙ both_yes _ _ (le-leb _ limits.variables l) ∙ sym e ∙ type_at ∙ both-no _ _ k)
-
-      pub type_next : is_type (get_or bs i 0) ≡ true → every is_type (drop (i + 1) bs) ≡ every is_type bs
-      type_next k = sym (both_yes _ _ k) ∙ sym type_at ∙ e
+-- what holds of each of a list, in the definition's word
+pub every-listed : {A : Type 0} (f : A → Bool) (l : List A) → list_all f l ≡ every f l
+unfolding every both
+every-listed f [] = refl
+every-listed f (a ∷ l) = at (f a) (every-listed f l)
+  where
+    at : (b : Bool) → list_all f l ≡ every f l → (b && list_all f l) ≡ both b (every f l)
+    at true e = e
+    at false e = refl
 
 -- Commands.
 
@@ -191,8 +198,17 @@ module _ (depth tag : ℕ) (bs : List ℕ) (d : depth ≡ 0 → ⊥) where
   pub as_is : {b : Bool} (o : Option Raw) → command (suc (depth - 1)) tag bs ≡ o → b ≡ is_some o → b ≡ is_some (command depth tag bs)
   as_is o e q = q ∙ ap is_some (sym (deeper e))
 
-  pub a-leaf : (c : Raw) → command (suc (depth - 1)) tag bs ≡ leaf c bs → eqb (length bs) 0 ≡ is_some (command depth tag bs)
+  a-leaf : (c : Raw) → command (suc (depth - 1)) tag bs ≡ leaf c bs → eqb (length bs) 0 ≡ is_some (command depth tag bs)
   a-leaf c e = as_is (leaf c bs) e (is-empty bs ∙ sym (leaf_ok c bs))
+
+  -- one with nothing in it: no rule is called, and no choice made
+  pub a_plain : skip_tag ≤ tag → tag ≤ break_tag → eqb (length bs) 0 ≡ is_some (command depth tag bs)
+  a_plain a b = at (ℕ_discrete tag skip_tag) (ℕ_discrete tag fail_tag)
+    where
+      at : Dec (tag ≡ skip_tag) → Dec (tag ≡ fail_tag) → eqb (length bs) 0 ≡ is_some (command depth tag bs)
+      at (yes t) f = a-leaf skip (command-skip (depth - 1) tag bs t)
+      at (no t) (yes f) = a-leaf fail (command-fail (depth - 1) tag bs f)
+      at (no t) (no f) = a-leaf break (command-break (depth - 1) tag bs (omega arith))
 
   pub a_call : tag ≡ call_tag → eqb (length bs) 1 ≡ is_some (command depth tag bs)
   unfolding as_call

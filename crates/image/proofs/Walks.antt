@@ -2,7 +2,7 @@
 use mathlib.Core.Path.{◌≡◌, refl, sym, ap, ◌∙◌}
 use mathlib.Core.Bool.{Bool, true, false}
 use mathlib.Core.List.{List}
-use Prim.Native.Nat.{ℕ, zero, suc, ◌+◌, ◌-◌, ◌<◌, ◌≤◌}
+use Prim.Native.Nat.{ℕ, ◌+◌, ◌-◌, ◌<◌, ◌≤◌}
 use native.Mathlib.Omega.{arith}
 use native.Mathlib.Decide.{dec_lt}
 use borrow.Author.Tests.{lt-ltb, le-ltb, ltb-true, le-leb, lt-leb}
@@ -12,24 +12,15 @@ use Rattle.meaning.specs.Basics.{both, is_empty, is_some}
 use Rattle.meaning.specs.Image.{leading}
 use Rattle.meaning.specs.Laws.Tests.{both-no, both_yes, both_true, is_some_true}
 use Rattle.fields.specs.Image.{Reading, stopped, reading-start, reading-full, reading-end, reading-other, reading-cut, reading-bad, reading-next, is_some_false}
-use Rattle.fields.specs.declared.Found.{Found}
-use Rattle.fields.specs.Fields.{field_at}
+use Rattle.fields.specs.Fields.{Found, field_at}
 use Rattle.fields.specs.Laws.{Lies}
 use Rattle.fields.proofs.Finding.{NoField, no_field, tail_part}
 use Rattle.image.specs.declared.Row.{Row}
 use Rattle.image.specs.declared.Row.TheVariants.{Rules, Procedures, Variables, Left, Right, Interface, Conditions, Modes, Nodes, Edges, Tests, Elements, Operands, Sequence, Guarded, One, Nothing}
-use Rattle.image.specs.Form.{read, tag_of, passing, passes_of, least_of, most_of, next_of, belonging, met, behind, fits, rank}
+use Rattle.image.specs.Form.{read, passes_of, least_of, most_of, next_of, belonging, met, behind, fits, rank}
 use Rattle.image.proofs.Insides.{is-empty}
 
 -- One more item.
-
-passing_any : (x t : ℕ) → x ≡ 0 → true ≡ passing x t
-passing_any zero t h = refl
-passing_any (suc x) t h = absurd (omega arith)
-
-passing-tag : (x t : ℕ) → (x ≡ 0 → ⊥) → eqb x t ≡ passing x t
-passing-tag zero t h = absurd (h refl)
-passing-tag (suc x) t h = refl
 
 module _ (row : Row) (n : ℕ) (bs : List ℕ) (at : ℕ) where
   pub no_byte : length bs ≤ at → false ≡ belonging row n bs at
@@ -41,16 +32,9 @@ module _ (row : Row) (n : ℕ) (bs : List ℕ) (at : ℕ) where
     unfolding belonging
     no_room k = sym (both_yes _ _ (lt-ltb at _ h) ∙ both-no _ _ (le-ltb n _ (omega arith)))
 
-    module _ (k : n < most) {tag : ℕ} (q : tag ≡ tag_of row) where
-      room : {b : Bool} → b ≡ passing tag (get_or bs at 0) → b ≡ belonging row n bs at
-      unfolding belonging
-      room e = e ∙ ap (λ (x : ℕ). passing x (get_or bs at 0)) q ∙ sym (both_yes _ _ (lt-ltb at _ h) ∙ both_yes _ _ (lt-ltb n _ (omega arith)))
-
-      pub any_belongs : tag ≡ 0 → true ≡ belonging row n bs at
-      any_belongs z = room (passing_any tag _ z)
-
-      pub tag_belongs : (tag ≡ 0 → ⊥) → eqb tag (get_or bs at 0) ≡ belonging row n bs at
-      tag_belongs z = room (passing-tag tag _ z)
+    pub room : n < most → {b : Bool} → b ≡ passes_of row (get_or bs at 0) → b ≡ belonging row n bs at
+    unfolding belonging
+    room k e = e ∙ sym (both_yes _ _ (lt-ltb at _ h) ∙ both_yes _ _ (lt-ltb n _ (omega arith)))
 
 -- A row that is read up to a place.
 

@@ -1,7 +1,8 @@
 -- The rows of fields that an image is made of: how the items of each are read, how many it takes, and what is behind it; and
 -- what the first bytes of an item tell. Rests on the meaning's Image.
-use Rattle.std.specs.Prelude.{◌≡◌, Bool, true, false, List, ℕ, zero, suc, ◌<◌, ◌≤◌, length, get_or, drop, eqb, leb, ltb}
+use Rattle.std.specs.Prelude.{◌≡◌, Bool, true, false, List, ℕ, suc, ◌<◌, ◌≤◌, length, get_or, drop, eqb, leb, ltb}
 use Rattle.std.proofs.Math.Option.{Option, some, none}
+use Rattle.std.specs.Prelude.{Option as Choice, Some, None}
 use Rattle.meaning.specs.Basics.{both, is_empty}
 use Rattle.meaning.specs.Tags.{rule_tag, procedure_tag, variables_tag, left_tag, right_tag, interface_tag, tests_tag, mode_tag, node_tag, edge_tag}
 use Rattle.meaning.specs.Image.{Read, RuleNode, RuleEdge, RuleGraph, Rule, Raw, limits, leading, only, passes_all, one_byte, operand, element, rule_node, rule_edge, rule_graph, test, types, mode, rule, command, one_command}
@@ -57,38 +58,38 @@ read Nothing tag bs = none
 abbrev pub main_row : Row
 main_row = One 16
 
--- What a row takes: the tag of every item (0 where any may stand), how many at least and at most, and the row behind it. Rows fall
+-- What a row takes: the tag of every item (none where any may stand), how many at least and at most, and the row behind it. Rows fall
 -- by rank: those in an item, and those behind a row, are below it.
 pub record Takes : Type 0 where
-  pub tag : ℕ
+  pub tag : Choice ℕ
   pub least : ℕ
   pub most : ℕ
   pub next : Row
   pub rank : ℕ
 
-abbrev takes : ℕ → ℕ → ℕ → Row → ℕ → Takes
+abbrev takes : Choice ℕ → ℕ → ℕ → Row → ℕ → Takes
 takes tag least most next rank = record { tag = tag; least = least; most = most; next = next; rank = rank }
 
 abbrev table : Row → Takes
-table Rules = takes rule_tag 0 limits.rules Procedures 19
-table Procedures = takes procedure_tag 0 limits.procedures main_row 18
-table Variables = takes variables_tag 1 1 Left 9
-table Left = takes left_tag 1 1 Right 8
-table Right = takes right_tag 1 1 Interface 7
-table Interface = takes interface_tag 1 1 Conditions 6
-table Conditions = takes tests_tag 1 1 Modes 5
-table Modes = takes mode_tag 0 1 Nothing 1
-table Nodes = takes node_tag 0 limits.nodes Edges 4
-table Edges = takes edge_tag 0 limits.edges Nothing 3
-table Tests = takes 0 0 limits.tests Nothing 2
-table Elements = takes 0 0 limits.elements Nothing 2
-table Operands = takes 0 2 2 Nothing 1
-table (Sequence depth) = takes 0 1 limits.commands Nothing (suc depth)
-table (Guarded depth) = takes 0 3 3 Nothing (suc depth)
-table (One depth) = takes 0 1 1 Nothing (suc depth)
-table Nothing = takes 0 0 0 Nothing 0
+table Rules = takes (Some rule_tag) 0 limits.rules Procedures 19
+table Procedures = takes (Some procedure_tag) 0 limits.procedures main_row 18
+table Variables = takes (Some variables_tag) 1 1 Left 9
+table Left = takes (Some left_tag) 1 1 Right 8
+table Right = takes (Some right_tag) 1 1 Interface 7
+table Interface = takes (Some interface_tag) 1 1 Conditions 6
+table Conditions = takes (Some tests_tag) 1 1 Modes 5
+table Modes = takes (Some mode_tag) 0 1 Nothing 1
+table Nodes = takes (Some node_tag) 0 limits.nodes Edges 4
+table Edges = takes (Some edge_tag) 0 limits.edges Nothing 3
+table Tests = takes None 0 limits.tests Nothing 2
+table Elements = takes None 0 limits.elements Nothing 2
+table Operands = takes None 2 2 Nothing 1
+table (Sequence depth) = takes None 1 limits.commands Nothing (suc depth)
+table (Guarded depth) = takes None 3 3 Nothing (suc depth)
+table (One depth) = takes None 1 1 Nothing (suc depth)
+table Nothing = takes None 0 0 Nothing 0
 
-abbrev pub tag_of : Row → ℕ
+abbrev pub tag_of : Row → Choice ℕ
 tag_of row = (table row).tag
 
 abbrev pub least_of : Row → ℕ
@@ -103,9 +104,9 @@ next_of row = (table row).next
 abbrev pub rank : Row → ℕ
 rank row = (table row).rank
 
-abbrev pub passing : ℕ → ℕ → Bool
-passing zero tag = true
-passing (suc t) tag = eqb (suc t) tag
+abbrev pub passing : Choice ℕ → ℕ → Bool
+passing None tag = true
+passing (Some t) tag = eqb t tag
 
 abbrev pub passes_of : Row → ℕ → Bool
 passes_of row tag = passing (tag_of row) tag

@@ -9,99 +9,75 @@ ghost use Rattle.image.specs.Form.{read, rank, Tells};
 use crate::{Inside, Row};
 use meaning::tags::{Limit, Mark, Relation, Tag, VariableType};
 
+#[tactic(auto, unfolding(meaning::specs::Basics::either))]
 fn one_of(x: u8, a: u8, b: u8) -> bool
     ensures { result ≡ either (eqb x a) (eqb x b) }
 {
-    if x == a {
-        return true;
-    }
-    x == b
+    x == a || x == b
 }
 
 // The types of a rule's variables.
+#[tactic(auto, using(fields::specs::Image::types_ok), unfolding(meaning::specs::Basics::both))]
 fn types_ok(p: &[u8]) -> bool
     ensures { result ≡ is_some (types p.now) }
 {
-    if p.len() > Limit::VARIABLES {
-        return false;
-    }
-    let mut i: usize = 0;
-    while i < p.len() {
-        if one_of(p[i], VariableType::INT, VariableType::LIST) {
-            i += 1;
-        } else {
-            return false;
-        }
-    }
-    true
+    p.len() <= Limit::VARIABLES
+        && p.iter()
+            .all(|x| one_of(*x, VariableType::INT, VariableType::LIST))
 }
 
 // Whether a mark may stand on an item that never has one of them.
+#[tactic(auto, unfolding(meaning::specs::Basics::both))]
 fn marked(mark: u8, never: u8) -> bool
     ensures { result ≡ both (not (eqb mark never)) (leb mark any_mark) }
 {
-    if mark == never {
-        return false;
-    }
-    mark <= Mark::ANY
+    mark != never && mark <= Mark::ANY
 }
 
 // Mark, root, label.
 fn node(p: &[u8]) -> Inside
     ensures { Tells (rank Nodes) (is_some (rule_node p.now)) p.now result }
 {
-    if p.len() < 2 {
-        return Inside::Known(false);
+    if p.len() >= 2 && marked(p[0], Mark::DASHED) && p[1] <= 1 {
+        Inside::From(Row::Elements, 2)
+    } else {
+        Inside::Known(false)
     }
-    if marked(p[0], Mark::DASHED) {
-        if p[1] <= 1 {
-            return Inside::From(Row::Elements, 2);
-        }
-    }
-    Inside::Known(false)
 }
 
 // Mark, source, target, label.
 fn edge(p: &[u8]) -> Inside
     ensures { Tells (rank Edges) (is_some (rule_edge p.now)) p.now result }
 {
-    if p.len() < 3 {
-        return Inside::Known(false);
+    if p.len() >= 3 && marked(p[0], Mark::GREY) {
+        Inside::From(Row::Elements, 3)
+    } else {
+        Inside::Known(false)
     }
-    if marked(p[0], Mark::GREY) {
-        return Inside::From(Row::Elements, 3);
-    }
-    Inside::Known(false)
 }
 
 // Whether a relation test says equal or less.
+#[tactic(auto, unfolding(meaning::specs::Basics::both))]
 fn related(p: &[u8]) -> bool
     ensures { result ≡ both (leb 2 (length p.now)) (either (eqb (get_or p.now 1 0) equal_relation) (eqb (get_or p.now 1 0) less_relation)) }
 {
-    if p.len() < 2 {
-        return false;
-    }
-    one_of(p[1], Relation::EQUAL, Relation::LESS)
+    p.len() >= 2 && one_of(p[1], Relation::EQUAL, Relation::LESS)
 }
 
 // Whether a flag, 0 or 1, stands in front.
+#[tactic(auto, using(fields::specs::Image::flag_ok), unfolding(meaning::specs::Basics::both))]
 fn flagged(p: &[u8]) -> bool
     ensures { result ≡ is_some (flag p.now) }
 {
-    if p.len() < 1 {
-        return false;
-    }
-    p[0] <= 1
+    p.len() >= 1 && p[0] <= 1
 }
 
 // A flag, and nothing behind it.
+#[tactic(auto, using(fields::specs::Image::mode_ok), unfolding(meaning::specs::Basics::both))]
 fn mode_ok(p: &[u8]) -> bool
     ensures { result ≡ is_some (mode p.now) }
 {
-    if p.len() != 1 {
-        return false;
-    }
-    flagged(p)
+    p.len() == 1 && flagged(p)
 }
 
 // Whether the test is negated, then its condition.
@@ -111,17 +87,11 @@ fn test(tag: u8, p: &[u8]) -> Inside
     if !flagged(p) {
         return Inside::Known(false);
     }
-    if tag == Tag::RELATION {
-        if related(p) {
-            return Inside::From(Row::Operands, 2);
-        }
-        return Inside::Known(false);
-    }
     let n = p.len() - 1;
     match tag {
+        Tag::RELATION if related(p) => Inside::From(Row::Operands, 2),
         Tag::EDGE_TEST => Inside::Known(n == 2),
-        Tag::IN_DEGREE => Inside::Known(n == 3),
-        Tag::OUT_DEGREE => Inside::Known(n == 3),
+        Tag::IN_DEGREE | Tag::OUT_DEGREE => Inside::Known(n == 3),
         _ => Inside::Known(false),
     }
 }
@@ -142,20 +112,17 @@ fn element(tag: u8, p: &[u8]) -> Inside
     ensures { Tells (rank Elements) (is_some (element tag p.now)) p.now result }
 {
     match tag {
-        Tag::SUM => Inside::From(Row::Operands, 0),
-        Tag::DIFFERENCE => Inside::From(Row::Operands, 0),
+        Tag::SUM | Tag::DIFFERENCE => Inside::From(Row::Operands, 0),
         _ => Inside::Known(operand_ok(tag, p)),
     }
 }
 
 // One to eight rule numbers.
+#[tactic(auto, using(fields::specs::Image::as_rule_set_ok), unfolding(meaning::specs::Basics::both))]
 fn rule_set_ok(p: &[u8]) -> bool
     ensures { result ≡ is_some (as_rule_set p.now) }
 {
-    if p.len() < 1 {
-        return false;
-    }
-    p.len() <= Limit::NUMBERS
+    p.len() >= 1 && p.len() <= Limit::NUMBERS
 }
 
 // A command nested at most `depth` deep.
@@ -169,16 +136,9 @@ fn command(tag: u8, p: &[u8], depth: usize) -> Inside
     match tag {
         Tag::RULE_SET => Inside::Known(rule_set_ok(p)),
         Tag::SEQUENCE => Inside::From(Row::Sequence(lower), 0),
-        Tag::GUARDED => {
-            if flagged(p) {
-                return Inside::From(Row::Guarded(lower), 1);
-            }
-            Inside::Known(false)
-        }
+        Tag::GUARDED if flagged(p) => Inside::From(Row::Guarded(lower), 1),
         Tag::LOOP => Inside::From(Row::One(lower), 0),
-        Tag::SKIP => Inside::Known(p.len() == 0),
-        Tag::FAIL => Inside::Known(p.len() == 0),
-        Tag::BREAK => Inside::Known(p.len() == 0),
+        Tag::SKIP | Tag::FAIL | Tag::BREAK => Inside::Known(p.is_empty()),
         Tag::CALL => Inside::Known(p.len() == 1),
         _ => Inside::Known(false),
     }
@@ -191,8 +151,7 @@ pub fn inside(row: Row, tag: u8, p: &[u8]) -> Inside
         Row::Rules => Inside::From(Row::Variables, 0),
         Row::Procedures => Inside::From(Row::One(Limit::DEPTH), 0),
         Row::Variables => Inside::Known(types_ok(p)),
-        Row::Left => Inside::From(Row::Nodes, 0),
-        Row::Right => Inside::From(Row::Nodes, 0),
+        Row::Left | Row::Right => Inside::From(Row::Nodes, 0),
         Row::Interface => Inside::Known(p.len() == 1),
         Row::Conditions => Inside::From(Row::Tests, 0),
         Row::Modes => Inside::Known(mode_ok(p)),
@@ -201,9 +160,7 @@ pub fn inside(row: Row, tag: u8, p: &[u8]) -> Inside
         Row::Tests => test(tag, p),
         Row::Elements => element(tag, p),
         Row::Operands => Inside::Known(operand_ok(tag, p)),
-        Row::Sequence(depth) => command(tag, p, depth),
-        Row::Guarded(depth) => command(tag, p, depth),
-        Row::One(depth) => command(tag, p, depth),
+        Row::Sequence(depth) | Row::Guarded(depth) | Row::One(depth) => command(tag, p, depth),
         Row::Nothing => Inside::Known(false),
     }
 }

@@ -8,7 +8,7 @@ ghost use Rattle.meaning.specs.Basics.{is_some};
 ghost use Rattle.meaning.specs.Image.{raw_program};
 ghost use Rattle.image.specs.Form.{fits, read, belonging};
 
-use fields::Found;
+use fields::Field;
 
 pub mod items;
 pub mod table;
@@ -54,19 +54,16 @@ pub enum Inside {
 }
 
 // Whether one more item of a row begins at a place, where there are n.
+#[tactic(auto, unfolding(crate::specs::Form::belonging, meaning::specs::Basics::both))]
 fn belongs(row: Row, n: usize, p: &[u8], at: usize) -> bool
     ensures { result ≡ belonging row n p.now at }
 {
-    if at < p.len() {
-        if n < table::most(row) {
-            let tag = table::tag_of(row);
-            if tag == 0 {
-                return true;
-            }
-            return tag == p[at];
+    at < p.len()
+        && n < table::most(row)
+        && match table::tag_of(row) {
+            Some(tag) => tag == p[at],
+            None => true,
         }
-    }
-    false
 }
 
 // An item of a row, from its tag and payload.
@@ -74,8 +71,7 @@ fn belongs(row: Row, n: usize, p: &[u8], at: usize) -> bool
 fn item_ok(row: Row, tag: u8, p: &[u8]) -> bool
     ensures { result ≡ is_some (read row tag p.now) }
 {
-    let inside = items::inside(row, tag, p);
-    match inside {
+    match items::inside(row, tag, p) {
         Inside::Known(ok) => ok,
         Inside::From(first, from) => rows_ok(first, &p[from..]),
     }
@@ -89,19 +85,17 @@ fn rows_ok(first: Row, p: &[u8]) -> bool
     let mut row = first;
     let mut rest = p;
     while table::most(row) > 0 {
-        let mut at: usize = 0;
-        let mut n: usize = 0;
+        let mut at = 0;
+        let mut n = 0;
         while belongs(row, n, rest, at) {
-            let found = fields::read_field(rest, at);
-            let Found::Field(tag, start, end) = found else {
+            let Some(Ok(Field { tag, start, end })) = fields::read_field(rest, at) else {
                 return false;
             };
-            if item_ok(row, tag, fields::part(rest, start, end)) {
-                at = end;
-                n += 1;
-            } else {
+            if !item_ok(row, tag, &rest[start..end]) {
                 return false;
             }
+            at = end;
+            n += 1;
         }
         if n < table::least(row) {
             return false;
@@ -109,7 +103,7 @@ fn rows_ok(first: Row, p: &[u8]) -> bool
         row = table::next(row);
         rest = &rest[at..];
     }
-    rest.len() == 0
+    rest.is_empty()
 }
 
 // The form of a whole image: rules, then procedures, then one command, then nothing.

@@ -5,28 +5,22 @@ ghost use Rattle.image.specs.Form.{tag_of, least_of, most_of, next_of};
 use crate::Row;
 use meaning::tags::{Limit, Tag};
 
-// The tag of every item; 0 where an item's own check tells.
-pub fn tag_of(row: Row) -> u8
+// The tag of every item; none where an item's own check tells.
+pub fn tag_of(row: Row) -> Option<u8>
     ensures { result ≡ tag_of row }
 {
     match row {
-        Row::Rules => Tag::RULE,
-        Row::Procedures => Tag::PROCEDURE,
-        Row::Variables => Tag::VARIABLES,
-        Row::Left => Tag::LEFT,
-        Row::Right => Tag::RIGHT,
-        Row::Interface => Tag::INTERFACE,
-        Row::Conditions => Tag::TESTS,
-        Row::Modes => Tag::MODE,
-        Row::Nodes => Tag::NODE,
-        Row::Edges => Tag::EDGE,
-        Row::Tests => 0,
-        Row::Elements => 0,
-        Row::Operands => 0,
-        Row::Sequence(_) => 0,
-        Row::Guarded(_) => 0,
-        Row::One(_) => 0,
-        Row::Nothing => 0,
+        Row::Rules => Some(Tag::RULE),
+        Row::Procedures => Some(Tag::PROCEDURE),
+        Row::Variables => Some(Tag::VARIABLES),
+        Row::Left => Some(Tag::LEFT),
+        Row::Right => Some(Tag::RIGHT),
+        Row::Interface => Some(Tag::INTERFACE),
+        Row::Conditions => Some(Tag::TESTS),
+        Row::Modes => Some(Tag::MODE),
+        Row::Nodes => Some(Tag::NODE),
+        Row::Edges => Some(Tag::EDGE),
+        _ => None,
     }
 }
 
@@ -34,23 +28,16 @@ pub fn least(row: Row) -> usize
     ensures { result ≡ least_of row }
 {
     match row {
-        Row::Rules => 0,
-        Row::Procedures => 0,
-        Row::Variables => 1,
-        Row::Left => 1,
-        Row::Right => 1,
-        Row::Interface => 1,
-        Row::Conditions => 1,
-        Row::Modes => 0,
-        Row::Nodes => 0,
-        Row::Edges => 0,
-        Row::Tests => 0,
-        Row::Elements => 0,
+        Row::Variables
+        | Row::Left
+        | Row::Right
+        | Row::Interface
+        | Row::Conditions
+        | Row::Sequence(_)
+        | Row::One(_) => 1,
         Row::Operands => 2,
-        Row::Sequence(_) => 1,
         Row::Guarded(_) => 3,
-        Row::One(_) => 1,
-        Row::Nothing => 0,
+        _ => 0,
     }
 }
 
@@ -60,12 +47,6 @@ pub fn most(row: Row) -> usize
     match row {
         Row::Rules => Limit::RULES,
         Row::Procedures => Limit::PROCEDURES,
-        Row::Variables => 1,
-        Row::Left => 1,
-        Row::Right => 1,
-        Row::Interface => 1,
-        Row::Conditions => 1,
-        Row::Modes => 1,
         Row::Nodes => Limit::NODES,
         Row::Edges => Limit::EDGES,
         Row::Tests => Limit::TESTS,
@@ -73,8 +54,8 @@ pub fn most(row: Row) -> usize
         Row::Operands => 2,
         Row::Sequence(_) => Limit::COMMANDS,
         Row::Guarded(_) => 3,
-        Row::One(_) => 1,
         Row::Nothing => 0,
+        _ => 1,
     }
 }
 
@@ -89,15 +70,7 @@ pub fn next(row: Row) -> Row
         Row::Right => Row::Interface,
         Row::Interface => Row::Conditions,
         Row::Conditions => Row::Modes,
-        Row::Modes => Row::Nothing,
         Row::Nodes => Row::Edges,
-        Row::Edges => Row::Nothing,
-        Row::Tests => Row::Nothing,
-        Row::Elements => Row::Nothing,
-        Row::Operands => Row::Nothing,
-        Row::Sequence(_) => Row::Nothing,
-        Row::Guarded(_) => Row::Nothing,
-        Row::One(_) => Row::Nothing,
-        Row::Nothing => Row::Nothing,
+        _ => Row::Nothing,
     }
 }

@@ -1,53 +1,41 @@
 -- The cycle of `item_ok` and `rows_ok` meets its contracts.
-use Rattle.std.proofs.Common.{arith}
+use Rattle.std.proofs.Common.{refl, ap, ◌∙◌, Some}
 use Rattle.fields.proofs.Finding.{a-field, part_in, nearer}
-use Rattle.image.proofs.Walks.{along_start, onto_start, onto_bad, onto_done, onto_less, onto_next, space, turn-cut, turn-bad, turn-next, too_few, enough}
+use Rattle.image.proofs.Walks.{along_start, onto_bad, onto_done, onto_next, turn-cut, turn-bad, turn-next, too_few, enough}
 use Rattle.image.proofs.+item_ok_rows_ok.Goals as goal
 
-pub item_ok-rows_ok-requires : goal.item_ok-rows_ok-requires
-item_ok-rows_ok-requires t c = (omega (arith, c.in-From.ensures.lower, c.decreases), tt)
-
-pub rows_ok-loop-row-init : goal.rows_ok-loop-row-init
-rows_ok-loop-row-init t c = onto_start _ _
-
-pub rows_ok-loop-found-init : goal.rows_ok-loop-found-init
-rows_ok-loop-found-init t c = along_start _ _
+pub rows_ok-loop-tag-init : goal.rows_ok-loop-tag-init
+rows_ok-loop-tag-init t c = along_start _ _
 
 pub rows_ok-returns-in_default : goal.rows_ok-returns-in_default
-rows_ok-returns-in_default t c = onto_bad c.loop-row.invariant (turn-cut c.loop-found.invariant c.belongs.ensures c.loop-found-test.true c.read_field-found.ensures c.in_default.not-Field)
+rows_ok-returns-in_default t c = onto_bad c.loop-row.invariant (turn-cut c.loop-tag.invariant c.belongs.ensures c.loop-tag-test.true c.read_field.ensures (λ tag start end e. cc))
 
-pub rows_ok-part-requires : goal.rows_ok-part-requires
-rows_ok-part-requires t c = part_in (a-field _ _ c.read_field-found.ensures c.in-Field.is)
+pub rows_ok-returns-in_default-2 : goal.rows_ok-returns-in_default-2
+rows_ok-returns-in_default-2 t c = onto_bad c.loop-row.invariant (turn-cut c.loop-tag.invariant c.belongs.ensures c.loop-tag-test.true c.read_field.ensures (λ tag start end e. cc))
 
-pub rows_ok-item_ok-requires : goal.rows_ok-item_ok-requires
-rows_ok-item_ok-requires t c = (omega (arith, c.loop-row.invariant.lower, c.decreases), tt)
+pub rows_ok-slice_bounds-item_ok-count : goal.rows_ok-slice_bounds-item_ok-count
+rows_ok-slice_bounds-item_ok-count t c = (part_in (a-field _ _ c.read_field.ensures (c.in-Some-Ok.is ∙ ap Some c.in-Some-Ok.field-0-is))).0
 
-pub rows_ok-overflow_add-n : goal.rows_ok-overflow_add-n
-rows_ok-overflow_add-n t c = omega (arith, space c.loop-found.invariant c.belongs.ensures c.loop-found-test.true)
+pub rows_ok-slice_bounds-item_ok-start : goal.rows_ok-slice_bounds-item_ok-start
+rows_ok-slice_bounds-item_ok-start t c = (part_in (a-field _ _ c.read_field.ensures (c.in-Some-Ok.is ∙ ap Some c.in-Some-Ok.field-0-is))).0
 
-pub rows_ok-loop-found-smaller : goal.rows_ok-loop-found-smaller
-rows_ok-loop-found-smaller t c = nearer (a-field _ _ c.read_field-found.ensures c.in-Field.is)
+pub rows_ok-slice_bounds-item_ok-end : goal.rows_ok-slice_bounds-item_ok-end
+rows_ok-slice_bounds-item_ok-end t c = (part_in (a-field _ _ c.read_field.ensures (c.in-Some-Ok.is ∙ ap Some c.in-Some-Ok.field-0-is))).1
 
-pub rows_ok-loop-found-preserved : goal.rows_ok-loop-found-preserved
-rows_ok-loop-found-preserved t c = turn-next c.loop-found.invariant c.belongs.ensures c.loop-found-test.true (a-field _ _ c.read_field-found.ensures c.in-Field.is) c.part.ensures c.item_ok.ensures c.if-item_ok.true
+pub rows_ok-returns-then-not-item_ok : goal.rows_ok-returns-then-not-item_ok
+rows_ok-returns-then-not-item_ok t c = onto_bad c.loop-row.invariant (turn-bad c.loop-tag.invariant c.belongs.ensures c.loop-tag-test.true (a-field _ _ c.read_field.ensures (c.in-Some-Ok.is ∙ ap Some c.in-Some-Ok.field-0-is)) refl c.item_ok.ensures c.if-not-item_ok.true)
 
-pub rows_ok-returns-else-item_ok : goal.rows_ok-returns-else-item_ok
-rows_ok-returns-else-item_ok t c = onto_bad c.loop-row.invariant (turn-bad c.loop-found.invariant c.belongs.ensures c.loop-found-test.true (a-field _ _ c.read_field-found.ensures c.in-Field.is) c.part.ensures c.item_ok.ensures c.if-item_ok.false)
+pub rows_ok-loop-tag-smaller : goal.rows_ok-loop-tag-smaller
+rows_ok-loop-tag-smaller t c = nearer (a-field _ _ c.read_field.ensures (c.in-Some-Ok.is ∙ ap Some c.in-Some-Ok.field-0-is))
+
+pub rows_ok-loop-tag-preserved : goal.rows_ok-loop-tag-preserved
+rows_ok-loop-tag-preserved t c = turn-next c.loop-tag.invariant c.belongs.ensures c.loop-tag-test.true (a-field _ _ c.read_field.ensures (c.in-Some-Ok.is ∙ ap Some c.in-Some-Ok.field-0-is)) refl c.item_ok.ensures c.if-not-item_ok.false
 
 pub rows_ok-returns-then-n-least : goal.rows_ok-returns-then-n-least
-rows_ok-returns-then-n-least t c = onto_bad c.loop-row.invariant (too_few c.loop-found.invariant c.belongs.ensures c.loop-found-test.false c.least.ensures c.if-n-least.true)
-
-pub rows_ok-slice_bounds-rest-count : goal.rows_ok-slice_bounds-rest-count
-rows_ok-slice_bounds-rest-count t c = c.loop-found.invariant.reading.inside
-
-pub rows_ok-slice_bounds-rest-start : goal.rows_ok-slice_bounds-rest-start
-rows_ok-slice_bounds-rest-start t c = c.loop-found.invariant.reading.inside
-
-pub rows_ok-loop-row-smaller : goal.rows_ok-loop-row-smaller
-rows_ok-loop-row-smaller t c = onto_less c.loop-row.invariant c.most.ensures c.loop-row-test.true c.next-row.ensures
+rows_ok-returns-then-n-least t c = onto_bad c.loop-row.invariant (too_few c.loop-tag.invariant c.belongs.ensures c.loop-tag-test.false c.least.ensures c.if-n-least.true)
 
 pub rows_ok-loop-row-preserved : goal.rows_ok-loop-row-preserved
-rows_ok-loop-row-preserved t c = onto_next c.loop-row.invariant c.most.ensures c.loop-row-test.true c.next-row.ensures _ (enough c.loop-found.invariant c.belongs.ensures c.loop-found-test.false c.least.ensures c.if-n-least.false)
+rows_ok-loop-row-preserved t c = onto_next c.loop-row.invariant c.most.ensures c.loop-row-test.true c.next-row.ensures _ (enough c.loop-tag.invariant c.belongs.ensures c.loop-tag-test.false c.least.ensures c.if-n-least.false)
 
 pub rows_ok-returns : goal.rows_ok-returns
-rows_ok-returns t c = onto_done c.loop-row.invariant c.most.ensures c.loop-row-test.false
+rows_ok-returns t c = c.is_empty.ensures ∙ onto_done c.loop-row.invariant c.most.ensures c.loop-row-test.false

@@ -12,11 +12,11 @@ decreases-item_ok l = 2 * rank l.row
 abbrev pub decreases-rows_ok : goal.decreases-rows_ok
 decreases-rows_ok l = 2 * rank l.first + 1
 
-abbrev pub invariant-rows_ok-loop-found : goal.invariant-rows_ok-loop-found
-invariant-rows_ok-loop-found l = Along l.row l.rest l.at l.n
+abbrev pub invariant-rows_ok-loop-tag : goal.invariant-rows_ok-loop-tag
+invariant-rows_ok-loop-tag l = Along l.row l.rest l.at l.n
 
-abbrev pub decreases-rows_ok-loop-found : goal.decreases-rows_ok-loop-found
-decreases-rows_ok-loop-found l = length l.rest - l.at
+abbrev pub decreases-rows_ok-loop-tag : goal.decreases-rows_ok-loop-tag
+decreases-rows_ok-loop-tag l = length l.rest - l.at
 
 abbrev pub invariant-rows_ok-loop-row : goal.invariant-rows_ok-loop-row
 invariant-rows_ok-loop-row l = Onto l.fn.first l.fn.p l.row l.rest

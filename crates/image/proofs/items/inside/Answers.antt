@@ -1,6 +1,7 @@
 -- `items::inside` meets its contract, row by row.
 use Rattle.std.proofs.Common.{refl, sym, ℕ, arith, lit<}
 use mathlib.Core.Option.{none}
+use mathlib.Core.Logic.{inl, inr}
 use Rattle.fields.specs.Image.{one_byte_ok}
 use Rattle.image.proofs.Insides.{failed}
 use Rattle.image.proofs.Rows.{rule_fits, one-fits, graph-fits, tests-fit}
@@ -16,10 +17,11 @@ pub returns-in-Variables : goal.returns-in-Variables
 returns-in-Variables c = rw c.in-Variables.is c.types_ok.ensures
 
 pub returns-in-Left : goal.returns-in-Left
-returns-in-Left c = rw c.in-Left.is (record { lower = lit< tt; inside = omega arith; same = graph-fits _ })
-
-pub returns-in-Right : goal.returns-in-Right
-returns-in-Right c = rw c.in-Right.is (record { lower = lit< tt; inside = omega arith; same = graph-fits _ })
+returns-in-Left c =
+    elim c.in-Left.is [
+      | inl e ↦ rw e (record { lower = lit< tt; inside = omega arith; same = graph-fits _ })
+      | inr e ↦ rw e (record { lower = lit< tt; inside = omega arith; same = graph-fits _ })
+    ]
 
 pub returns-in-Interface : goal.returns-in-Interface
 returns-in-Interface c = rw c.in-Interface.is (sym (one_byte_ok _))
@@ -46,13 +48,8 @@ pub returns-in-Operands : goal.returns-in-Operands
 returns-in-Operands c = rw c.in-Operands.is c.operand_ok.ensures
 
 pub returns-in-Sequence : goal.returns-in-Sequence
-returns-in-Sequence c = rw c.in-Sequence.is c.command.ensures
-
-pub returns-in-Guarded : goal.returns-in-Guarded
-returns-in-Guarded c = rw c.in-Guarded.is c.command-in-Guarded.ensures
-
-pub returns-in-One : goal.returns-in-One
-returns-in-One c = rw c.in-One.is c.command-in-One.ensures
+returns-in-Sequence c =
+    elim c.in-Sequence.is [ inl e ↦ rw e c.command.ensures | inr h ↦ elim h [ inl e ↦ rw e c.command.ensures | inr e ↦ rw e c.command.ensures ] ]
 
 pub returns-in-Nothing : goal.returns-in-Nothing
 returns-in-Nothing c = rw c.in-Nothing.is (failed {A = ℕ} none refl)
