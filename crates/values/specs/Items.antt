@@ -1,6 +1,6 @@
 -- Right nodes and edges by number: their marks, roots, ends and labels, and that a label's value in hand is theirs.
 -- Rests on Laws and Right.
-use Rattle.std.specs.Prelude.{◌≡◌, refl, List, ℕ, ◌+◌, ◌<◌, eqb, ltb, length, get_or}
+use Rattle.std.specs.Prelude.{◌≡◌, refl, List, ℕ, ◌+◌, ◌<◌, eqb, ltb, length, get_or, Option as Maybe}
 use Rattle.std.proofs.Common.{sym, ◌∙◌, arith}
 use Rattle.std.proofs.Math.Option.{some}
 use Rattle.meaning.specs.Basics.{choose, each}
@@ -17,9 +17,8 @@ use Rattle.labels.specs.Labels.{atoms_in}
 use Rattle.parts.specs.Series.{For}
 use Rattle.parts.specs.Rows.{node, edge, graph_item, item_label}
 use Rattle.values.specs.Values.{Agree, value_in}
-use Rattle.values.specs.Laws.{value-some}
 use Rattle.values.specs.Right.{label_same, node-names, edge-names, node-item, edge-item}
-use Rattle.values.specs.declared.Valued.{Valued}
+use Rattle.labels.specs.declared.Label.{Label}
 
 -- One of many.
 
@@ -70,23 +69,19 @@ module _ (most : ℕ) (h : Host) (r : Rule) (p : List ℕ) (right : Right) (q : 
       edge-value most r (assigned h r p) _ _ (each_at (right_edge most (assigned h r p)) r.right.edges right.edges sides.1 j k d b)
 
   -- a value in hand, read from the item's bytes under values that agree with the match's
-  module _ (α : Assignment) (agree : Agree α (assigned h r p) (names r.right)) (bs : List ℕ) (v : Valued) where
+  module _ (α : Assignment) (agree : Agree α (assigned h r p) (names r.right)) (bs : List ℕ) (v : Maybe Label) where
     pub node_in_hand_lem : For (graph_item node_tag bs) (λ i. value_in v ≡ label_value most α (item_label i)) → (j : ℕ) → j < length r.right.nodes
-        → (d : RuleNode) (b : Node) → rule_node bs ≡ some (get_or r.right.nodes j d) → atoms_in v.label ≡ (get_or right.nodes j b).label
+        → (d : RuleNode) (b : Node) → rule_node bs ≡ some (get_or r.right.nodes j d) → value_in v ≡ some (get_or right.nodes j b).label
     unfolding item_label
     node_in_hand_lem f j k d b e =
-        (value-some v _
-        (f (node (get_or r.right.nodes j d)) (node-item bs _ e)
+        f (node (get_or r.right.nodes j d)) (node-item bs _ e)
         ∙ label_same α (assigned h r p) most _ (node-names (λ x. α x ≡ assigned h r p x) r.right agree j k d)
-        ∙ (node_at_lem j k d b).label)
-        ).1
+        ∙ (node_at_lem j k d b).label
 
     pub edge_in_hand_lem : For (graph_item edge_tag bs) (λ i. value_in v ≡ label_value most α (item_label i)) → (j : ℕ) → j < length r.right.edges
-        → (d : RuleEdge) (b : Edge) → rule_edge bs ≡ some (get_or r.right.edges j d) → atoms_in v.label ≡ (get_or right.edges j b).label
+        → (d : RuleEdge) (b : Edge) → rule_edge bs ≡ some (get_or r.right.edges j d) → value_in v ≡ some (get_or right.edges j b).label
     unfolding item_label
     edge_in_hand_lem f j k d b e =
-        (value-some v _
-        (f (edge (get_or r.right.edges j d)) (edge-item bs _ e)
+        f (edge (get_or r.right.edges j d)) (edge-item bs _ e)
         ∙ label_same α (assigned h r p) most _ (edge-names (λ x. α x ≡ assigned h r p x) r.right agree j k d)
-        ∙ (edge_at j k d b).label)
-        ).1
+        ∙ (edge_at j k d b).label

@@ -2,14 +2,13 @@
 -- Rests on Values, on labels' Laws, on parts' Walks and on laws' Numbers.
 use Rattle.std.proofs.Math.Path.{◌≡◌, refl, sym, ap}
 use Rattle.std.proofs.Common.{◌∙◌, append_assoc, append-nil, le-leb, lt-ltb, le-ltb, length-append, get_or-take, get_or-append-add}
-use Rattle.std.specs.Prelude.{Bool, List, [], ◌∷◌, ◌++◌, ℕ, ◌+◌, ◌-◌, ◌*◌, ◌<◌, ◌≤◌, leb, ltb, length, get_or, set, take, drop}
-use Rattle.std.proofs.Math.Bool.{true, false}
+use Rattle.std.specs.Prelude.{Bool, List, [], ◌∷◌, ◌++◌, ℕ, ◌+◌, ◌-◌, ◌*◌, ◌<◌, ◌≤◌, leb, ltb, length, get_or, set, take, drop, Option as Maybe, Some, None, is_some as there}
 use Rattle.std.proofs.Math.Option.{Option, some, none}
 use native.Mathlib.Omega.{arith}
 use Rattle.std.proofs.Math.Decide.{dec_lt}
 use Rattle.std.proofs.lemmas.Bool.{lt-leb}
 use Rattle.std.proofs.Math.ListN.{get_or-eq_default}
-use Rattle.std.proofs.Math.Seq.{take-append_seam}
+use Rattle.std.proofs.Math.Seq.{take_at}
 use Rattle.meaning.specs.Basics.{choose, both, is_some, concat, ensure, each, ◌>>◌, ◌>>=◌}
 use Rattle.meaning.specs.Numbers.{half, whole, height, sum, difference}
 use Rattle.meaning.specs.Layout.{most_atoms}
@@ -17,7 +16,9 @@ use Rattle.meaning.specs.Image.{label, limits}
 use Rattle.meaning.specs.Matching.{Assignment, atom_of}
 use Rattle.meaning.specs.Applying.{element_value, label_value}
 use Rattle.meaning.specs.Laws.Tests.{both_of, both-no, both_yes, choose_true, choose_false, ensure-some, ensure-yes, ensure-no, some_inj}
+use Rattle.laws.specs.Layout.{Words}
 use Rattle.laws.specs.Numbers.{height_lt}
+use Rattle.laws.specs.Values.{Words-take, Words-append}
 use Rattle.fields.specs.Image.{first-at}
 use Rattle.meaning.specs.declared.Operand.{Operand}
 use Rattle.meaning.specs.declared.Operand.TheVariants.{Constant as constant_operand, Variable as variable_operand}
@@ -29,10 +30,7 @@ use Rattle.labels.specs.Laws.{Filled, filled_more, filled-all, held-length}
 use Rattle.parts.specs.Walks.{spells_label}
 use Rattle.labels.specs.declared.Label.{Label}
 use Rattle.parts.specs.Series.{For}
-use Rattle.values.specs.Values.{values_of, Stored, as_option, lowered, of_atom, value_in, Kept, fitting}
-use Rattle.values.specs.declared.Atom.{Atom}
-use Rattle.values.specs.declared.Atom.TheVariants.{Word, Outside}
-use Rattle.values.specs.declared.Valued.{Valued}
+use Rattle.values.specs.Values.{values_of, Stored, as_option, lowered, of_atom, value_in, Short, fitting}
 
 -- Heights.
 
@@ -116,40 +114,33 @@ module _ (lens atoms : List ℕ) (v : ℕ) where
 
 -- A value in hand.
 
-module _ (v : Valued) where
-  pub value-held : v.held ≡ true → value_in v ≡ some (atoms_in v.label)
-  value-held e = choose_true _ _ _ e
+module _ (v : Maybe Label) where
+  pub value-held : (a : Label) → v ≡ Some a → value_in v ≡ some (atoms_in a)
+  value-held a e = ap value_in e
 
-  pub value_not : v.held ≡ false → value_in v ≡ none
-  value_not e = choose_false _ _ _ e
+  pub value_not : v ≡ None → value_in v ≡ none
+  value_not e = ap value_in e
 
-  -- whether there is a value is what the flag says
-  pub value-is : v.held ≡ is_some (value_in v)
-  unfolding is_some choose
-  value-is = at v.held
-    where
-      at : (b : Bool) → b ≡ is_some (choose b (some (atoms_in v.label)) none)
-      at true = refl
-      at false = refl
+-- whether there is a value is whether there is a label
+pub value-is : (v : Maybe Label) → there v ≡ is_some (value_in v)
+unfolding is_some
+value-is (Some a) = refl
+value-is None = refl
 
-  -- a value that is there is the label's
-  pub value-some : (m : List ℕ) → value_in v ≡ some m → (v.held ≡ true) × (atoms_in v.label ≡ m)
-  unfolding choose
-  value-some m e = at v.held e
-    where
-      at : (b : Bool) → choose b (some (atoms_in v.label)) none ≡ some m → (b ≡ true) × (atoms_in v.label ≡ m)
-      at true q = (refl, some_inj (atoms_in v.label) m q)
-      at false q = let z : ◌≡◌ {A = ℕ} 0 1 = cc in absurd (omega arith)
+-- a value that is there is the label's
+pub value-some : (v : Maybe Label) (m : List ℕ) → value_in v ≡ some m → (a : Label) × (v ≡ Some a) × (atoms_in a ≡ m)
+value-some (Some a) m e = (a, refl, some_inj (atoms_in a) m e)
+value-some None m e = let z : ◌≡◌ {A = ℕ} 0 1 = cc in absurd (omega arith)
 
--- so the flag tells of whatever the value is read from
-pub held_for : {A : Type 0} (v : Valued) (o : Option A) (f : A → Option (List ℕ)) → For o (λ a. value_in v ≡ f a) → For o (λ a. v.held ≡ is_some (f a))
+-- so the label tells of whatever the value is read from
+pub held_for : {A : Type 0} (v : Maybe Label) (o : Option A) (f : A → Option (List ℕ)) → For o (λ a. value_in v ≡ f a) → For o (λ a. there v ≡ is_some (f a))
 held_for v o f h a e = value-is v ∙ ap is_some (h a e)
 
-pub kept_label : (a : Label) (m : List ℕ) (b : Bool) → Holds m a → Kept most_atoms (record { held = b; label = a })
-kept_label a m b h = record { held = h.held; few = h.held.few }
+pub kept_label : (a : Label) (m : List ℕ) → Holds m a → Short most_atoms a
+kept_label a m h = record { held = h.held; few = h.held.few }
 
-pub value-one : (a : Label) (m : List ℕ) → Holds m a → value_in (record { held = true; label = a }) ≡ some m
-value-one a m h = value-held (record { held = true; label = a }) refl ∙ ap some h.atoms
+pub value-one : (a : Label) (m : List ℕ) → Holds m a → value_in (Some a) ≡ some m
+value-one a m h = ap some h.atoms
 
 -- Operands and elements, by their kind.
 
@@ -162,25 +153,25 @@ module _ (α : Assignment) (o : Operand) (x : ℕ) where
   unfolding atom_of
   atom-variable v e q = rw e q
 
-module _ (a : Atom) (r : Label) where
-  pub word_value : (x : ℕ) → a ≡ Word x → Holds (x ∷ []) r → value_in (record { held = true; label = r }) ≡ of_atom (as_option a)
+module _ (a : Maybe ℕ) where
+  pub word_value : (x : ℕ) (r : Label) → a ≡ Some x → Holds (x ∷ []) r → value_in (Some r) ≡ of_atom (as_option a)
   unfolding ◌>>=◌
-  word_value x e h = rw e (value-one r (x ∷ []) h)
+  word_value x r e h = rw e (value-one r (x ∷ []) h)
 
-  pub outside-value : a ≡ Outside → value_in (record { held = false; label = r }) ≡ of_atom (as_option a)
+  pub outside-value : a ≡ None → value_in None ≡ of_atom (as_option a)
   unfolding ◌>>=◌
-  outside-value e = rw e (value_not (record { held = false; label = r }) refl)
+  outside-value e = rw e
 
 module _ (α : Assignment) (e : Element) where
-  pub element-constant : (x : ℕ) (r : Label) → e ≡ Constant x → Holds (x ∷ []) r → value_in (record { held = true; label = r }) ≡ element_value α e
+  pub element-constant : (x : ℕ) (r : Label) → e ≡ Constant x → Holds (x ∷ []) r → value_in (Some r) ≡ element_value α e
   unfolding element_value
   element-constant x r q h = rw q (value-one r (x ∷ []) h)
 
-  pub element-variable : (v : ℕ) (r : Label) → e ≡ Variable v → Holds (α v) r → value_in (record { held = true; label = r }) ≡ element_value α e
+  pub element-variable : (v : ℕ) (r : Label) → e ≡ Variable v → Holds (α v) r → value_in (Some r) ≡ element_value α e
   unfolding element_value
   element-variable v r q h = rw q (value-one r (α v) h)
 
-  module _ (a b : Operand) (x y : ℕ) (s : Atom) (o : Option (List ℕ)) (p : x ≡ atom_of α a) (q : y ≡ atom_of α b) (w : o ≡ of_atom (as_option s)) where
+  module _ (a b : Operand) (x y : ℕ) (s : Maybe ℕ) (o : Option (List ℕ)) (p : x ≡ atom_of α a) (q : y ≡ atom_of α b) (w : o ≡ of_atom (as_option s)) where
     pub element-sum : e ≡ Sum a b → as_option s ≡ sum x y → o ≡ element_value α e
     unfolding element_value
     element-sum t z = w ∙ rw (z, t, p, q)
@@ -221,34 +212,26 @@ module _ (a b : Label) (h : Held a) (k : Held b) where
   joined_length : length (atoms_in a ++ atoms_in b) ≡ a.len + b.len
   joined_length = length-append (atoms_in a) (atoms_in b) ∙ rw (held-length a h, held-length b k)
 
-  pub joined-start : Filled (atoms_in a ++ atoms_in b) (a.len + 0) a.atoms
-  joined-start =
-      let z : a.len + 0 ≡ a.len = omega arith in
-      let e = held-length a h in
+  -- label a's atoms, then label b's, then the rest of the room
+  pub joined-all : (t : List ℕ) → Words t → a.len + b.len + length t ≡ most_atoms
+      → Holds (atoms_in a ++ atoms_in b) (record { len = a.len + b.len; atoms = atoms_in a ++ (atoms_in b ++ t) })
+  joined-all t w r =
+      let e = joined_length in
       record {
-        room = h.room;
-        small = h.small;
-        front = rw z (sym (ap (λ (n : ℕ). take n (atoms_in a ++ atoms_in b)) (sym e) ∙ take-append_seam (atoms_in a) (atoms_in b)));
+        held = record {
+          few = omega arith;
+          room = length-append (atoms_in a) (atoms_in b ++ t) ∙ rw (length-append (atoms_in b) t, held-length a h, held-length b k) (omega arith);
+          small = Words-append (atoms_in a) (atoms_in b ++ t) (Words-take a.len a.atoms h.small) (Words-append (atoms_in b) t (Words-take b.len b.atoms k.small) w);
+        };
+        atoms = ap (take (a.len + b.len)) (sym (append_assoc (atoms_in a) (atoms_in b) t)) ∙ take_at (atoms_in a ++ atoms_in b) t (a.len + b.len) e;
       }
 
-  module _ (most : ℕ) (bound : most ≤ most_atoms) where
+  module _ (most : ℕ) where
     pub joined-no : most < a.len + b.len → none ≡ fitting most (atoms_in a ++ atoms_in b)
     joined-no l = sym (fitting-no most _ (rw joined_length l))
 
-    module _ (fits : a.len + b.len ≤ most) (j : ℕ) (l : List ℕ) (f : Filled (atoms_in a ++ atoms_in b) (a.len + j) l) where
-      pub joined-more : j < b.len → Filled (atoms_in a ++ atoms_in b) (a.len + (j + 1)) (set l (a.len + j) (get_or b.atoms j 0))
-      joined-more i =
-          let z : a.len + (j + 1) ≡ a.len + j + 1 = omega arith in
-          let e = joined_length in
-          rw z
-          (filled_more _ l (a.len + j) _ f (omega arith) (omega arith) (k.small j)
-          (sym (ap (λ (n : ℕ). get_or (atoms_in a ++ atoms_in b) (n + j) 0) (sym (held-length a h)) ∙ get_or-append-add (atoms_in a) (atoms_in b) j 0 ∙ get_or-take b.len b.atoms j 0 i)))
-
-      pub joined-all : j ≡ b.len → Holds (atoms_in a ++ atoms_in b) (record { len = a.len + b.len; atoms = l })
-      joined-all e = filled-all _ l _ (rw e at f) (omega arith) (sym joined_length)
-
-      pub joined-value : j ≡ b.len → value_in (record { held = true; label = record { len = a.len + b.len; atoms = l } }) ≡ fitting most (atoms_in a ++ atoms_in b)
-      joined-value e = value-one _ _ (joined-all e) ∙ sym (fitting-yes most _ (rw joined_length fits))
+    pub joined-yes : a.len + b.len ≤ most → fitting most (atoms_in a ++ atoms_in b) ≡ some (atoms_in a ++ atoms_in b)
+    joined-yes l = fitting-yes most _ (rw joined_length l)
 
 -- The walk along a label.
 
@@ -292,22 +275,19 @@ module _ {most : ℕ} {α : Assignment} {l : List Element} {rest m : List ℕ} (
   unfolding value_behind each ◌>>=◌ concat
   valuing_end e h = sym (w.equal ∙ ap (value_behind most α m) e ∙ ap (fitting most) (append-nil m) ∙ fitting-yes most m h)
 
-  module _ {rest' : List ℕ} {e : Element} (s : Next rest' w.later e) (v : Valued) (q : value_in v ≡ element_value α e) where
+  module _ {rest' : List ℕ} {e : Element} (s : Next rest' w.later e) where
     onward : label_value most α l ≡ value_behind most α m (e ∷ s.later)
     onward = w.equal ∙ ap (value_behind most α m) s.whole
 
-    pub valuing_none : v.held ≡ false → none ≡ label_value most α l
-    valuing_none h = sym (onward ∙ behind-none most α m e s.later (sym q ∙ value_not v h))
+    pub valuing_none : none ≡ element_value α e → none ≡ label_value most α l
+    valuing_none q = sym (onward ∙ behind-none most α m e s.later (sym q))
 
-    module _ (h : v.held ≡ true) (u : Valued) (k : value_in u ≡ fitting most (m ++ atoms_in v.label)) where
-      longer : label_value most α l ≡ value_behind most α (m ++ atoms_in v.label) s.later
-      longer = onward ∙ behind-some most α m e s.later (atoms_in v.label) (sym q ∙ value-held v h)
+    module _ (x : List ℕ) (q : some x ≡ element_value α e) where
+      longer : label_value most α l ≡ value_behind most α (m ++ x) s.later
+      longer = onward ∙ behind-some most α m e s.later x (sym q)
 
-      pub valuing_long : u.held ≡ false → value_in u ≡ label_value most α l
-      valuing_long i =
-          let n = value_not u i in
-          n ∙ sym (longer ∙ behind-long most α _ s.later (fitting-none most _ (sym k ∙ n)))
+      pub valuing_long : none ≡ fitting most (m ++ x) → none ≡ label_value most α l
+      valuing_long k = sym (longer ∙ behind-long most α _ s.later (fitting-none most _ (sym k)))
 
-      pub valuing_next : u.held ≡ true → Valuing most α l rest' (atoms_in u.label)
-      valuing_next i =
-          rw (fitting-some most _ _ (sym k ∙ value-held u i)) (record { later = s.later; spelt = s.spelt; equal = longer })
+      pub valuing_next : (y : List ℕ) → some y ≡ fitting most (m ++ x) → Valuing most α l rest' y
+      valuing_next y k = rw (fitting-some most _ _ (sym k)) (record { later = s.later; spelt = s.spelt; equal = longer })

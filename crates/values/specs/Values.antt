@@ -1,8 +1,8 @@
 -- The values of a rule's variables as two arrays, a label's value in hand, and which labels of a right side can be held.
 -- Rests on the meaning's Applying and on labels' Labels.
-use Rattle.std.specs.Prelude.{◌≡◌, Bool, List, [], ◌∷◌, map, ℕ, ◌+◌, ◌-◌, ◌*◌, ◌≤◌, length, get_or, take, drop, leb, ltb}
+use Rattle.std.specs.Prelude.{◌≡◌, Bool, List, [], ◌∷◌, map, ℕ, ◌+◌, ◌-◌, ◌*◌, ◌≤◌, length, get_or, take, drop, leb, ltb, Option as Maybe, Some, None}
 use Rattle.std.proofs.Math.Option.{Option, some, none}
-use Rattle.meaning.specs.Basics.{choose, both, every, concat, is_some, ensure, ◌>>◌, ◌>>=◌}
+use Rattle.meaning.specs.Basics.{both, every, concat, is_some, ensure, ◌>>◌, ◌>>=◌}
 use Rattle.meaning.specs.Numbers.{half, whole, height}
 use Rattle.meaning.specs.Layout.{most_atoms}
 use Rattle.meaning.specs.Image.{RuleGraph, limits}
@@ -13,9 +13,7 @@ use Rattle.meaning.specs.Laws.Every.{Every}
 use Rattle.laws.specs.Layout.{Words}
 use Rattle.meaning.specs.declared.Element.{Element}
 use Rattle.labels.specs.Labels.{atoms_in, Held}
-use Rattle.values.specs.declared.Atom.{Atom}
-use Rattle.values.specs.declared.Atom.TheVariants.{Word, Outside}
-use Rattle.values.specs.declared.Valued.{Valued}
+use Rattle.labels.specs.declared.Label.{Label}
 
 -- The arrays.
 
@@ -44,9 +42,10 @@ label_names l = concat (map element_names l)
 
 -- Values in hand.
 
-abbrev pub as_option : Atom → Option ℕ
-as_option (Word x) = some x
-as_option Outside = none
+-- an atom that may not be there
+abbrev pub as_option : Maybe ℕ → Option ℕ
+as_option (Some x) = some x
+as_option None = none
 
 -- the atom whose height is h less 2^31, where there is one
 unfoldable pub lowered : ℕ → Option ℕ
@@ -58,14 +57,20 @@ lowered h = do
 abbrev pub of_atom : Option ℕ → Option (List ℕ)
 of_atom o = o >>= λ n. some (n ∷ [])
 
--- the label that can be held, or none
-abbrev pub value_in : Valued → Option (List ℕ)
-value_in v = choose v.held (some (atoms_in v.label)) none
+-- the atoms of the label that can be held, or none
+abbrev pub value_in : Maybe Label → Option (List ℕ)
+value_in (Some a) = some (atoms_in a)
+value_in None = none
 
--- its label is one in hand, of at most `most` atoms
-pub record Kept (most : ℕ) (v : Valued) : Type 0 where
-  pub held : Held v.label
-  pub few : v.label.len ≤ most
+-- a label in hand of at most `most` atoms
+pub record Short (most : ℕ) (a : Label) : Type 0 where
+  pub held : Held a
+  pub few : a.len ≤ most
+
+-- the label that can be held is one
+abbrev pub Kept : ℕ → Maybe Label → Type 0
+Kept most (Some a) = Short most a
+Kept most None = Unit {0}
 
 -- the atoms, where a label holds them
 unfoldable pub fitting : ℕ → List ℕ → Option (List ℕ)

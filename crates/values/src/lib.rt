@@ -10,48 +10,33 @@ ghost use Rattle.meaning.specs.Applying.{element_value, label_value};
 ghost use Rattle.labels.specs.Labels.{atoms_in, Held, Holds};
 ghost use Rattle.parts.specs.Series.{For};
 ghost use Rattle.parts.specs.Rows.{graph_item, item_label};
-ghost use Rattle.values.specs.Values.{values_of, Stored, as_option, lowered, value_in, Kept, of_atom, fitting, all_held};
+ghost use Rattle.values.specs.Values.{values_of, Stored, as_option, lowered, value_in, Kept, fitting, all_held};
 
 use fields::Found;
 use labels::Label;
 use meaning::{Element, Operand, Room};
 use parts::Front;
 
-// A label's value, or that it can't be held.
-#[derive(Drop)]
-pub struct Valued {
-    pub held: bool,
-    pub label: Label,
-}
-
-// An atom's value, or that it leaves 32 bits.
-#[derive(Drop)]
-pub enum Atom {
-    Word(u32),
-    Outside,
-}
-
 // The atom whose height is h less 2^31, if there is one.
-pub fn lowered(h: u64) -> Atom
+pub fn lowered(h: u64) -> Option<u32>
     ensures { as_option result ≡ lowered h }
 {
-    if h < 0x80000000 {
-        return Atom::Outside;
+    if (0x80000000..0x180000000).contains(&h) {
+        Some(labels::height((h - 0x80000000) as u32) as u32)
+    } else {
+        None
     }
-    if h >= 0x180000000 {
-        return Atom::Outside;
-    }
-    let x = labels::height((h - 0x80000000) as u32);
-    Atom::Word(x as u32)
 }
 
-pub fn sum(a: u32, b: u32) -> Atom
+// An atom's sum and difference with another, or none if it leaves 32 bits.
+
+pub fn sum(a: u32, b: u32) -> Option<u32>
     ensures { as_option result ≡ sum a b }
 {
     lowered(labels::height(a) + labels::height(b))
 }
 
-pub fn difference(a: u32, b: u32) -> Atom
+pub fn difference(a: u32, b: u32) -> Option<u32>
     ensures { as_option result ≡ difference a b }
 {
     lowered(labels::height(a) + 0x100000000 - labels::height(b))
@@ -64,13 +49,11 @@ pub fn first_atom(lens: &[usize; Room::VARIABLES], atoms: &[u32; Room::ATOMS], v
     requires { Stored lens.now atoms.now }
     ensures { result ≡ get_or (values_of lens.now atoms.now v) 0 0 }
 {
-    if v >= Room::VARIABLES {
-        return 0;
+    if v < Room::VARIABLES && 0 < lens[v] {
+        atoms[labels::MOST * v]
+    } else {
+        0
     }
-    if lens[v] == 0 {
-        return 0;
-    }
-    atoms[labels::MOST * v]
 }
 
 pub fn atom_of(lens: &[usize; Room::VARIABLES], atoms: &[u32; Room::ATOMS], o: Operand) -> u32
@@ -93,116 +76,58 @@ pub fn value_of(lens: &[usize; Room::VARIABLES], atoms: &[u32; Room::ATOMS], v: 
     labels::copied(atoms, labels::MOST * v, lens[v])
 }
 
-// A label of one atom.
-fn of_atom(a: Atom) -> Valued
-    ensures { Kept most_atoms result × (value_in result ≡ of_atom (as_option a)) }
-{
-    match a {
-        Atom::Word(x) => Valued {
-            held: true,
-            label: labels::one(x),
-        },
-        Atom::Outside => Valued {
-            held: false,
-            label: labels::none(),
-        },
-    }
-}
-
+// An element's value, or none if it can't be held.
 pub fn element_value(
     lens: &[usize; Room::VARIABLES],
     atoms: &[u32; Room::ATOMS],
     e: Element,
-) -> Valued
+) -> Option<Label>
     requires { Stored lens.now atoms.now }
     ensures { Kept most_atoms result × (value_in result ≡ element_value (values_of lens.now atoms.now) e) }
 {
-    match e {
-        Element::Constant(x) => Valued {
-            held: true,
-            label: labels::one(x),
-        },
-        Element::Variable(v) => Valued {
-            held: true,
-            label: value_of(lens, atoms, v),
-        },
-        Element::Sum(a, b) => of_atom(sum(atom_of(lens, atoms, a), atom_of(lens, atoms, b))),
-        Element::Difference(a, b) => of_atom(difference(
+    Some(match e {
+        Element::Constant(x) => labels::one(x),
+        Element::Variable(v) => value_of(lens, atoms, v),
+        Element::Sum(a, b) => labels::one(sum(atom_of(lens, atoms, a), atom_of(lens, atoms, b))?),
+        Element::Difference(a, b) => labels::one(difference(
             atom_of(lens, atoms, a),
             atom_of(lens, atoms, b),
-        )),
-    }
+        )?),
+    })
 }
 
 // Label a with label b behind it, if it has at most `most` atoms.
-pub fn joined(a: Label, b: Label, most: usize) -> Valued
+pub fn joined(a: Label, b: Label, most: usize) -> Option<Label>
     requires { Held a × Held b × (a.len ≤ most) × (most ≤ most_atoms) }
     ensures { Kept most result × (value_in result ≡ fitting most (atoms_in a ++ atoms_in b)) }
 {
-    let n = a.len;
-    let m = b.len;
-    if n + m > most {
-        return Valued {
-            held: false,
-            label: a,
-        };
+    let len = a.len + b.len;
+    if len > most {
+        return None;
     }
-    let mut out = a.atoms;
-    let from = b.atoms;
-    let mut j: usize = 0;
-    while j < m {
-        out[n + j] = from[j];
-        j += 1;
-    }
-    Valued {
-        held: true,
-        label: Label {
-            len: n + m,
-            atoms: out,
-        },
-    }
+    let mut atoms = a.atoms;
+    atoms[a.len..len].copy_from_slice(&b.atoms[..b.len]);
+    Some(Label { len, atoms })
 }
 
-// The value of a label of the right side.
+// The value of a label of the right side, or none if it can't be held.
 pub fn label_value(
     most: usize,
     lens: &[usize; Room::VARIABLES],
     atoms: &[u32; Room::ATOMS],
     p: &[u8],
-) -> Valued
+) -> Option<Label>
     requires { Stored lens.now atoms.now × (most ≤ most_atoms) }
     ensures { Kept most result × For (label p.now) (λ l. value_in result ≡ label_value most (values_of lens.now atoms.now) l) }
 {
     let mut rest = p;
     let mut so_far = labels::none();
-    loop {
-        let front = parts::elements::first_element(rest);
-        match front {
-            Front::First(e, end) => {
-                let v = element_value(lens, atoms, e);
-                if v.held {
-                    let w = joined(so_far, v.label, most);
-                    if w.held {
-                        so_far = w.label;
-                        rest = &rest[end..];
-                    } else {
-                        return w;
-                    }
-                } else {
-                    return Valued {
-                        held: false,
-                        label: so_far,
-                    };
-                }
-            }
-            Front::Nothing => {
-                return Valued {
-                    held: true,
-                    label: so_far,
-                };
-            }
-        }
+    while let Front::First(e, end) = parts::elements::first_element(rest) {
+        let next = element_value(lens, atoms, e)?;
+        so_far = joined(so_far, next, most)?;
+        rest = &rest[end..];
     }
+    Some(so_far)
 }
 
 // The value of the label of a right node or edge, from its tag and payload.
@@ -212,7 +137,7 @@ pub fn item_value(
     atoms: &[u32; Room::ATOMS],
     tag: u8,
     p: &[u8],
-) -> Valued
+) -> Option<Label>
     requires { Stored lens.now atoms.now × (most ≤ most_atoms) }
     ensures { Kept most result × For (graph_item tag p.now) (λ i. value_in result ≡ label_value most (values_of lens.now atoms.now) (item_label i)) }
 {
@@ -235,12 +160,10 @@ pub fn labels_held(
         let Found::Field(tag, start, end) = found else {
             return false;
         };
-        let v = item_value(most, lens, atoms, tag, fields::part(right, start, end));
-        if v.held {
-            at = end;
-        } else {
+        if item_value(most, lens, atoms, tag, fields::part(right, start, end)).is_none() {
             return false;
         }
+        at = end;
     }
     true
 }

@@ -1,26 +1,22 @@
-use Rattle.std.proofs.Common.{false, refl, ◌∙◌, arith}
-use Rattle.values.specs.Laws.{value_not, joined-no, joined-start, joined-more, joined-all, joined-value}
+-- `joined` meets its contract.
+use Rattle.std.proofs.Common.{◌+◌, ◌-◌, sym, ap, ◌∙◌, arith, length-drop, drop}
+use Rattle.std.proofs.Math.Option.{some}
+use Rattle.laws.specs.Values.{Words-drop}
+use Rattle.labels.specs.Labels.{Held}
+use Rattle.values.specs.Laws.{joined-no, joined-yes, joined-all}
 use Rattle.values.proofs.joined.Goals as goal
 
-pub returns-then-n-m : goal.returns-then-n-m
-returns-then-n-m c = (
-  record { held = c.requires.0; few = c.requires.2 },
-  value_not (record { held = false; label = c.args.a }) refl ∙ joined-no _ _ c.requires.0 c.requires.1 _ c.requires.3 c.if-n-m.true,
-)
-
-pub loop-j-init : goal.loop-j-init
-loop-j-init c = (joined-start _ _ c.requires.0 c.requires.1, omega arith)
-
-pub loop-j-preserved : goal.loop-j-preserved
-loop-j-preserved c =
-    (joined-more _ _ c.requires.0 c.requires.1 _ c.requires.3 c.if-n-m.false _ _ c.loop-j.invariant.0 c.loop-j-test.true, omega arith)
+pub returns-then-len-most : goal.returns-then-len-most
+returns-then-len-most c = (tt, joined-no _ _ c.requires.0 c.requires.1 _ c.if-len-most.true)
 
 pub returns : goal.returns
 returns c =
-    let f = c.loop-j.invariant.0 in (
-      record {
-        held = (joined-all _ _ c.requires.0 c.requires.1 _ c.requires.3 c.if-n-m.false _ _ f (omega arith)).held;
-        few = c.if-n-m.false;
-      },
-      joined-value _ _ c.requires.0 c.requires.1 _ c.requires.3 c.if-n-m.false _ _ f (omega arith),
-    )
+    let n = c.args.a.len in
+    let m = n + c.args.b.len - n in
+    let own = c.args.a.atoms in
+    let a = c.requires.0 in
+    let b = c.requires.1 in
+    let rest = Words-drop m (drop n own) (Words-drop n own a.small) in
+    let h = joined-all c.args.a c.args.b a b (drop m (drop n own)) rest (omega (arith, length-drop m (drop n own), length-drop n own, a.room, c.if-len-most.false, c.requires.3)) in
+    rw c.copy_from_slice.ensures.after
+    (record { held = h.held; few = c.if-len-most.false }, ap some h.atoms ∙ sym (joined-yes _ _ a b _ c.if-len-most.false))

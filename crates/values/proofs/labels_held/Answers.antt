@@ -20,12 +20,12 @@ loop-at-smaller c = nearer (a-field _ _ c.read_field-found.ensures c.in-Field.is
 pub loop-at-preserved : goal.loop-at-preserved
 loop-at-preserved c =
     walk_next c.loop-at.invariant c.loop-at-test.true (a-field _ _ c.read_field-found.ensures c.in-Field.is)
-    c.part.ensures (held_for c.item_value-v.result _ _ c.item_value-v.ensures.1) c.if-v.true
+    c.part.ensures (held_for c.item_value.result _ _ c.item_value.ensures.1) c.if-is_none.ensures
 
-pub returns-else-v : goal.returns-else-v
-returns-else-v c =
+pub returns-then-is_none : goal.returns-then-is_none
+returns-then-is_none c =
     walk_stop c.loop-at.invariant c.loop-at-test.true (a-field _ _ c.read_field-found.ensures c.in-Field.is)
-    c.part.ensures (held_for c.item_value-v.result _ _ c.item_value-v.ensures.1) c.if-v.false
+    c.part.ensures (held_for c.item_value.result _ _ c.item_value.ensures.1) c.if-is_none.ensures
 
 pub returns : goal.returns
 returns c = walk_done c.loop-at.invariant c.loop-at-test.false
