@@ -13,7 +13,6 @@ use Rattle.meaning.specs.Assigned.{assigned}
 use Rattle.meaning.specs.Applying.{label_value, root_taken, right_node, right_nodes, right_edge, Right, right_side}
 use Rattle.meaning.specs.Laws.Tests.{some_inj, bind_some}
 use Rattle.meaning.specs.Laws.Applying.{each_at, nodes-at}
-use Rattle.labels.specs.Labels.{atoms_in}
 use Rattle.parts.specs.Series.{For}
 use Rattle.parts.specs.Rows.{node, edge, graph_item, item_label}
 use Rattle.values.specs.Values.{Agree, value_in}

@@ -1,21 +1,21 @@
 -- Laws of Values, one for each answer of the code: heights, the values of variables, labels joined and the walk along a label.
 -- Rests on Values, on labels' Laws, on parts' Walks and on laws' Numbers.
 use Rattle.std.proofs.Math.Path.{◌≡◌, refl, sym, ap}
-use Rattle.std.proofs.Common.{◌∙◌, append_assoc, append-nil, le-leb, lt-ltb, le-ltb, length-append, get_or-take, get_or-append-add}
-use Rattle.std.specs.Prelude.{Bool, List, [], ◌∷◌, ◌++◌, ℕ, ◌+◌, ◌-◌, ◌*◌, ◌<◌, ◌≤◌, leb, ltb, length, get_or, set, take, drop, Option as Maybe, Some, None, is_some as there}
+use Rattle.std.proofs.Common.{◌∙◌, append_assoc, append-nil, le-leb, lt-ltb, le-ltb, length-append, get_or-take}
+use Rattle.std.specs.Prelude.{List, [], ◌∷◌, ◌++◌, ℕ, ◌+◌, ◌-◌, ◌*◌, ◌<◌, ◌≤◌, leb, ltb, length, get_or, take, drop, Option as Maybe, Some, None, is_some as there}
 use Rattle.std.proofs.Math.Option.{Option, some, none}
 use native.Mathlib.Omega.{arith}
 use Rattle.std.proofs.Math.Decide.{dec_lt}
 use Rattle.std.proofs.lemmas.Bool.{lt-leb}
 use Rattle.std.proofs.Math.ListN.{get_or-eq_default}
 use Rattle.std.proofs.Math.Seq.{take_at}
-use Rattle.meaning.specs.Basics.{choose, both, is_some, concat, ensure, each, ◌>>◌, ◌>>=◌}
+use Rattle.meaning.specs.Basics.{both, is_some, concat, ensure, each, ◌>>◌, ◌>>=◌}
 use Rattle.meaning.specs.Numbers.{half, whole, height, sum, difference}
 use Rattle.meaning.specs.Layout.{most_atoms}
 use Rattle.meaning.specs.Image.{label, limits}
 use Rattle.meaning.specs.Matching.{Assignment, atom_of}
 use Rattle.meaning.specs.Applying.{element_value, label_value}
-use Rattle.meaning.specs.Laws.Tests.{both_of, both-no, both_yes, choose_true, choose_false, ensure-some, ensure-yes, ensure-no, some_inj}
+use Rattle.meaning.specs.Laws.Tests.{both_of, both-no, both_yes, ensure-some, ensure-yes, ensure-no, some_inj}
 use Rattle.laws.specs.Layout.{Words}
 use Rattle.laws.specs.Numbers.{height_lt}
 use Rattle.laws.specs.Values.{Words-take, Words-append}
@@ -26,7 +26,7 @@ use Rattle.meaning.specs.declared.Element.{Element}
 use Rattle.meaning.specs.declared.Element.TheVariants.{Constant, Variable, Sum, Difference}
 use Rattle.labels.specs.Labels.{atoms_in, Held, Holds}
 use Rattle.parts.specs.Elements.{Spells, Next}
-use Rattle.labels.specs.Laws.{Filled, filled_more, filled-all, held-length}
+use Rattle.labels.specs.Laws.{held-length}
 use Rattle.parts.specs.Walks.{spells_label}
 use Rattle.labels.specs.declared.Label.{Label}
 use Rattle.parts.specs.Series.{For}

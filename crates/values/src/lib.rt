@@ -12,10 +12,9 @@ ghost use Rattle.parts.specs.Series.{For};
 ghost use Rattle.parts.specs.Rows.{graph_item, item_label};
 ghost use Rattle.values.specs.Values.{values_of, Stored, as_option, lowered, value_in, Kept, fitting, all_held};
 
-use fields::Found;
+use fields::{Field, Fields};
 use labels::Label;
 use meaning::{Element, Operand, Room};
-use parts::Front;
 
 // The atom whose height is h less 2^31, if there is one.
 pub fn lowered(h: u64) -> Option<u32>
@@ -122,7 +121,7 @@ pub fn label_value(
 {
     let mut rest = p;
     let mut so_far = labels::none();
-    while let Front::First(e, end) = parts::elements::first_element(rest) {
+    while let Some((e, end)) = parts::elements::first_element(rest) {
         let next = element_value(lens, atoms, e)?;
         so_far = joined(so_far, next, most)?;
         rest = &rest[end..];
@@ -154,16 +153,13 @@ pub fn labels_held(
     requires { Stored lens.now atoms.now × (most ≤ most_atoms) }
     ensures { For (rule_graph right.now) (λ g. result ≡ all_held most (values_of lens.now atoms.now) g) }
 {
-    let mut at: usize = 0;
-    while at < right.len() {
-        let found = fields::read_field(right, at);
-        let Found::Field(tag, start, end) = found else {
+    for field in Fields::of(right) {
+        let Ok(Field { tag, start, end }) = field else {
             return false;
         };
-        if item_value(most, lens, atoms, tag, fields::part(right, start, end)).is_none() {
+        if item_value(most, lens, atoms, tag, &right[start..end]).is_none() {
             return false;
         }
-        at = end;
     }
     true
 }

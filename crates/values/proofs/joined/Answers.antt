@@ -2,7 +2,6 @@
 use Rattle.std.proofs.Common.{◌+◌, ◌-◌, sym, ap, ◌∙◌, arith, length-drop, drop}
 use Rattle.std.proofs.Math.Option.{some}
 use Rattle.laws.specs.Values.{Words-drop}
-use Rattle.labels.specs.Labels.{Held}
 use Rattle.values.specs.Laws.{joined-no, joined-yes, joined-all}
 use Rattle.values.proofs.joined.Goals as goal
 

@@ -15,7 +15,7 @@ returns-in_err-next c =
       tt,
       λ l q.
           let t = c.loop-e.invariant.1 l q in
-          valuing_none t (c.in-First.ensures.next t.later t.spelt) (c.in_err-next.ensures).1,
+          valuing_none t (c.in-Some.ensures.next t.later t.spelt) (c.in_err-next.ensures).1,
     )
 
 pub returns-in_err-so_far : goal.returns-in_err-so_far
@@ -24,7 +24,7 @@ returns-in_err-so_far c =
       tt,
       λ l q.
           let t = c.loop-e.invariant.1 l q in
-          valuing_long t (c.in-First.ensures.next t.later t.spelt) _ (c.in_ok-next.ensures).1 (c.in_err-so_far.ensures).1,
+          valuing_long t (c.in-Some.ensures.next t.later t.spelt) _ (c.in_ok-next.ensures).1 (c.in_err-so_far.ensures).1,
     )
 
 pub loop-e-preserved : goal.loop-e-preserved
@@ -32,7 +32,7 @@ loop-e-preserved c = (
   (c.in_ok-so_far.ensures).0,
   λ l q.
       let t = c.loop-e.invariant.1 l q in
-      valuing_next t (c.in-First.ensures.next t.later t.spelt) _ (c.in_ok-next.ensures).1 _ (c.in_ok-so_far.ensures).1,
+      valuing_next t (c.in-Some.ensures.next t.later t.spelt) _ (c.in_ok-next.ensures).1 _ (c.in_ok-so_far.ensures).1,
 )
 
 pub returns : goal.returns
