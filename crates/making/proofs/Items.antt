@@ -6,8 +6,9 @@ use mathlib.Core.Option.{some}
 use mathlib.Core.List.{List, [], ◌∷◌, map}
 use Prim.Native.Nat.{ℕ, zero, suc, ◌<◌, ◌≤◌}
 use native.Mathlib.Omega.{arith}
-use borrow.Author.Tests.{ne_eqb}
+use borrow.Author.Tests.{ne_eqb, eq-eqb}
 use lib.Dec.{eqb}
+use Rattle.std.specs.Prelude.{Option as Maybe, Some, IsSome}
 use lib.ListN.{length, get_or, take, length-map, length-take, get_or-eq_default}
 use lib.Seq.{get_or-take}
 use Rattle.meaning.specs.Basics.{choose, both}
@@ -17,43 +18,57 @@ use Rattle.meaning.specs.Image.{rule_node, rule_edge, most_items}
 use Rattle.meaning.specs.Matching.{node_in}
 use Rattle.meaning.specs.Assigned.{assigned}
 use Rattle.meaning.specs.Applying.{label_value, root_taken, Ledger, store, between}
-use Rattle.meaning.specs.Laws.Tests.{choose_false, choose_le, both_false, both-last}
+use Rattle.meaning.specs.Laws.Tests.{some_inj, choose_true, choose_false, choose_le, both_false, both-last}
 use Rattle.meaning.specs.Laws.Every.{Every-in}
 use Rattle.laws.specs.Hosts.{LegalNode, LegalEdge}
 use Rattle.laws.specs.Values.{LegalValue}
 use Rattle.fields.specs.Parsed.{rule_node-is, IsEdge, rule_edge-is}
 use Rattle.meaning.specs.declared.Layout.{Layout}
 use Rattle.labels.specs.Labels.{atoms_in}
+use Rattle.labels.specs.declared.Label.{Label}
 use Rattle.parts.specs.Series.{For}
 use Rattle.parts.specs.Rows.{node, edge, graph_item, item_label}
 use Rattle.values.specs.Values.{values_of, value_in}
-use Rattle.values.specs.Laws.{value-some}
+use Rattle.values.specs.Laws.{value-there}
 use Rattle.values.specs.Right.{label_same, node-names, edge-names, node-item, edge-item}
 use Rattle.values.specs.Items.{NodeValue, EdgeValue, node_at_lem, edge_at}
-use Rattle.values.specs.declared.Valued.{Valued}
 use Rattle.ledger.specs.Running.{Leads}
 use Rattle.ledger.specs.Changes.{becomes}
 use Rattle.making.specs.Making.{blank_rule, blank_rule_edge, blank_node, blank_edge, NodeMade, Takes, Comes, Joins, Made}
 
--- What is in hand: the value v of the label, read from the bytes p.
+-- What is in hand: the label v, read from the bytes p.
 
-abbrev pub node_in_hand : Valued → ℕ → ℕ → Node
-node_in_hand v m t = record { mark = m; root = t; label = atoms_in v.label }
+abbrev pub node_in_hand : Label → ℕ → ℕ → Node
+node_in_hand v m t = record { mark = m; root = t; label = atoms_in v }
 
-abbrev pub edge_in_hand : List ℕ → Valued → ℕ → ℕ → Edge
-edge_in_hand p v a b = record { mark = get_or p 0 0; source = a; target = b; label = atoms_in v.label }
+abbrev pub edge_in_hand : List ℕ → Label → ℕ → ℕ → Edge
+edge_in_hand p v a b = record { mark = get_or p 0 0; source = a; target = b; label = atoms_in v }
 
-module _ {L : Layout} {p lens atoms : List ℕ} (v : Valued)
-    (f : For (graph_item node_tag p) (λ i. value_in v ≡ label_value L.atoms (values_of lens atoms) (item_label i)))
+-- The value o of a label, read from the bytes p: it is there, and it is the item's.
+
+module _ {L : Layout} {p lens atoms : List ℕ} (o : Maybe Label)
+    (f : For (graph_item node_tag p) (λ i. value_in o ≡ label_value L.atoms (values_of lens atoms) (item_label i)))
+    (w : NodeMade L p lens atoms)
+  where
+    node-label : value_in o ≡ some w.node.label
+    unfolding item_label
+    node-label = f (node w.rule) (node-item p _ w.is) ∙ w.label
+
+    pub node-there : IsSome o
+    node-there = value-there o _ node-label
+
+module _ {L : Layout} {p lens atoms : List ℕ} (o : Maybe Label)
+    (f : For (graph_item node_tag p) (λ i. value_in o ≡ label_value L.atoms (values_of lens atoms) (item_label i)))
+    (v : Label)
+    (there : o ≡ Some v)
     (w : NodeMade L p lens atoms)
     (m t : ℕ)
     (e : m ≡ w.node.mark)
     (b : t ≡ w.node.root)
   where
     node-is : node_in_hand v m t ≡ w.node
-    unfolding item_label
     node-is =
-        let a : atoms_in v.label ≡ w.node.label = (value-some v _ (f (node w.rule) (node-item p _ w.is) ∙ w.label)).1 in
+        let a : atoms_in v ≡ w.node.label = some_inj _ _ (ap value_in (sym there) ∙ node-label o f w) in
         λ i. record { mark = e i; root = b i; label = a i }
 
     pub node-fine : LegalNode L (node_in_hand v m t)
@@ -75,15 +90,24 @@ module _ {L : Layout} {p lens atoms places : List ℕ} (w : Joins L p lens atoms
   pub target_is : get_or p 2 0 ≡ w.edge.target
   target_is = sym (w.target ∙ edge-form.target)
 
-  module _ (v : Valued) (f : For (graph_item edge_tag p) (λ i. value_in v ≡ label_value L.atoms (values_of lens atoms) (item_label i)))
+  module _ (o : Maybe Label) (f : For (graph_item edge_tag p) (λ i. value_in o ≡ label_value L.atoms (values_of lens atoms) (item_label i))) where
+    edge-label : value_in o ≡ some w.edge.label
+    unfolding item_label
+    edge-label = f (edge w.rule) (edge-item p _ w.is) ∙ w.label
+
+    pub edge-there : IsSome o
+    edge-there = value-there o _ edge-label
+
+  module _ (o : Maybe Label) (f : For (graph_item edge_tag p) (λ i. value_in o ≡ label_value L.atoms (values_of lens atoms) (item_label i)))
+      (v : Label)
+      (there : o ≡ Some v)
       (s t : ℕ)
       (d : s ≡ get_or p 1 0)
       (e : t ≡ get_or p 2 0)
     where
       edge-is : edge_in_hand p v (get_or places s 0) (get_or places t 0) ≡ between places w.edge
-      unfolding item_label
       edge-is =
-          let l : atoms_in v.label ≡ w.edge.label = (value-some v _ (f (edge w.rule) (edge-item p _ w.is) ∙ w.label)).1 in
+          let l : atoms_in v ≡ w.edge.label = some_inj _ _ (ap value_in (sym there) ∙ edge-label o f) in
           let m : get_or p 0 0 ≡ w.edge.mark = sym (w.mark ∙ edge-form.mark) in
           let a : s ≡ w.edge.source = d ∙ source_is in
           let b : t ≡ w.edge.target = e ∙ target_is in
@@ -103,11 +127,23 @@ module _ {L : Layout} {nodes p lens atoms : List ℕ} {keeps : Bool} {x : ℕ} (
     {before : Node}
     (held : before ≡ node_in (get_or (read_nodes L nodes) x free))
   where
-    pub taken-mark : {m a : ℕ} → m ≡ choose (eqb (get_or p 0 0) any_mark) a (get_or p 0 0) → a ≡ before.mark → m ≡ w.made.node.mark
-    taken-mark e h = e ∙ rw (h, held, ← (rule_node-is p w.made.rule w.made.is).mark) (sym w.mark)
+    mark-taken : choose (eqb (get_or p 0 0) any_mark) before.mark (get_or p 0 0) ≡ w.made.node.mark
+    mark-taken = rw (held, ← (rule_node-is p w.made.rule w.made.is).mark) (sym w.mark)
 
-    pub taken-root : {t a : ℕ} → t ≡ choose keeps a (get_or p 1 0) → a ≡ before.root → t ≡ w.made.node.root
-    taken-root e h = e ∙ rw (h, held, ← (rule_node-is p w.made.rule w.made.is).root) (sym w.root)
+    root-taken : choose keeps before.root (get_or p 1 0) ≡ w.made.node.root
+    root-taken = rw (held, ← (rule_node-is p w.made.rule w.made.is).root) (sym w.root)
+
+    pub mark-kept : get_or p 0 0 ≡ any_mark → before.mark ≡ w.made.node.mark
+    mark-kept e = sym (choose_true _ _ _ (eq-eqb _ _ e)) ∙ mark-taken
+
+    pub mark-given : (get_or p 0 0 ≡ any_mark → ⊥) → get_or p 0 0 ≡ w.made.node.mark
+    mark-given n = sym (choose_false _ _ _ (ne_eqb _ _ n)) ∙ mark-taken
+
+    pub root-stays : keeps ≡ true → before.root ≡ w.made.node.root
+    root-stays e = sym (choose_true _ _ _ e) ∙ root-taken
+
+    pub root-given : keeps ≡ false → get_or p 1 0 ≡ w.made.node.root
+    root-given e = sym (choose_false _ _ _ e) ∙ root-taken
 
 -- and those that a new node has
 module _ {L : Layout} {p lens atoms : List ℕ} (w : Comes L p lens atoms) where

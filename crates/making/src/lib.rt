@@ -3,7 +3,6 @@
 #![tactic(auto)]
 
 ghost use Rattle.std.specs.Prelude.{◌≡◌, ◌+◌, ◌/◌, ◌<◌, length, take, drop};
-ghost use Rattle.meaning.specs.Basics.{choose};
 ghost use Rattle.meaning.specs.Layout.{live, of_node, of_edge, node_length, record_length, read_nodes, read_edges};
 ghost use Rattle.meaning.specs.Applying.{store, stores, nodes_change, lowest_free, free_slots, between, add_edges};
 ghost use Rattle.ledger.specs.Running.{ledger_of, Held, Leads};
@@ -13,26 +12,11 @@ ghost use Rattle.making.specs.Making.{KeepsRoot, Takes, Comes, Joins, Changes, A
 use meaning::tags::{Mark, Tag};
 use meaning::{Layout, Room};
 
-// One of two bytes.
-fn chosen(first: bool, a: u8, b: u8) -> u8
-    ensures { result ≡ choose first a b }
-{
-    if first {
-        return a;
-    }
-    b
-}
-
 // Whether interface node i, whose right node is p, keeps the host's root flag: it is no root on either side of a preserving rule.
 fn keeps_root(preserving: bool, left: &[u8], i: usize, p: &[u8]) -> bool
     ensures { KeepsRoot preserving left.now i p.now result }
 {
-    if preserving {
-        if parts::byte_at(p, 1) == 0 {
-            return parts::byte_at(parts::node_part(left, i), 1) == 0;
-        }
-    }
-    false
+    preserving && parts::byte_at(p, 1) == 0 && parts::byte_at(parts::node_part(left, i), 1) == 0
 }
 
 // The node in slot x takes the values of a right node; any keeps the mark, and it may keep the root flag.
@@ -53,14 +37,20 @@ fn take_values(
     requires takes { Takes l nodes.old p.now keeps lens.now atoms.now x }
     ensures { (w : Takes l nodes.old p.now keeps lens.now atoms.now x) → Leads l (store (of_node x (live w.made.node)) (ledger_of l nodes.old edges.now journal.old used)) nodes.new edges.now journal.new (used + 1) }
 {
-    let v = values::item_value(l.atoms, lens, atoms, Tag::NODE, p);
-    let label = v.label;
-    let len = label.len;
-    let words = label.atoms;
+    let label = values::item_value(l.atoms, lens, atoms, Tag::NODE, p).unwrap();
+    let words = &label.atoms[..label.len];
     let before = slots::slot(&nodes[..], l.node, x);
-    let mark = chosen(p[0] == Mark::ANY, slots::held::mark(before), p[0]);
-    let root = chosen(keeps, slots::held::root(before), p[1]);
-    ledger::store_node(l, nodes, edges, journal, used, x, mark, root, &words[..len]);
+    let mark = if p[0] == Mark::ANY {
+        slots::held::mark(before)
+    } else {
+        p[0]
+    };
+    let root = if keeps {
+        slots::held::root(before)
+    } else {
+        p[1]
+    };
+    ledger::store_node(l, nodes, edges, journal, used, x, mark, root, words);
 }
 
 // A right node comes, in the lowest free slot.
@@ -80,11 +70,9 @@ fn come_node(
     ensures value { result ≡ lowest_free (read_nodes l nodes.old) }
     ensures leads { (w : Comes l p.now lens.now atoms.now) → Leads l (store (of_node result (live w.made.node)) (ledger_of l nodes.old edges.now journal.old used)) nodes.new edges.now journal.new (used + 1) }
 {
-    let v = values::item_value(l.atoms, lens, atoms, Tag::NODE, p);
-    let label = v.label;
-    let len = label.len;
-    let words = label.atoms;
-    ledger::add_node(l, nodes, edges, journal, used, p[0], p[1], &words[..len])
+    let label = values::item_value(l.atoms, lens, atoms, Tag::NODE, p).unwrap();
+    let words = &label.atoms[..label.len];
+    ledger::add_node(l, nodes, edges, journal, used, p[0], p[1], words)
 }
 
 // A right edge comes, in the lowest free slot, between the places of its ends.
@@ -105,23 +93,11 @@ fn come_edge(
     ensures value { result ≡ lowest_free (read_edges l edges.old) }
     ensures leads { (w : Joins l p.now lens.now atoms.now places.now) → Leads l (store (of_edge result (live (between places.now w.edge))) (ledger_of l nodes.now edges.old journal.old used)) nodes.now edges.new journal.new (used + 1) }
 {
-    let v = values::item_value(l.atoms, lens, atoms, Tag::EDGE, p);
-    let label = v.label;
-    let len = label.len;
-    let words = label.atoms;
-    let source = places[fields::wide(p[1])];
-    let target = places[fields::wide(p[2])];
-    ledger::add_edge(
-        l,
-        nodes,
-        edges,
-        journal,
-        used,
-        p[0],
-        source,
-        target,
-        &words[..len],
-    )
+    let label = values::item_value(l.atoms, lens, atoms, Tag::EDGE, p).unwrap();
+    let words = &label.atoms[..label.len];
+    let source = places[usize::from(p[1])];
+    let target = places[usize::from(p[2])];
+    ledger::add_edge(l, nodes, edges, journal, used, p[0], source, target, words)
 }
 
 // Left node i, in slot x, changes: an interface node takes its right node's values, another goes.
@@ -149,9 +125,9 @@ fn change_node(
         let p = parts::node_part(right, i);
         let keeps = keeps_root(preserving, left, i, p);
         take_values(l, nodes, edges, journal, used, p, keeps, lens, atoms, x);
-        return;
+    } else {
+        ledger::free_node(l, nodes, edges, journal, used, x);
     }
-    ledger::free_node(l, nodes, edges, journal, used, x);
 }
 
 // The n left nodes change, in order.
@@ -174,8 +150,7 @@ pub fn change_nodes(
     requires alters { Alters l nodes.old journal.old preserving left.now right.now lens.now atoms.now slots.now used k n }
     ensures { (w : Alters l nodes.old journal.old preserving left.now right.now lens.now atoms.now slots.now used k n) → Went l (stores (nodes_change (take k w.made.right.nodes) (take n slots.now)) (ledger_of l nodes.old edges.now journal.old used)) nodes.old edges.now journal.old nodes.new edges.now journal.new (used + n) }
 {
-    let mut i: usize = 0;
-    while i < n {
+    for (i, x) in slots[..n].iter().enumerate() {
         change_node(
             l,
             nodes,
@@ -189,9 +164,8 @@ pub fn change_nodes(
             lens,
             atoms,
             i,
-            slots[i],
+            *x,
         );
-        i += 1;
     }
 }
 
@@ -214,11 +188,9 @@ pub fn new_nodes(
     ensures { (w : Grows l nodes.old journal.old right.now lens.now atoms.now slots.now used k new) → Grew l (drop k w.made.right.nodes) nodes.old edges.now journal.old slots.now used k new result nodes.new journal.new }
 {
     let mut places = *slots;
-    let mut i: usize = 0;
-    while i < new {
+    for i in 0..new {
         let p = parts::node_part(right, k + i);
         places[k + i] = come_node(l, nodes, edges, journal, used + i, p, lens, atoms);
-        i += 1;
     }
     places
 }
@@ -240,10 +212,8 @@ pub fn new_edges(
     requires edges { Edges l edges.old journal.old right.now lens.now atoms.now places.now used count }
     ensures { (w : Edges l edges.old journal.old right.now lens.now atoms.now places.now used count) → Went l (add_edges (take (length w.made.tree.right.nodes) places.now) w.made.right.edges (ledger_of l nodes.now edges.old journal.old used)) nodes.now edges.old journal.old nodes.now edges.new journal.new (used + count) }
 {
-    let mut i: usize = 0;
-    while i < count {
+    for i in 0..count {
         let p = parts::edge_part(right, i);
         come_edge(l, nodes, edges, journal, used + i, p, lens, atoms, places);
-        i += 1;
     }
 }

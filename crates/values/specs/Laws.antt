@@ -2,9 +2,10 @@
 -- Rests on Values, on labels' Laws, on parts' Walks and on laws' Numbers.
 use Rattle.std.proofs.Math.Path.{◌≡◌, refl, sym, ap}
 use Rattle.std.proofs.Common.{◌∙◌, append_assoc, append-nil, le-leb, lt-ltb, le-ltb, length-append, get_or-take}
-use Rattle.std.specs.Prelude.{List, [], ◌∷◌, ◌++◌, ℕ, ◌+◌, ◌-◌, ◌*◌, ◌<◌, ◌≤◌, leb, ltb, length, get_or, take, drop, Option as Maybe, Some, None, is_some as there}
+use Rattle.std.specs.Prelude.{List, [], ◌∷◌, ◌++◌, ℕ, ◌+◌, ◌-◌, ◌*◌, ◌<◌, ◌≤◌, leb, ltb, length, get_or, take, drop, Option as Maybe, Some, None, IsSome, is_some as there}
 use Rattle.std.proofs.Math.Option.{Option, some, none}
 use native.Mathlib.Omega.{arith}
+use Rattle.std.proofs.Common.{rules}
 use Rattle.std.proofs.Math.Decide.{dec_lt}
 use Rattle.std.proofs.lemmas.Bool.{lt-leb}
 use Rattle.std.proofs.Math.ListN.{get_or-eq_default}
@@ -131,6 +132,10 @@ value-is None = refl
 pub value-some : (v : Maybe Label) (m : List ℕ) → value_in v ≡ some m → (a : Label) × (v ≡ Some a) × (atoms_in a ≡ m)
 value-some (Some a) m e = (a, refl, some_inj (atoms_in a) m e)
 value-some None m e = let z : ◌≡◌ {A = ℕ} 0 1 = cc in absurd (omega arith)
+
+pub value-there : (v : Maybe Label) (m : List ℕ) → value_in v ≡ some m → IsSome v
+value-there (Some a) m e = search rules
+value-there None m e = let z : ◌≡◌ {A = ℕ} 0 1 = cc in absurd (omega arith)
 
 -- so the label tells of whatever the value is read from
 pub held_for : {A : Type 0} (v : Maybe Label) (o : Option A) (f : A → Option (List ℕ)) → For o (λ a. value_in v ≡ f a) → For o (λ a. there v ≡ is_some (f a))

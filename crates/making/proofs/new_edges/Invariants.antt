@@ -1,10 +1,6 @@
 -- `making::new_edges` meets its contract. The loop's invariant: the first `i` edges have come, each with its record.
-use Rattle.std.proofs.Common.{◌-◌, ◌≤◌}
 use Rattle.making.proofs.Loops.{Meeting}
 use Rattle.making.proofs.new_edges.Given as goal
 
 abbrev pub invariant-loop-i : goal.invariant-loop-i
-invariant-loop-i l = (l.i ≤ l.count) × Meeting l.l l.nodes l.initial.edges l.initial.journal l.right l.lens l.atoms l.places l.used l.count l.i l.edges l.journal
-
-abbrev pub decreases-loop-i : goal.decreases-loop-i
-decreases-loop-i l = l.count - l.i
+invariant-loop-i l = Meeting l.l l.nodes l.initial.edges l.initial.journal l.right l.lens l.atoms l.places l.used l.count l.i l.edges l.journal
