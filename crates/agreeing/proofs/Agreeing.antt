@@ -27,8 +27,7 @@ use Rattle.parts.specs.Elements.{Counted}
 use Rattle.parts.specs.Walks.{spells_label}
 use Rattle.parts.specs.declared.Counts.{Counts}
 use Rattle.plan.specs.Plan.{Planned, label_of, constant_at, elements_at, lists_at, nodes_at, sort_at}
-use Rattle.agreeing.specs.declared.Agrees.{Agrees}
-use Rattle.agreeing.specs.declared.Agrees.TheVariants.{Upto, Differs}
+use Rattle.std.specs.Prelude.{Some, None}
 use Rattle.agreeing.specs.Placed.{Known, slots, label_at, Tried}
 use Rattle.agreeing.specs.Agreeing.{ElementValued, HasElement, HasElements, AgreesFrom}
 use Rattle.agreeing.specs.Candidates.{Candidate, Guessed}
@@ -37,11 +36,6 @@ use Rattle.agreeing.proofs.Values.{label-valued}
 use Rattle.agreeing.specs.Trials.{item-there}
 
 -- An element at a time.
-
-pub upto_within : (m l : List ℕ) (from k : ℕ) (r : Agrees) → AgreesFrom m from l r → r ≡ Upto k → k ≤ length m
-upto_within m l from k r g q =
-    let a : AgreesFrom m from l (Upto k) = rw q at g in
-    a.1
 
 module _ {h : Host} {bs plan at : List ℕ} {i c : ℕ} {p : List ℕ} (w : HasElements h bs plan at i c p) where
   -- the values that the placement gives
@@ -83,16 +77,11 @@ module _ {h : Host} {bs plan at : List ℕ} {i c : ℕ} {p : List ℕ} {w : HasE
         in
         sym (same_step m (atoms_of (values w) step.first) (instance (values w) step.others) from) ∙ f
 
-    module _ {r : Agrees} (g : AgreesFrom m from (atoms_of (values w) step.first) r) where
-      pub comparing_fails : r ≡ Differs → false ≡ same m (instance (values w) w.elements)
-      comparing_fails q =
-          let a : AgreesFrom m from (atoms_of (values w) step.first) Differs = rw q at g in
-          sym (both-no _ _ a) ∙ both-parts
+    pub comparing_fails : AgreesFrom m from (atoms_of (values w) step.first) None → false ≡ same m (instance (values w) w.elements)
+    comparing_fails a = sym (both-no _ _ a) ∙ both-parts
 
-      pub comparing_next : {o : ℕ} → r ≡ Upto o → Comparing w m end o
-      comparing_next {o} q =
-          let a : AgreesFrom m from (atoms_of (values w) step.first) (Upto o) = rw q at g in
-          record { later = step.others; series = step.series; equal = rw a.0 (sym (both_yes _ _ a.2) ∙ both-parts); valued = front-valued.1 }
+    pub comparing_next : {o : ℕ} → AgreesFrom m from (atoms_of (values w) step.first) (Some o) → Comparing w m end o
+    comparing_next a = record { later = step.others; series = step.series; equal = rw a.0 (sym (both_yes _ _ a.2) ∙ both-parts); valued = front-valued.1 }
 
   pub comparing_end : length p ≤ place → from ≤ length m → eqb from (length m) ≡ same m (instance (values w) w.elements)
   unfolding concat

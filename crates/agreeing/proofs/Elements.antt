@@ -20,8 +20,7 @@ use Rattle.meaning.specs.declared.Element.TheVariants.{Variable}
 use Rattle.fields.specs.Image.{element-other}
 use Rattle.fields.specs.Parsed.{constant-read, variable-read, sum-read, difference-read}
 use Rattle.slots.specs.Laid.{laid}
-use Rattle.agreeing.specs.declared.Agrees.{Agrees}
-use Rattle.agreeing.specs.declared.Agrees.TheVariants.{Upto}
+use Rattle.std.specs.Prelude.{Option, Some}
 use Rattle.agreeing.specs.Agreeing.{AgreesFrom, Valued, HasValue, HasElement}
 
 -- as many bytes as an atom has are one
@@ -44,7 +43,7 @@ module _ (α : Assignment) (tag : ℕ) (bs : List ℕ) (e : Element) (s : elemen
   variable-atoms h = rw (variable-is h)
 
   -- what agrees with the variable's value agrees with the element
-  pub variable-agrees : (m : List ℕ) (from : ℕ) (r : Agrees) (v : ℕ) (l : List ℕ) → tag ≡ variable_tag → v ≡ get_or bs 0 0 → l ≡ α v → AgreesFrom m from l r → AgreesFrom m from (atoms_of α e) r
+  pub variable-agrees : (m : List ℕ) (from : ℕ) (r : Option ℕ) (v : ℕ) (l : List ℕ) → tag ≡ variable_tag → v ≡ get_or bs 0 0 → l ≡ α v → AgreesFrom m from l r → AgreesFrom m from (atoms_of α e) r
   variable-agrees m from r v l h q f g = subst (λ (x : List ℕ). AgreesFrom m from x r) (f ∙ ap α q ∙ sym (variable-atoms h)) g
 
   no-atoms : (tag ≡ constant_tag → ⊥) → (tag ≡ variable_tag → ⊥) → atoms_of α e ≡ []
@@ -57,7 +56,7 @@ module _ (α : Assignment) (tag : ℕ) (bs : List ℕ) (e : Element) (s : elemen
       at (no q) (no d) = let f = sym (element-other tag bs h k q d) ∙ s in let z : ◌≡◌ {A = ℕ} 0 1 = cc in absurd (omega arith)
 
   -- which every label has at any place
-  pub nothing-agrees : (m : List ℕ) (from : ℕ) → (tag ≡ constant_tag → ⊥) → (tag ≡ variable_tag → ⊥) → from ≤ length m → AgreesFrom m from (atoms_of α e) (Upto from)
+  pub nothing-agrees : (m : List ℕ) (from : ℕ) → (tag ≡ constant_tag → ⊥) → (tag ≡ variable_tag → ⊥) → from ≤ length m → AgreesFrom m from (atoms_of α e) (Some from)
   unfolding same
   nothing-agrees m from h k f = rw (no-atoms h k) (omega arith, f, refl)
 

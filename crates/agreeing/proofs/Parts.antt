@@ -4,13 +4,14 @@ use mathlib.Core.Path.{◌≡◌, refl, sym, ◌∙◌, ap}
 use mathlib.Core.Bool.{Bool, true, false}
 use mathlib.Core.Option.{some}
 use mathlib.Core.List.{List, [], ◌∷◌}
-use Prim.Native.Nat.{ℕ, suc, ◌+◌, ◌-◌, ◌*◌, ◌<◌, ◌≤◌}
+use Prim.Native.Nat.{ℕ, suc, ◌+◌, ◌-◌, ◌*◌, ◌<◌, ◌≤◌, min}
 use native.Mathlib.Omega.{arith}
 use native.Mathlib.Decide.{dec_lt}
 use native.Mathlib.Nat.{mul-le-mul}
 use borrow.Author.Tests.{eqb-true}
-use lib.ListN.{length, get_or, take, drop, length-drop, drop_of_length-le}
-use lib.Seq.{take_all, take-nil, drop-drop}
+use lib.ListN.{length, get_or, take, drop, length-drop}
+use lib.Seq.{drop-drop}
+use Rattle.std.proofs.lemmas.List.{take_min, drop_min}
 use Rattle.meaning.specs.Layout.{most_atoms}
 use Rattle.meaning.specs.Basics.{choose, either}
 use Rattle.meaning.specs.Image.{limits, Rule, most_items}
@@ -150,16 +151,13 @@ module _ {bs plan : List ℕ} {v : ℕ} (w : OnLeft bs plan v) where
   -- where a list takes n atoms of a label of so many, it takes k of them from a place on
   module _ (len n k from : ℕ) (n-is : n ≡ spare w.rule pattern len) (k-is : k ≡ share w.rule n (Variable v))
       (from_is : from ≡ get_or plan (singles_at + v) 0 + get_or plan (before_at + v) 0 * n) where
-    pub takes_all : Takes w.rule v len from k
+    takes_all : Takes w.rule v len from k
     unfolding or_else
     takes_all m e = rw (taken_at w.rule v (spare w.rule pattern len) pattern m item-has, from_is, k-is, singles-is, lists-is, n-is)
 
-    pub takes_none : len ≤ from → Takes w.rule v len 0 0
-    takes_none h m e =
-        let d = drop_of_length-le m {i = from} (omega arith) in
-        sym (take-nil k) ∙ ap (take k) (sym d) ∙ takes_all m e
-
-    pub takes-left : len - from ≤ k → Takes w.rule v len from (len - from)
-    takes-left h m e =
-        let d = length-drop from m in
-        take_all (len - from) (drop from m) (omega arith) ∙ sym (take_all k (drop from m) (omega arith)) ∙ takes_all m e
+    -- but what lies behind its end
+    pub takes-cut : (f c : ℕ) → f ≡ min from len → c ≡ min k (len - f) → Takes w.rule v len f c
+    takes-cut f c g h m e =
+        let d : drop f m ≡ drop from m = ap (λ (x : ℕ). drop x m) (g ∙ ap (min from) (sym e)) ∙ drop_min from m in
+        let q : c ≡ min k (length (drop f m)) = h ∙ ap (min k) (ap (λ (x : ℕ). x - f) (sym e) ∙ sym (length-drop f m)) in
+        ap (λ (x : ℕ). take x (drop f m)) q ∙ take_min k (drop f m) ∙ ap (take k) d ∙ takes_all m e

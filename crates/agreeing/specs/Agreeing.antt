@@ -1,7 +1,7 @@
 -- What a placement gives a value, and what it is for a label to have it: variables, and elements by their bytes; the atoms that a
 -- variable takes of its first item's label; and atoms compared from a place on. Rests on Placed and on the meaning's FirstMatch
 -- and Assigned.
-use Rattle.std.specs.Prelude.{◌≡◌, true, false, List, [], ℕ, ◌+◌, ◌<◌, ◌≤◌, length, take, drop}
+use Rattle.std.specs.Prelude.{◌≡◌, true, false, Option, Some, None, List, [], ℕ, ◌+◌, ◌<◌, ◌≤◌, length, take, drop}
 use Rattle.std.proofs.Math.Option.{some}
 use Rattle.meaning.specs.Basics.{same}
 use Rattle.meaning.specs.Layout.{Host}
@@ -14,8 +14,6 @@ use Rattle.meaning.specs.Laws.Every.{Every}
 use Rattle.meaning.specs.declared.Element.{Element}
 use Rattle.plan.specs.Plan.{Planned, label_of}
 use Rattle.agreeing.specs.Placed.{Trial}
-use Rattle.agreeing.specs.declared.Agrees.{Agrees}
-use Rattle.agreeing.specs.declared.Agrees.TheVariants.{Upto, Differs}
 
 -- What the placement gives a value.
 
@@ -63,6 +61,6 @@ Takes r v len from n =
     ≡ or_else (taken r v (spare r (label_of r (first_with v (labels r.left))) len) (label_of r (first_with v (labels r.left))) m) []
 
 -- the atoms m have b from a place on, and up to where; or they don't
-abbrev pub AgreesFrom : List ℕ → ℕ → List ℕ → Agrees → Type 0
-AgreesFrom m from b (Upto k) = (k ≡ from + length b) × (k ≤ length m) × (same (take (length b) (drop from m)) b ≡ true)
-AgreesFrom m from b Differs = same (take (length b) (drop from m)) b ≡ false
+abbrev pub AgreesFrom : List ℕ → ℕ → List ℕ → Option ℕ → Type 0
+AgreesFrom m from b (Some k) = (k ≡ from + length b) × (k ≤ length m) × (same (take (length b) (drop from m)) b ≡ true)
+AgreesFrom m from b None = same (take (length b) (drop from m)) b ≡ false

@@ -29,10 +29,7 @@ pub fn slot_of(at: &[usize; Room::ITEMS], i: usize, c: usize, j: usize) -> usize
     requires { (length at.now ≡ most_items) × (j < most_items) }
     ensures { result ≡ slot_of at.now i c j }
 {
-    if j == i {
-        return c;
-    }
-    at[j]
+    if j == i { c } else { at[j] }
 }
 
 // The label in the slot of item j, where it lies.
@@ -49,9 +46,10 @@ fn item_label<'a>(
     ensures { (laid result.now ≡ label_at (host_of l nodes.now edges.now) (get_or plan.now nodes_at 0) j x) × (length (laid result.now) ≤ most_atoms) }
 {
     if j < plan[At::NODES] {
-        return graph::node_label(l, nodes, edges, x);
+        graph::node_label(l, nodes, edges, x)
+    } else {
+        graph::edge_label(l, nodes, edges, x)
     }
-    graph::edge_label(l, nodes, edges, x)
 }
 
 // The values of variables.
@@ -71,15 +69,9 @@ fn part_of(rule: &[u8], plan: &[usize; At::LENGTH], v: usize, len: usize) -> Par
 {
     let n = parts::elements::spare(plan::counts(plan, plan[At::FIRST + v]), len);
     let k = parts::elements::share(plan::types(rule, plan), Element::Variable(v), n);
-    let from = plan[At::SINGLES + v] + plan[At::BEFORE + v] * n;
-    if len <= from {
-        return Part { from: 0, n: 0 };
-    }
-    let left = len - from;
-    if left < k {
-        return Part { from, n: left };
-    }
-    Part { from, n: k }
+    let place = plan[At::SINGLES + v] + plan[At::BEFORE + v] * n;
+    let from = place.min(len);
+    Part { from, n: k.min(len - from) }
 }
 
 // The value of variable v, where it lies: in the label of item plan[At::FIRST + v], the first to have it.
@@ -105,10 +97,10 @@ pub fn value<'a>(
 }
 
 // Its first atom, 0 if it has none.
-pub fn variable_atom<'a>(
+pub fn variable_atom(
     l: Layout,
-    nodes: &'a [u8],
-    edges: &'a [u8],
+    nodes: &[u8],
+    edges: &[u8],
     rule: &[u8],
     plan: &[usize; At::LENGTH],
     at: &[usize; Room::ITEMS],
@@ -121,38 +113,25 @@ pub fn variable_atom<'a>(
     ensures { (w : HasValue (host_of l nodes.now edges.now) rule.now plan.now at.now i c v) → result ≡ get_or (assigned (host_of l nodes.now edges.now) w.trial.rule w.trial.placed v) 0 0 }
 {
     let b = value(l, nodes, edges, rule, plan, at, i, c, v);
-    if laid::count(b) == 0 {
-        return 0;
-    }
-    laid::atom(b, 0)
+    if laid::count(b) == 0 { 0 } else { laid::atom(b, 0) }
 }
 
 // Labels compared.
 
-// Up to where a label agrees with an element.
-#[derive(Drop)]
-pub enum Agrees {
-    Upto(usize),
-    Differs,
-}
-
-// Whether label a has, from a place on, the atoms of label b.
-fn part_agrees(a: &[u8], from: usize, b: &[u8]) -> Agrees
+// Where the atoms of label b end in label a, if a has them from a place on.
+fn part_agrees(a: &[u8], from: usize, b: &[u8]) -> Option<usize>
     requires { from ≤ length (laid a.now) }
     ensures { AgreesFrom (laid a.now) from (laid b.now) result }
 {
-    if laid::has_part(a, from, b) {
-        return Agrees::Upto(from + laid::count(b));
-    }
-    Agrees::Differs
+    if laid::has_part(a, from, b) { Some(from + laid::count(b)) } else { None }
 }
 
-// Whether label a has, from a place on, the atoms that a left element stands for: a constant's lie in the rule, a variable's in a
-// table.
-fn element_agrees<'a>(
+// Where the atoms that a left element stands for end in label a, if a has them from a place on: a constant's lie in the rule, a
+// variable's in a table.
+fn element_agrees(
     l: Layout,
-    nodes: &'a [u8],
-    edges: &'a [u8],
+    nodes: &[u8],
+    edges: &[u8],
     rule: &[u8],
     plan: &[usize; At::LENGTH],
     at: &[usize; Room::ITEMS],
@@ -162,28 +141,27 @@ fn element_agrees<'a>(
     p: &[u8],
     a: &[u8],
     from: usize,
-) -> Agrees
+) -> Option<usize>
     requires legal { Legal l nodes.now edges.now }
     requires has_element { HasElement (host_of l nodes.now edges.now) rule.now plan.now at.now i c tag p.now }
     requires from_in_bounds { from ≤ length (laid a.now) }
     ensures { (w : HasElement (host_of l nodes.now edges.now) rule.now plan.now at.now i c tag p.now) → AgreesFrom (laid a.now) from (atoms_of (assigned (host_of l nodes.now edges.now) w.trial.rule w.trial.placed) w.element) result }
 {
-    if tag == Tag::CONSTANT {
-        return part_agrees(a, from, p);
+    match tag {
+        Tag::CONSTANT => part_agrees(a, from, p),
+        Tag::VARIABLE => {
+            let v = parts::number_at(p, 0);
+            part_agrees(a, from, value(l, nodes, edges, rule, plan, at, i, c, v))
+        }
+        _ => Some(from),
     }
-    if tag == Tag::VARIABLE {
-        let v = parts::number_at(p, 0);
-        let b = value(l, nodes, edges, rule, plan, at, i, c, v);
-        return part_agrees(a, from, b);
-    }
-    Agrees::Upto(from)
 }
 
 // Whether label a is what the elements of p stand for.
-fn elements_agree<'a>(
+fn elements_agree(
     l: Layout,
-    nodes: &'a [u8],
-    edges: &'a [u8],
+    nodes: &[u8],
+    edges: &[u8],
     rule: &[u8],
     plan: &[usize; At::LENGTH],
     at: &[usize; Room::ITEMS],
@@ -204,25 +182,20 @@ fn elements_agree<'a>(
             return false;
         };
         let part = fields::part(p, start, end);
-        let agrees = element_agrees(l, nodes, edges, rule, plan, at, i, c, tag, part, a, from);
-        match agrees {
-            Agrees::Upto(k) => {
-                from = k;
-                next = end;
-            }
-            Agrees::Differs => {
-                return false;
-            }
-        }
+        let Some(k) = element_agrees(l, nodes, edges, rule, plan, at, i, c, tag, part, a, from) else {
+            return false;
+        };
+        from = k;
+        next = end;
     }
     from == laid::count(a)
 }
 
 // Whether the label in slot c can agree with that of item i, by its length and, where that is one constant, by its atom.
-pub fn label_likely<'a>(
+pub fn label_likely(
     l: Layout,
-    nodes: &'a [u8],
-    edges: &'a [u8],
+    nodes: &[u8],
+    edges: &[u8],
     rule: &[u8],
     plan: &[usize; At::LENGTH],
     i: usize,
@@ -233,21 +206,16 @@ pub fn label_likely<'a>(
     ensures { (w : Known rule.now plan.now) → Guessed w.rule (get_or plan.now (sort_at + i) 0) (label_of w.rule i) (label_at (host_of l nodes.now edges.now) (left_nodes w.rule) i c) result }
 {
     let a = item_label(l, nodes, edges, plan, i, c);
-    if parts::elements::length_fits(plan::counts(plan, i), laid::count(a)) {
-        if plan[At::SORT + i] == Sorted::CONSTANT {
-            return laid::atom(a, 0) as usize == plan[At::CONSTANT + i];
-        }
-        return true;
-    }
-    false
+    parts::elements::length_fits(plan::counts(plan, i), laid::count(a))
+        && (plan[At::SORT + i] != Sorted::CONSTANT || laid::atom(a, 0) as usize == plan[At::CONSTANT + i])
 }
 
 // Whether the label in slot c is what the pattern of item i stands for. Both are compared where they lie, the label in its table
 // and the pattern in the rule, element by element.
-pub fn compared<'a>(
+pub fn compared(
     l: Layout,
-    nodes: &'a [u8],
-    edges: &'a [u8],
+    nodes: &[u8],
+    edges: &[u8],
     rule: &[u8],
     plan: &[usize; At::LENGTH],
     at: &[usize; Room::ITEMS],

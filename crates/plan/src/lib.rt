@@ -105,12 +105,8 @@ pub fn pattern<'a>(rule: &'a [u8], plan: &[usize; At::LENGTH], j: usize) -> &'a 
     requires { HasItem rule.now plan.now j }
     ensures { For rule.now plan.now (λ r. label result.now ≡ some (get_or (labels r.left) j [])) }
 {
-    let start = plan[At::START + j];
-    let end = plan[At::END + j];
-    if j < plan[At::NODES] {
-        return fields::part(rule, start + 2, end);
-    }
-    fields::part(rule, start + 3, end)
+    let head = if j < plan[At::NODES] { 2 } else { 3 };
+    fields::part(rule, plan[At::START + j] + head, plan[At::END + j])
 }
 
 // The mark of left item j.
@@ -118,8 +114,7 @@ pub fn mark(rule: &[u8], plan: &[usize; At::LENGTH], j: usize) -> u8
     requires { HasItem rule.now plan.now j }
     ensures { For rule.now plan.now (λ r. Marked r j result) }
 {
-    let start = plan[At::START + j];
-    rule[start]
+    rule[plan[At::START + j]]
 }
 
 // The root flag of left node i.
@@ -127,8 +122,7 @@ pub fn root(rule: &[u8], plan: &[usize; At::LENGTH], i: usize) -> u8
     requires { HasNode rule.now plan.now i }
     ensures { For rule.now plan.now (λ r. result ≡ (left_node r i).root) }
 {
-    let start = plan[At::START + i];
-    rule[start + 1]
+    rule[plan[At::START + i] + 1]
 }
 
 // The left node at an end of left edge k.
@@ -136,10 +130,8 @@ pub fn end_of(rule: &[u8], plan: &[usize; At::LENGTH], k: usize, side: Side) -> 
     requires { HasEdge rule.now plan.now k }
     ensures { For rule.now plan.now (λ r. result ≡ edge_end side (left_edge r k)) }
 {
-    let j = plan[At::NODES] + k;
-    let start = plan[At::START + j];
-    let place = side.place();
-    fields::wide(rule[start + place])
+    let start = plan[At::START + (plan[At::NODES] + k)];
+    fields::wide(rule[start + side.place()])
 }
 
 // The types of the variables.
@@ -147,9 +139,7 @@ pub fn types<'a>(rule: &'a [u8], plan: &[usize; At::LENGTH]) -> &'a [u8]
     requires { IsLaid rule.now plan.now }
     ensures { For rule.now plan.now (λ r. result.now ≡ r.variables) }
 {
-    let start = plan[At::TYPES_START];
-    let end = plan[At::TYPES_END];
-    fields::part(rule, start, end)
+    fields::part(rule, plan[At::TYPES_START], plan[At::TYPES_END])
 }
 
 // The tests.
@@ -157,9 +147,7 @@ pub fn tests<'a>(rule: &'a [u8], plan: &[usize; At::LENGTH]) -> &'a [u8]
     requires { IsLaid rule.now plan.now }
     ensures { For rule.now plan.now (λ r. only passes_all test limits.tests result.now ≡ some r.tests) }
 {
-    let start = plan[At::TESTS_START];
-    let end = plan[At::TESTS_END];
-    fields::part(rule, start, end)
+    fields::part(rule, plan[At::TESTS_START], plan[At::TESTS_END])
 }
 
 // The counts of the label of item j.
@@ -176,8 +164,5 @@ pub fn counts(plan: &[usize; At::LENGTH], j: usize) -> Counts
 pub fn later(a: usize, b: usize) -> usize
     ensures { result ≡ max a b }
 {
-    if a < b {
-        return b;
-    }
-    a
+    a.max(b)
 }

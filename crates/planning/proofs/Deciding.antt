@@ -1,5 +1,6 @@
 -- When conditions and tests are decided. Rests on plan's Plan and on the meaning's References and FirstMatch.
 use mathlib.Core.Path.{◌≡◌, refl, sym, ◌∙◌, ap}
+use mathlib.Core.Logic.{◌⊎◌, inl, inr}
 use mathlib.Core.Option.{some, none}
 use mathlib.Core.Bool.{false}
 use mathlib.Core.List.{List, [], ◌∷◌, ◌++◌, map}
@@ -51,33 +52,24 @@ module _ (plan : List ℕ) (c : Condition) where
   unfolding condition_nodes
   edge-nodes w e = let n = w.nodes in let m = rw e at n in (m.0, m.1.0)
 
-  pub in_node : Decides plan c → {a n : ℕ} → c ≡ InDegree a n → a < limits.nodes
+  pub degree-node : Decides plan c → {a : ℕ} → ((n : ℕ) × (c ≡ InDegree a n)) ⊎ ((n : ℕ) × (c ≡ OutDegree a n)) → a < limits.nodes
   unfolding condition_nodes
-  in_node w e = let n = w.nodes in (rw e at n).0
+  degree-node w (inl k) = let n = w.nodes in let e = k.1 in (rw e at n).0
+  degree-node w (inr k) = let n = w.nodes in let e = k.1 in (rw e at n).0
 
-  pub out-node : Decides plan c → {a n : ℕ} → c ≡ OutDegree a n → a < limits.nodes
-  unfolding condition_nodes
-  out-node w e = let n = w.nodes in (rw e at n).0
-
-  pub equal-operands : Decides plan c → {a b : Operand} → c ≡ Equal a b → Valued plan a × Valued plan b
+  pub relation-operands : Decides plan c → {a b : Operand} → (c ≡ Equal a b) ⊎ (c ≡ Less a b) → Valued plan a × Valued plan b
   unfolding condition_operands
-  equal-operands w e = let n = w.operands in let m = rw e at n in (m.0, m.1.0)
-
-  pub less-operands : Decides plan c → {a b : Operand} → c ≡ Less a b → Valued plan a × Valued plan b
-  unfolding condition_operands
-  less-operands w e = let n = w.operands in let m = rw e at n in (m.0, m.1.0)
+  relation-operands w (inl e) = let n = w.operands in let m = rw e at n in (m.0, m.1.0)
+  relation-operands w (inr e) = let n = w.operands in let m = rw e at n in (m.0, m.1.0)
 
   pub of-edge : {a b m : ℕ} → c ≡ Edge a b → m ≡ max a b → m + 1 ≡ decided_by plan c
   unfolding decided_by highest condition_nodes condition_operands concat
   of-edge e h = rw e (omega arith)
 
-  pub of_in : {a n : ℕ} → c ≡ InDegree a n → a + 1 ≡ decided_by plan c
+  pub of-degree : {a : ℕ} → ((n : ℕ) × (c ≡ InDegree a n)) ⊎ ((n : ℕ) × (c ≡ OutDegree a n)) → a + 1 ≡ decided_by plan c
   unfolding decided_by highest condition_nodes condition_operands concat
-  of_in e = rw e (omega arith)
-
-  pub of-out : {a n : ℕ} → c ≡ OutDegree a n → a + 1 ≡ decided_by plan c
-  unfolding decided_by highest condition_nodes condition_operands concat
-  of-out e = rw e (omega arith)
+  of-degree (inl k) = let e = k.1 in rw e (omega arith)
+  of-degree (inr k) = let e = k.1 in rw e (omega arith)
 
 of-both : (plan : List ℕ) (a b : Operand)
     → max (operand_decided plan a) (operand_decided plan b) ≡ highest (map suc (map (λ v. get_or plan (first_at + v) 0) (operand_names a ++ (operand_names b ++ []))))
@@ -88,13 +80,10 @@ of-both plan (variable_operand v) (constant_operand y) = omega arith
 of-both plan (variable_operand v) (variable_operand w) = omega arith
 
 module _ (plan : List ℕ) (c : Condition) {a b : Operand} {m x y : ℕ} (h : m ≡ max x y) (i : x ≡ operand_decided plan a) (j : y ≡ operand_decided plan b) where
-  pub of-equal : c ≡ Equal a b → m ≡ decided_by plan c
+  pub of-relation : (c ≡ Equal a b) ⊎ (c ≡ Less a b) → m ≡ decided_by plan c
   unfolding decided_by condition_nodes condition_operands concat
-  of-equal e = rw (e, h, i, j) (of-both plan a b)
-
-  pub of-less : c ≡ Less a b → m ≡ decided_by plan c
-  unfolding decided_by condition_nodes condition_operands concat
-  of-less e = rw (e, h, i, j) (of-both plan a b)
+  of-relation (inl e) = rw (e, h, i, j) (of-both plan a b)
+  of-relation (inr e) = rw (e, h, i, j) (of-both plan a b)
 
 -- Lists.
 

@@ -14,53 +14,30 @@ use Rattle.meaning.specs.Basics.{choose, either}
 use Rattle.meaning.specs.Image.{limits, Rule, field, element, passes_all, label}
 use Rattle.meaning.specs.References.{is_list, takes_list}
 use Rattle.meaning.specs.Assigned.{is_variable}
+use Rattle.meaning.specs.Matching.{left_nodes, left_edges}
 use Rattle.meaning.specs.FirstMatch.{has, first_with}
 use Rattle.meaning.specs.Laws.Tests.{choose_true, choose_false}
 use Rattle.fields.specs.Image.{element-other}
 use Rattle.fields.specs.Parsed.{constant-read, variable-read, sum-read, difference-read}
 use Rattle.meaning.specs.declared.Element.{Element}
-use Rattle.meaning.specs.declared.Element.TheVariants.{Constant, Sum, Difference}
+use Rattle.meaning.specs.declared.Element.TheVariants.{Constant, Variable, Sum, Difference}
 use Rattle.meaning.specs.declared.Operand.{Operand}
 use Rattle.fields.specs.Laws.{Lies}
 use Rattle.parts.specs.Series.{Series, only-series, series-none, series-some, series-there}
-use Rattle.plan.specs.Plan.{singles_before, lists_before}
-use Rattle.planning.specs.Planning.{Occurring}
-use Rattle.planning.specs.declared.Occurs.{Occurs}
-use Rattle.planning.specs.declared.Occurs.TheVariants.{Behind, Nowhere}
+use Rattle.plan.specs.Plan.{FirstAt, singles_before, lists_before}
+use Rattle.planning.specs.Planning.{Occurring, FirstFound}
+use Rattle.std.specs.Prelude.{Option, Some, None}
+use Rattle.std.specs.Option.{unwrap_or}
+use Rattle.planning.specs.declared.First.{First}
 
 -- Elements.
 
-module _ (tag : ℕ) (bs : List ℕ) (e : Element) (q : element tag bs ≡ some e) where
-  -- what holds of all but variables, by the tag
-  tagged-other : (f : Element → Bool) → ((c : ℕ) → false ≡ f (Constant c)) → ((a b : Operand) → false ≡ f (Sum a b)) → ((a b : Operand) → false ≡ f (Difference a b)) → (tag ≡ variable_tag → ⊥) → false ≡ f e
-  tagged-other f constant sum difference h = at (ℕ_discrete tag constant_tag) (ℕ_discrete tag sum_tag) (ℕ_discrete tag difference_tag)
-    where
-      at : Dec (tag ≡ constant_tag) → Dec (tag ≡ sum_tag) → Dec (tag ≡ difference_tag) → false ≡ f e
-      at (yes a) b c = rw (constant-read tag bs e a q).1 (constant _)
-      at (no a) (yes b) c = rw (sum-read tag bs e b q).2 (sum _ _)
-      at (no a) (no b) (yes c) = rw (difference-read tag bs e c q).2 (difference _ _)
-      at (no a) (no b) (no c) =
-          let n = element-other tag bs a h b c in
-          let z : ◌≡◌ {A = ℕ} 0 1 = cc in
-          absurd (omega arith)
-
-  module _ (v : ℕ) where
-    pub variable-yes : tag ≡ variable_tag → (length bs ≡ 1) × (eqb (get_or bs 0 0) v ≡ is_variable v e)
-    unfolding is_variable
-    variable-yes h = let t = variable-read tag bs e h q in (t.0, rw t.1)
-
-    pub variable-no : (tag ≡ variable_tag → ⊥) → false ≡ is_variable v e
-    unfolding is_variable
-    variable-no h = tagged-other (is_variable v) (λ c. refl) (λ a b. refl) (λ a b. refl) h
-
-  module _ (r : Rule) where
-    pub list-yes : tag ≡ variable_tag → (length bs ≡ 1) × (is_list r (get_or bs 0 0) ≡ takes_list r e)
-    unfolding takes_list
-    list-yes h = let t = variable-read tag bs e h q in (t.0, rw t.1)
-
-    pub list-no : (tag ≡ variable_tag → ⊥) → false ≡ takes_list r e
-    unfolding takes_list
-    list-no h = tagged-other (takes_list r) (λ c. refl) (λ a b. refl) (λ a b. refl) h
+pub not-variable : (v : ℕ) (e : Element) → ((w : ℕ) → e ≡ Variable w → ⊥) → false ≡ is_variable v e
+unfolding is_variable
+not-variable v (Constant c) h = refl
+not-variable v (Variable w) h = absurd (h w refl)
+not-variable v (Sum a b) h = refl
+not-variable v (Difference a b) h = refl
 
 -- Labels. A loop that looks for the variable, behind s elements of one atom and q lists: what is left of the label has it
 -- where the label has.
@@ -91,21 +68,21 @@ module _ {types : List ℕ} {v : ℕ} {p : List ℕ} {at s q : ℕ} (w : Seeking
       let x = w.left r k l e in
       x.same ∙ ap (has v) (series-none element p at x.elements x.series h)
 
-  module _ {tag start end : ℕ} {part : List ℕ} {b : Bool} (h : at < length p) (k : Lies p at tag start end) (is : part ≡ take (end - start) (drop start p)) (t : (e : Element) → element tag part ≡ some e → b ≡ is_variable v e) where
-    pub seeking_found : b ≡ true → (r : Rule) → r.variables ≡ types → (l : List Element) → label p ≡ some l → Occurring r v l (Behind s q)
+  module _ {tag start end : ℕ} {part : List ℕ} {a : Element} (h : at < length p) (k : Lies p at tag start end) (is : part ≡ take (end - start) (drop start p)) (t : (e : Element) → element tag part ≡ some e → a ≡ e) where
+    pub seeking_found : true ≡ is_variable v a → (r : Rule) → r.variables ≡ types → (l : List Element) → label p ≡ some l → Occurring r v l (Some (record { singles = s; lists = q }))
     unfolding has either singles_before lists_before choose
     seeking_found g r i l e =
         let x = w.left r i l e in
         let n = series-some element p at x.elements x.series h tag start end k in
-        let y : is_variable v n.first ≡ true = sym (t n.first (ap (element tag) is ∙ n.read)) ∙ g in (
+        let y : is_variable v n.first ≡ true = ap (is_variable v) (sym (t n.first (ap (element tag) is ∙ n.read))) ∙ sym g in (
           x.same ∙ ap (has v) n.parts ∙ rw y,
           sym (x.singles ∙ ap (λ (m : List Element). s + singles_before r v m) n.parts ∙ rw y (omega arith)),
           sym (x.lists ∙ ap (λ (m : List Element). q + lists_before r v m) n.parts ∙ rw y (omega arith)),
         )
 
     -- a turn that does not find it
-    seeking_turn : b ≡ false → (s' q' : ℕ) → s' + q' ≡ s + q + 1
-        → ((r : Rule) → r.variables ≡ types → (e : Element) → element tag part ≡ some e → is_variable v e ≡ false → (m : List Element) → (s + singles_before r v (e ∷ m) ≡ s' + singles_before r v m) × (q + lists_before r v (e ∷ m) ≡ q' + lists_before r v m))
+    seeking_turn : false ≡ is_variable v a → (s' q' : ℕ) → s' + q' ≡ s + q + 1
+        → ((r : Rule) → r.variables ≡ types → is_variable v a ≡ false → (m : List Element) → (s + singles_before r v (a ∷ m) ≡ s' + singles_before r v m) × (q + lists_before r v (a ∷ m) ≡ q' + lists_before r v m))
         → Seeking types v p end s' q'
     unfolding has either
     seeking_turn g s' q' z f =
@@ -114,37 +91,29 @@ module _ {types : List ℕ} {v : ℕ} {p : List ℕ} {at s q : ℕ} (w : Seeking
           left = λ r i l e.
               let x = w.left r i l e in
               let n = series-some element p at x.elements x.series h tag start end k in
-              let d = ap (element tag) is ∙ n.read in
-              let y : is_variable v n.first ≡ false = sym (t n.first d) ∙ g in
-              let c = f r i n.first d y n.others in
+              let d : n.first ≡ a = sym (t n.first (ap (element tag) is ∙ n.read)) in
+              let y : x.elements ≡ a ∷ n.others = n.parts ∙ ap (λ (b : Element). b ∷ n.others) d in
+              let c = f r i (sym g) n.others in
               record {
                 elements = n.others;
                 series = n.series;
-                same = x.same ∙ ap (has v) n.parts ∙ rw y;
-                singles = x.singles ∙ ap (λ (m : List Element). s + singles_before r v m) n.parts ∙ c.0;
-                lists = x.lists ∙ ap (λ (m : List Element). q + lists_before r v m) n.parts ∙ c.1;
+                same = x.same ∙ ap (has v) y ∙ rw (← g);
+                singles = x.singles ∙ ap (λ (m : List Element). s + singles_before r v m) y ∙ c.0;
+                lists = x.lists ∙ ap (λ (m : List Element). q + lists_before r v m) y ∙ c.1;
               };
         }
 
-    module _ {c : Bool} (g : b ≡ false) (u : (r : Rule) → r.variables ≡ types → (e : Element) → element tag part ≡ some e → c ≡ takes_list r e) where
-      pub seeking_list : c ≡ true → Seeking types v p end s (q + 1)
+    module _ (g : false ≡ is_variable v a) where
+      pub seeking_list : ((r : Rule) → r.variables ≡ types → true ≡ takes_list r a) → Seeking types v p end s (q + 1)
       unfolding singles_before lists_before choose
-      seeking_list f = seeking_turn g s (q + 1) (omega arith) (λ r i e d y m. let z = sym (u r i e d) ∙ f in (rw (y, z), rw (y, z) (omega arith)))
+      seeking_list u = seeking_turn g s (q + 1) (omega arith) (λ r i y m. let z = sym (u r i) in (rw (y, z), rw (y, z) (omega arith)))
 
-      pub seeking_single : c ≡ false → Seeking types v p end (s + 1) q
+      pub seeking_single : ((r : Rule) → r.variables ≡ types → false ≡ takes_list r a) → Seeking types v p end (s + 1) q
       unfolding singles_before lists_before choose
-      seeking_single f = seeking_turn g (s + 1) q (omega arith) (λ r i e d y m. let z = sym (u r i e d) ∙ f in (rw (y, z) (omega arith), rw (y, z)))
+      seeking_single u = seeking_turn g (s + 1) q (omega arith) (λ r i y m. let z = sym (u r i) in (rw (y, z) (omega arith), rw (y, z)))
 
   pub seeking_cut : at < length p → field (drop at p) ≡ none → (r : Rule) → r.variables ≡ types → (l : List Element) → label p ≡ some l → has v l ≡ false
   seeking_cut h k r i l e = let x = w.left r i l e in absurd (series-there element p at x.elements x.series h k)
-
--- what the loop answers, by cases
-module _ (r : Rule) (v : ℕ) (l : List Element) (o : Occurs) (w : Occurring r v l o) where
-  pub occurs_behind : {s q : ℕ} → o ≡ Behind s q → Occurring r v l (Behind s q)
-  occurs_behind e = rw e at w
-
-  pub occurs_nowhere : o ≡ Nowhere → has v l ≡ false
-  occurs_nowhere e = rw e at w
 
 -- The first label.
 
@@ -180,3 +149,14 @@ none_more v j ls f e i h = at (ℕ_discrete i j)
     at : Dec (i ≡ j) → has v (get_or ls i []) ≡ false
     at (yes q) = rw q e
     at (no q) = f i (omega arith)
+
+-- what is written of a variable that no item has is how many items there are
+pub found_or : (r : Rule) (v : ℕ) (o : Option First) (d : First) → FirstFound r v o → d.item ≡ left_nodes r + left_edges r
+    → FirstAt r v (unwrap_or o d).item (unwrap_or o d).behind.singles (unwrap_or o d).behind.lists
+found_or r v (Some f) d w e = w
+found_or r v None d w e =
+    record {
+      item = e ∙ sym w;
+      singles = λ h. absurd (omega arith);
+      lists = λ h. absurd (omega arith);
+    }

@@ -1,12 +1,12 @@
 -- Making a plan: where the parts of a rule lie, where a label first has a variable, how a label is compared, when a condition is decided, and the plan as far
 -- as it is made. Rests on plan's Plan and on the meaning's FirstMatch.
-use Rattle.std.specs.Prelude.{◌≡◌, ◌⊎◌, true, false, List, [], ◌∷◌, ◌++◌, map, ℕ, suc, ◌+◌, ◌<◌, ◌≤◌, length, get_or}
+use Rattle.std.specs.Prelude.{◌≡◌, ◌⊎◌, true, false, Option, Some, None, List, [], ◌∷◌, ◌++◌, map, ℕ, suc, ◌+◌, ◌<◌, ◌≤◌, length, get_or}
 use Rattle.std.proofs.Math.Option.{some}
 use Rattle.meaning.specs.Basics.{concat}
 use Rattle.meaning.specs.Image.{RuleGraph, Rule, limits, most_items, rule_graph, rule}
-use Rattle.meaning.specs.References.{operand_names, condition_operands, condition_nodes}
+use Rattle.meaning.specs.References.{operand_names, condition_operands, condition_nodes, labels}
 use Rattle.meaning.specs.Matching.{left_nodes, left_edges}
-use Rattle.meaning.specs.FirstMatch.{has, highest}
+use Rattle.meaning.specs.FirstMatch.{has, highest, first_with}
 use Rattle.meaning.specs.Laws.Every.{Every}
 use Rattle.meaning.specs.declared.Operand.{Operand}
 use Rattle.meaning.specs.declared.Operand.TheVariants.{Constant as constant_operand, Variable as variable_operand}
@@ -16,8 +16,8 @@ use Rattle.meaning.specs.declared.Element.TheVariants.{Constant as constant_elem
 use Rattle.fields.specs.Fields.{field_at, nth_field}
 use Rattle.fields.specs.declared.Found.TheVariants.{Field}
 use Rattle.plan.specs.Plan.{Placed, Laid, Part, singles_before, lists_before, FirstAt, Labelled, Planned, before_at, first_at, plan_length, singles_at, constant_at, elements_at, lists_at, sort_at}
-use Rattle.planning.specs.declared.Occurs.{Occurs}
-use Rattle.planning.specs.declared.Occurs.TheVariants.{Behind, Nowhere}
+use Rattle.planning.specs.declared.Behind.{Behind}
+use Rattle.planning.specs.declared.First.{First}
 use Rattle.planning.specs.declared.Sort.{Sort}
 use Rattle.planning.specs.declared.Sort.TheVariants.{Length, Constant, Elements}
 
@@ -34,9 +34,14 @@ pub record Lying (bs : List ℕ) (at start end : ℕ) : Type 0 where
 
 -- Where variables are.
 
-abbrev pub Occurring : Rule → ℕ → List Element → Occurs → Type 0
-Occurring r v l (Behind s q) = (has v l ≡ true) × (s ≡ singles_before r v l) × (q ≡ lists_before r v l)
-Occurring r v l Nowhere = has v l ≡ false
+abbrev pub Occurring : Rule → ℕ → List Element → Option Behind → Type 0
+Occurring r v l (Some b) = (has v l ≡ true) × (b.singles ≡ singles_before r v l) × (b.lists ≡ lists_before r v l)
+Occurring r v l None = has v l ≡ false
+
+-- the first item with variable v, and where it has it; or no item has it
+abbrev pub FirstFound : Rule → ℕ → Option First → Type 0
+FirstFound r v (Some f) = FirstAt r v f.item f.behind.singles f.behind.lists
+FirstFound r v None = first_with v (labels r.left) ≡ left_nodes r + left_edges r
 
 -- the plan has, of each of the first n variables, the first item that has it and where
 pub record Named (bs : List ℕ) (r : Rule) (plan : List ℕ) (n : ℕ) : Type 0 where

@@ -3,54 +3,36 @@
 
 ghost use Rattle.std.specs.Prelude.{◌≡◌, List, ◌+◌, ◌<◌, length, get_or};
 ghost use Rattle.std.proofs.Math.Option.{some};
-ghost use Rattle.meaning.specs.Image.{Rule, RuleGraph, rule_graph, element, label};
-ghost use Rattle.meaning.specs.References.{takes_list};
+ghost use Rattle.meaning.specs.Image.{Rule, RuleGraph, rule_graph, label};
 ghost use Rattle.meaning.specs.Assigned.{is_variable};
 ghost use Rattle.meaning.specs.declared.Element.{Element};
-ghost use Rattle.plan.specs.Plan.{plan_length, Placed, Items, Planned, IsLaid, For, FirstAt, Labelled, IsRule, edges_at, nodes_at};
-ghost use Rattle.planning.specs.Planning.{Lying, Named, HasGraph, IsNamed, Valued, decided_by, Decides, Plans, operand_decided, Occurring, Sorts, OnlyLabel, AllLabelled, IsLabelled};
+ghost use Rattle.plan.specs.Plan.{plan_length, Placed, Items, Planned, IsLaid, For, Labelled, IsRule, edges_at, nodes_at};
+ghost use Rattle.planning.specs.Planning.{Lying, Named, HasGraph, IsNamed, Valued, decided_by, Decides, Plans, operand_decided, Occurring, FirstFound, Sorts, OnlyLabel, AllLabelled, IsLabelled};
 
 use fields::Found;
-use meaning::tags::{Tag, VariableType};
+use meaning::tags::Tag;
 use meaning::{Condition, Element, Operand, Room};
 use parts::{Counts, Front};
 use plan::{At, Sorted};
 
-// Whether an element, from its tag and payload, is variable v.
-fn is_variable(tag: u8, p: &[u8], v: usize) -> bool
-    ensures { (e : Element) → element tag p.now ≡ some e → result ≡ is_variable v e }
+// Whether an element is variable v.
+fn is_variable(e: Element, v: usize) -> bool
+    ensures { result ≡ is_variable v e }
 {
-    if tag == Tag::VARIABLE {
-        if p.len() == 1 {
-            return fields::wide(p[0]) == v;
-        }
+    match e {
+        Element::Variable(w) => w == v,
+        _ => false,
     }
-    false
-}
-
-// Whether an element, from its tag and payload, is a list variable.
-fn is_list(types: &[u8], tag: u8, p: &[u8]) -> bool
-    ensures { (r : Rule) → r.variables ≡ types.now → (e : Element) → element tag p.now ≡ some e → result ≡ takes_list r e }
-{
-    if tag == Tag::VARIABLE {
-        if p.len() == 1 {
-            let v = fields::wide(p[0]);
-            if v < types.len() {
-                return types[v] == VariableType::LIST;
-            }
-        }
-    }
-    false
 }
 
 // Where a label first has a variable: behind so many elements of one atom, and so many lists.
-#[derive(Drop)]
-pub enum Occurs {
-    Behind(usize, usize),
-    Nowhere,
+#[derive(Clone, Copy)]
+pub struct Behind {
+    pub singles: usize,
+    pub lists: usize,
 }
 
-fn occurrence(types: &[u8], p: &[u8], v: usize) -> Occurs
+fn occurrence(types: &[u8], p: &[u8], v: usize) -> Option<Behind>
     ensures { (r : Rule) → r.variables ≡ types.now → (l : List Element) → label p.now ≡ some l → Occurring r v l result }
 {
     let mut at: usize = 0;
@@ -59,57 +41,40 @@ fn occurrence(types: &[u8], p: &[u8], v: usize) -> Occurs
     while at < p.len() {
         let found = fields::read_field(p, at);
         let Found::Field(tag, start, end) = found else {
-            return Occurs::Nowhere;
+            return None;
         };
-        let payload = fields::part(p, start, end);
-        if is_variable(tag, payload, v) {
-            return Occurs::Behind(singles, lists);
+        let e = parts::reading::read_element(tag, fields::part(p, start, end));
+        if is_variable(e, v) {
+            return Some(Behind { singles, lists });
         }
-        if is_list(types, tag, payload) {
+        if parts::elements::takes_list(types, e) {
             lists += 1;
         } else {
             singles += 1;
         }
         at = end;
     }
-    Occurs::Nowhere
+    None
 }
 
-// The first left item whose label has a variable, or how many items there are where none has; and where the label has it.
-#[derive(Drop)]
+// The first left item whose label has a variable, and where the label has it.
+#[derive(Clone, Copy)]
 pub struct First {
     pub item: usize,
-    pub singles: usize,
-    pub lists: usize,
+    pub behind: Behind,
 }
 
-fn first_with(rule: &[u8], plan: &[usize; At::LENGTH], v: usize) -> First
+fn first_with(rule: &[u8], plan: &[usize; At::LENGTH], v: usize) -> Option<First>
     requires { IsLaid rule.now plan.now }
-    ensures { For rule.now plan.now (λ r. FirstAt r v result.item result.singles result.lists) }
+    ensures { For rule.now plan.now (λ r. FirstFound r v result) }
 {
     let kinds = plan::types(rule, plan);
-    let n = plan[At::NODES] + plan[At::EDGES];
-    let mut j: usize = 0;
-    while j < n {
-        let o = occurrence(kinds, plan::pattern(rule, plan, j), v);
-        match o {
-            Occurs::Behind(singles, lists) => {
-                return First {
-                    item: j,
-                    singles,
-                    lists,
-                };
-            }
-            Occurs::Nowhere => {
-                j += 1;
-            }
+    for item in 0..plan[At::NODES] + plan[At::EDGES] {
+        if let Some(behind) = occurrence(kinds, plan::pattern(rule, plan, item), v) {
+            return Some(First { item, behind });
         }
     }
-    First {
-        item: n,
-        singles: 0,
-        lists: 0,
-    }
+    None
 }
 
 // How many items must be placed before an operand has its value.
@@ -118,7 +83,7 @@ fn operand_decided(plan: &[usize; At::LENGTH], o: Operand) -> usize
     ensures { result ≡ operand_decided plan.now o }
 {
     match o {
-        Operand::Constant(x) => 0,
+        Operand::Constant(_) => 0,
         Operand::Variable(v) => plan[At::FIRST + v] + 1,
     }
 }
@@ -130,10 +95,8 @@ fn decided(plan: &[usize; At::LENGTH], c: Condition) -> usize
 {
     match c {
         Condition::Edge(a, b) => plan::later(a, b) + 1,
-        Condition::InDegree(a, n) => a + 1,
-        Condition::OutDegree(a, n) => a + 1,
-        Condition::Equal(a, b) => plan::later(operand_decided(plan, a), operand_decided(plan, b)),
-        Condition::Less(a, b) => plan::later(operand_decided(plan, a), operand_decided(plan, b)),
+        Condition::InDegree(a, _) | Condition::OutDegree(a, _) => a + 1,
+        Condition::Equal(a, b) | Condition::Less(a, b) => plan::later(operand_decided(plan, a), operand_decided(plan, b)),
     }
 }
 
@@ -164,19 +127,21 @@ fn items(rule: &[u8], start: usize, end: usize, plan: &mut [usize; At::LENGTH])
     plan[At::EDGES] = j - nodes;
 }
 
-// The first item with each variable, and where its label has it.
+// The first item with each variable, and where its label has it. Of a variable that no item has, the plan says how many items there
+// are.
 fn plan_variables(rule: &[u8], plan: &mut [usize; At::LENGTH])
     requires { IsLaid rule.now plan.old }
     ensures { For rule.now plan.old (λ r. Named rule.now r plan.new (length r.variables)) }
 {
-    let n = plan[At::TYPES_END] - plan[At::TYPES_START];
-    let mut v: usize = 0;
-    while v < n {
-        let f = first_with(rule, plan, v);
-        plan[At::FIRST + v] = f.item;
-        plan[At::SINGLES + v] = f.singles;
-        plan[At::BEFORE + v] = f.lists;
-        v += 1;
+    let none = First {
+        item: plan[At::NODES] + plan[At::EDGES],
+        behind: Behind { singles: 0, lists: 0 },
+    };
+    for v in 0..plan[At::TYPES_END] - plan[At::TYPES_START] {
+        let first = first_with(rule, plan, v).unwrap_or(none);
+        plan[At::FIRST + v] = first.item;
+        plan[At::SINGLES + v] = first.behind.singles;
+        plan[At::BEFORE + v] = first.behind.lists;
     }
 }
 
@@ -201,18 +166,8 @@ fn sort_of(types: &[u8], plan: &[usize; At::LENGTH], j: usize, p: &[u8]) -> Sort
             }
             match e {
                 Element::Constant(x) => Sort::Constant(x),
-                Element::Variable(v) => {
-                    if v < types.len() {
-                        if v < Room::VARIABLES {
-                            if plan[At::FIRST + v] == j {
-                                return Sort::Length;
-                            }
-                        }
-                    }
-                    Sort::Elements
-                }
-                Element::Sum(a, b) => Sort::Elements,
-                Element::Difference(a, b) => Sort::Elements,
+                Element::Variable(v) if v < types.len() && v < Room::VARIABLES && plan[At::FIRST + v] == j => Sort::Length,
+                _ => Sort::Elements,
             }
         }
         Front::Nothing => Sort::Length,
@@ -249,11 +204,8 @@ fn plan_labels(rule: &[u8], plan: &mut [usize; At::LENGTH])
     requires { IsNamed rule.now plan.old }
     ensures { (r : Rule) → Named rule.now r plan.old (length r.variables) → AllLabelled rule.now r plan.new }
 {
-    let n = plan[At::NODES] + plan[At::EDGES];
-    let mut j: usize = 0;
-    while j < n {
+    for j in 0..plan[At::NODES] + plan[At::EDGES] {
         plan_label(rule, plan, j);
-        j += 1;
     }
 }
 

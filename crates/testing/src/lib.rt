@@ -25,10 +25,10 @@ use plan::{At, Sorted};
 // One test, from its bytes.
 
 // An operand's atom, from its tag and payload.
-fn atom<'a>(
+fn atom(
     l: Layout,
-    nodes: &'a [u8],
-    edges: &'a [u8],
+    nodes: &[u8],
+    edges: &[u8],
     rule: &[u8],
     plan: &[usize; At::LENGTH],
     at: &[usize; Room::ITEMS],
@@ -42,17 +42,17 @@ fn atom<'a>(
     ensures { (w : HasOperand (host_of l nodes.now edges.now) rule.now plan.now at.now i c tag p.now) → result ≡ atom_of (assigned (host_of l nodes.now edges.now) w.trial.rule w.trial.placed) w.o }
 {
     if tag == Tag::CONSTANT {
-        return parts::word_of(p);
+        parts::word_of(p)
+    } else {
+        agreeing::variable_atom(l, nodes, edges, rule, plan, at, i, c, parts::number_at(p, 0))
     }
-    let v = parts::number_at(p, 0);
-    agreeing::variable_atom(l, nodes, edges, rule, plan, at, i, c, v)
 }
 
 // Whether two operands are equal, or the first is less, from the payload of a relation behind the test's flag.
-fn relation_holds<'a>(
+fn relation_holds(
     l: Layout,
-    nodes: &'a [u8],
-    edges: &'a [u8],
+    nodes: &[u8],
+    edges: &[u8],
     rule: &[u8],
     plan: &[usize; At::LENGTH],
     at: &[usize; Room::ITEMS],
@@ -77,16 +77,17 @@ fn relation_holds<'a>(
     let second = fields::part(p, from, to);
     let b = atom(l, nodes, edges, rule, plan, at, i, c, other, second);
     if parts::byte_at(p, 0) == Relation::EQUAL {
-        return a == b;
+        a == b
+    } else {
+        labels::height(a) < labels::height(b)
     }
-    labels::height(a) < labels::height(b)
 }
 
 // Whether a condition holds, from its tag and the bytes behind the test's flag.
-fn condition_holds<'a>(
+fn condition_holds(
     l: Layout,
-    nodes: &'a [u8],
-    edges: &'a [u8],
+    nodes: &[u8],
+    edges: &[u8],
     rule: &[u8],
     plan: &[usize; At::LENGTH],
     at: &[usize; Room::ITEMS],
@@ -103,22 +104,18 @@ fn condition_holds<'a>(
         return relation_holds(l, nodes, edges, rule, plan, at, i, c, p);
     }
     let s = slot_of(at, i, c, parts::number_at(p, 0));
-    if tag == Tag::EDGE_TEST {
-        let t = slot_of(at, i, c, parts::number_at(p, 1));
-        return graph::any_runs(l, nodes, edges, s, t);
+    match tag {
+        Tag::EDGE_TEST => graph::any_runs(l, nodes, edges, s, slot_of(at, i, c, parts::number_at(p, 1))),
+        Tag::IN_DEGREE => graph::in_degree(l, nodes, edges, s) == parts::degree_of(p),
+        _ => graph::out_degree(l, nodes, edges, s) == parts::degree_of(p),
     }
-    let n = parts::degree_of(p);
-    if tag == Tag::IN_DEGREE {
-        return graph::in_degree(l, nodes, edges, s) == n;
-    }
-    graph::out_degree(l, nodes, edges, s) == n
 }
 
 // Whether test number t holds.
-fn test_holds<'a>(
+fn test_holds(
     l: Layout,
-    nodes: &'a [u8],
-    edges: &'a [u8],
+    nodes: &[u8],
+    edges: &[u8],
     rule: &[u8],
     plan: &[usize; At::LENGTH],
     at: &[usize; Room::ITEMS],
@@ -138,19 +135,16 @@ fn test_holds<'a>(
     let p = fields::part(tests, start, end);
     let rest = parts::behind(p, 1);
     let holds = condition_holds(l, nodes, edges, rule, plan, at, i, c, tag, rest);
-    if parts::flag(p) {
-        return !holds;
-    }
-    holds
+    if parts::flag(p) { !holds } else { holds }
 }
 
 // The tests of a placement.
 
 // Whether the tests that item i decides hold.
-fn tests_so_far<'a>(
+fn tests_so_far(
     l: Layout,
-    nodes: &'a [u8],
-    edges: &'a [u8],
+    nodes: &[u8],
+    edges: &[u8],
     rule: &[u8],
     plan: &[usize; At::LENGTH],
     at: &[usize; Room::ITEMS],
@@ -161,25 +155,18 @@ fn tests_so_far<'a>(
     requires tried { Tried (host_of l nodes.now edges.now) rule.now plan.now at.now i c }
     ensures { (w : Tried (host_of l nodes.now edges.now) rule.now plan.now at.now i c) → result ≡ tests_so_far (host_of l nodes.now edges.now) w.trial.rule w.trial.placed }
 {
-    let n = plan[At::TESTS];
-    let mut t: usize = 0;
-    while t < n {
-        if plan[At::DECIDED + t] == i + 1 {
-            if !test_holds(l, nodes, edges, rule, plan, at, i, c, t) {
-                return false;
-            }
-            t += 1;
-        } else {
-            t += 1;
+    for t in 0..plan[At::TESTS] {
+        if plan[At::DECIDED + t] == i + 1 && !test_holds(l, nodes, edges, rule, plan, at, i, c, t) {
+            return false;
         }
     }
     true
 }
 
-pub fn all_tests<'a>(
+pub fn all_tests(
     l: Layout,
-    nodes: &'a [u8],
-    edges: &'a [u8],
+    nodes: &[u8],
+    edges: &[u8],
     rule: &[u8],
     plan: &[usize; At::LENGTH],
     at: &[usize; Room::ITEMS],
@@ -188,22 +175,19 @@ pub fn all_tests<'a>(
     requires full { Full (host_of l nodes.now edges.now) rule.now plan.now at.now most_items 0 }
     ensures { (w : Full (host_of l nodes.now edges.now) rule.now plan.now at.now most_items 0) → result ≡ every (test_holds (host_of l nodes.now edges.now) w.trial.placed (assigned (host_of l nodes.now edges.now) w.trial.rule w.trial.placed)) w.trial.rule.tests }
 {
-    let n = plan[At::TESTS];
-    let mut t: usize = 0;
-    while t < n {
+    for t in 0..plan[At::TESTS] {
         if !test_holds(l, nodes, edges, rule, plan, at, Room::ITEMS, 0, t) {
             return false;
         }
-        t += 1;
     }
     true
 }
 
 // Whether slot c, which is likely for item i, fits it.
-pub fn rest_fits<'a>(
+pub fn rest_fits(
     l: Layout,
-    nodes: &'a [u8],
-    edges: &'a [u8],
+    nodes: &[u8],
+    edges: &[u8],
     rule: &[u8],
     plan: &[usize; At::LENGTH],
     at: &[usize; Room::ITEMS],
@@ -218,12 +202,11 @@ pub fn rest_fits<'a>(
     ensures { (w : Known rule.now plan.now) → result ≡ fits (host_of l nodes.now edges.now) w.rule (take i at.now) c }
 {
     let sort = plan[At::SORT + i];
-    if sort != Sorted::LENGTH {
-        if sort != Sorted::CONSTANT {
-            if !agreeing::compared(l, nodes, edges, rule, plan, at, i, c) {
-                return false;
-            }
-        }
+    if sort != Sorted::LENGTH
+        && sort != Sorted::CONSTANT
+        && !agreeing::compared(l, nodes, edges, rule, plan, at, i, c)
+    {
+        return false;
     }
     tests_so_far(l, nodes, edges, rule, plan, at, i, c)
 }

@@ -1,6 +1,6 @@
 use Rattle.std.proofs.Common.{arith}
 use Rattle.parts.proofs.Loops.{a-field, nearer, no_field, part_in}
-use Rattle.agreeing.proofs.Agreeing.{upto_within, comparing_start, comparing_there, comparing_element, comparing_fails, comparing_next, comparing_end}
+use Rattle.agreeing.proofs.Agreeing.{comparing_start, comparing_there, comparing_element, comparing_fails, comparing_next, comparing_end}
 use Rattle.agreeing.proofs.elements_agree.Goals as goal
 
 pub loop-next-init : goal.loop-next-init
@@ -12,8 +12,8 @@ returns-in_default c = λ w. absurd (comparing_there (c.loop-next.invariant.1 w)
 pub part-part-requires : goal.part-part-requires
 part-part-requires c = part_in (a-field _ _ c.read_field-found.ensures c.in-Field.is)
 
-pub element_agrees-agrees-requires : goal.element_agrees-agrees-requires
-element_agrees-agrees-requires c = record {
+pub element_agrees-requires : goal.element_agrees-requires
+element_agrees-requires c = record {
   legal = c.requires.legal;
   has_element = comparing_element (c.loop-next.invariant.1 c.requires.has_elements) c.loop-next-test.true (a-field _ _ c.read_field-found.ensures c.in-Field.is) c.part-part.ensures;
   from_in_bounds = c.loop-next.invariant.0;
@@ -25,16 +25,16 @@ loop-next-smaller c = nearer (a-field _ _ c.read_field-found.ensures c.in-Field.
 pub loop-next-preserved : goal.loop-next-preserved
 loop-next-preserved c =
     let f = (a-field _ _ c.read_field-found.ensures c.in-Field.is) in (
-      upto_within _ _ _ _ _ (c.element_agrees-agrees.ensures (comparing_element (c.loop-next.invariant.1 c.requires.has_elements) c.loop-next-test.true f c.part-part.ensures)) c.in-Upto.is,
-      λ w. let t = c.loop-next.invariant.1 w in comparing_next t c.loop-next-test.true f c.part-part.ensures (c.element_agrees-agrees.ensures (comparing_element t c.loop-next-test.true f c.part-part.ensures)) c.in-Upto.is,
+      (c.in-Some.ensures (comparing_element (c.loop-next.invariant.1 c.requires.has_elements) c.loop-next-test.true f c.part-part.ensures)).1,
+      λ w. let t = c.loop-next.invariant.1 w in comparing_next t c.loop-next-test.true f c.part-part.ensures (c.in-Some.ensures (comparing_element t c.loop-next-test.true f c.part-part.ensures)),
     )
 
-pub returns-in-Differs : goal.returns-in-Differs
-returns-in-Differs c =
+pub returns-in_default-element_agrees : goal.returns-in_default-element_agrees
+returns-in_default-element_agrees c =
     λ w.
     let f = (a-field _ _ c.read_field-found.ensures c.in-Field.is) in
     let t = c.loop-next.invariant.1 w in
-    comparing_fails t c.loop-next-test.true f c.part-part.ensures (c.element_agrees-agrees.ensures (comparing_element t c.loop-next-test.true f c.part-part.ensures)) c.in-Differs.is
+    comparing_fails t c.loop-next-test.true f c.part-part.ensures (c.in_default-element_agrees.ensures (comparing_element t c.loop-next-test.true f c.part-part.ensures))
 
 pub returns : goal.returns
 returns c = λ w. rw c.count.ensures (comparing_end (c.loop-next.invariant.1 w) c.loop-next-test.false c.loop-next.invariant.0)

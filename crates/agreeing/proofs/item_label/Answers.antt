@@ -20,5 +20,5 @@ edge_label-requires c = record {
   x_in_bounds = second-of (λ (m : ℕ). c.args.x < m) c.args.j (get_or c.args.plan.now nodes_at 0) _ _ (omega (arith, c.if-j-plan.false)) c.requires.plan_nonzero.1;
 }
 
-pub returns : goal.returns
-returns c = (of-second (λ (m : List ℕ). laid c.edge_label.result.now ≡ m) c.args.j (get_or c.args.plan.now nodes_at 0) _ _ (omega (arith, c.if-j-plan.false)) c.edge_label.ensures.0, c.edge_label.ensures.1)
+pub returns-else-j-plan : goal.returns-else-j-plan
+returns-else-j-plan c = (of-second (λ (m : List ℕ). laid c.edge_label.result.now ≡ m) c.args.j (get_or c.args.plan.now nodes_at 0) _ _ (omega (arith, c.if-j-plan.false)) c.edge_label.ensures.0, c.edge_label.ensures.1)

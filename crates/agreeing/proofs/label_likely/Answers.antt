@@ -16,16 +16,13 @@ length_fits-requires c = candidate_simple c.requires.candidate _ c.counts.ensure
 pub atom-requires : goal.atom-requires
 atom-requires c =
     let w = candidate_known c.requires.candidate in
-    let e = constant-one _ _ _ _ (known_constant c.requires.candidate w c.if-plan-i-eq-CONSTANT.true) (sym c.if-length_fits.true ∙ known-fits c.requires.candidate w _ _ _ c.counts.ensures.0 c.counts.ensures.1 (c.count.ensures ∙ ap length c.item_label-a.ensures.0) c.length_fits.ensures) in
+    let e = constant-one _ _ _ _ (known_constant c.requires.candidate w c.if-plan-i-ne-CONSTANT.false) (sym c.if-length_fits.true ∙ known-fits c.requires.candidate w _ _ _ c.counts.ensures.0 c.counts.ensures.1 (c.count.ensures ∙ ap length c.item_label-a.ensures.0) c.length_fits.ensures) in
     rw (c.item_label-a.ensures.0, planned-label w.planned (host_of c.args.l c.args.nodes.now c.args.edges.now) c.args.i c.args.c) (omega arith)
 
-pub returns-then-plan-i-eq-CONSTANT : goal.returns-then-plan-i-eq-CONSTANT
-returns-then-plan-i-eq-CONSTANT c =
+pub returns-else-plan-i-ne-CONSTANT : goal.returns-else-plan-i-ne-CONSTANT
+returns-else-plan-i-ne-CONSTANT c =
     λ w.
-    guessed_constant _ _ _ _ (known_constant c.requires.candidate w c.if-plan-i-eq-CONSTANT.true) (sym c.if-length_fits.true ∙ known-fits c.requires.candidate w _ _ _ c.counts.ensures.0 c.counts.ensures.1 (c.count.ensures ∙ ap length c.item_label-a.ensures.0) c.length_fits.ensures) _ _ (rw (c.atom.ensures, c.item_label-a.ensures.0, planned-label w.planned (host_of c.args.l c.args.nodes.now c.args.edges.now) c.args.i c.args.c))
+    guessed_constant _ _ _ _ (known_constant c.requires.candidate w c.if-plan-i-ne-CONSTANT.false) (sym c.if-length_fits.true ∙ known-fits c.requires.candidate w _ _ _ c.counts.ensures.0 c.counts.ensures.1 (c.count.ensures ∙ ap length c.item_label-a.ensures.0) c.length_fits.ensures) _ _ (rw (c.atom.ensures, c.item_label-a.ensures.0, planned-label w.planned (host_of c.args.l c.args.nodes.now c.args.edges.now) c.args.i c.args.c))
 
-pub returns-then-length_fits : goal.returns-then-length_fits
-returns-then-length_fits c = λ w. guessed_yes _ _ _ _ (sym c.if-length_fits.true ∙ known-fits c.requires.candidate w _ _ _ c.counts.ensures.0 c.counts.ensures.1 (c.count.ensures ∙ ap length c.item_label-a.ensures.0) c.length_fits.ensures) c.if-plan-i-eq-CONSTANT.false
-
-pub returns : goal.returns
-returns c = λ w. guessed_no _ _ _ _ (sym c.if-length_fits.false ∙ known-fits c.requires.candidate w _ _ _ c.counts.ensures.0 c.counts.ensures.1 (c.count.ensures ∙ ap length c.item_label-a.ensures.0) c.length_fits.ensures)
+pub returns-else-length_fits : goal.returns-else-length_fits
+returns-else-length_fits c = λ w. rw c.if-length_fits.false (guessed_no _ _ _ _ (sym c.if-length_fits.false ∙ known-fits c.requires.candidate w _ _ _ c.counts.ensures.0 c.counts.ensures.1 (c.count.ensures ∙ ap length c.item_label-a.ensures.0) c.length_fits.ensures))

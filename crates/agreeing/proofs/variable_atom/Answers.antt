@@ -7,5 +7,3 @@ use Rattle.agreeing.proofs.variable_atom.Goals as goal
 pub returns-then-count-eq0 : goal.returns-then-count-eq0
 returns-then-count-eq0 c = λ w. rw (← (c.value-b.ensures.1 w)) (sym (get_or-eq_default (laid c.value-b.result.now) 0 {n = 0} (omega (arith, c.count.ensures, c.if-count-eq0.true))))
 
-pub returns : goal.returns
-returns c = λ w. c.atom.ensures ∙ ap (λ (m : List ℕ). get_or m 0 0) (c.value-b.ensures.1 w)

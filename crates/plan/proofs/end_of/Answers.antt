@@ -3,15 +3,13 @@ use Rattle.std.proofs.Common.{sym, ◌∙◌, arith}
 use Rattle.plan.specs.Places.{planned-edge, edge-there, end-there}
 use Rattle.plan.proofs.end_of.Goals as goal
 
-pub overflow_add-start-2 : goal.overflow_add-start-2
-overflow_add-start-2 c =
-    omega (arith, c.place-place.ensures, end-there c.requires c.args.side)
+pub overflow_add-start-3 : goal.overflow_add-start-3
+overflow_add-start-3 c = omega (arith, c.place.ensures, end-there c.requires c.args.side)
 
 pub bounds-rule-start : goal.bounds-rule-start
-bounds-rule-start c =
-    omega (arith, c.place-place.ensures, end-there c.requires c.args.side)
+bounds-rule-start c = omega (arith, c.place.ensures, end-there c.requires c.args.side)
 
 pub returns : goal.returns
 returns c =
-    let e = c.place-place.ensures in
+    let e = c.place.ensures in
     λ r l. rw e at c.wide.ensures.0 ∙ sym ((planned-edge l c.args.k (edge-there c.requires)).ends c.args.side)

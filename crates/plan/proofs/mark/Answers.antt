@@ -2,8 +2,8 @@
 use Rattle.plan.specs.Places.{item-inside, marked}
 use Rattle.plan.proofs.mark.Goals as goal
 
-pub bounds-rule-start : goal.bounds-rule-start
-bounds-rule-start c = item-inside c.requires
+pub bounds-rule-plan : goal.bounds-rule-plan
+bounds-rule-plan c = item-inside c.requires
 
 pub returns : goal.returns
 returns c = λ r l. marked l c.args.j

@@ -2,21 +2,18 @@
 use Rattle.std.proofs.Common.{arith}
 use Rattle.plan.specs.Places.{node-inside, edge-inside, item-there, node-pattern, edge-pattern}
 use Rattle.plan.proofs.pattern.Goals as goal
-
-pub overflow_add-start-then-j-plan : goal.overflow_add-start-then-j-plan
-overflow_add-start-then-j-plan c = let i = node-inside c.requires c.if-j-plan.true in omega arith
+use Rattle.plan.proofs.pattern.Goals.{then-j-plan, else-j-plan}
 
 pub part-requires : goal.part-requires
-part-requires c = node-inside c.requires c.if-j-plan.true
-
-pub returns-then-j-plan : goal.returns-then-j-plan
-returns-then-j-plan c = λ r l. node-pattern l c.args.j _ c.if-j-plan.true c.part.ensures
-
-pub overflow_add-start-2 : goal.overflow_add-start-2
-overflow_add-start-2 c = let i = edge-inside c.requires c.if-j-plan.false in omega arith
-
-pub part-requires-2 : goal.part-requires-2
-part-requires-2 c = edge-inside c.requires c.if-j-plan.false
+part-requires c =
+    elim c.if-j-plan.branch [
+      | then-j-plan w ↦ rw w.head-is (node-inside c.requires w.if-j-plan.true)
+      | else-j-plan w ↦ rw w.head-is (edge-inside c.requires w.if-j-plan.false)
+    ]
 
 pub returns : goal.returns
-returns c = λ r l. edge-pattern l c.args.j _ c.if-j-plan.false (item-there c.requires) c.part-2.ensures
+returns c = λ r l.
+    elim c.if-j-plan.branch [
+      | then-j-plan w ↦ node-pattern l c.args.j _ w.if-j-plan.true (rw w.head-is at c.part.ensures)
+      | else-j-plan w ↦ edge-pattern l c.args.j _ w.if-j-plan.false (item-there c.requires) (rw w.head-is at c.part.ensures)
+    ]

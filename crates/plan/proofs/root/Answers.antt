@@ -3,11 +3,8 @@ use Rattle.std.proofs.Common.{sym, arith}
 use Rattle.plan.specs.Places.{planned-node, node-there}
 use Rattle.plan.proofs.root.Goals as goal
 
-pub overflow_add-result : goal.overflow_add-result
-overflow_add-result c = let a = planned-node c.requires.laid c.args.i (node-there c.requires) in omega (arith, a.long, a.inside)
-
-pub bounds-rule-start : goal.bounds-rule-start
-bounds-rule-start c = let a = planned-node c.requires.laid c.args.i (node-there c.requires) in omega (arith, a.long, a.inside)
+pub bounds-rule-plan : goal.bounds-rule-plan
+bounds-rule-plan c = let a = planned-node c.requires.laid c.args.i (node-there c.requires) in omega (arith, a.long, a.inside)
 
 pub returns : goal.returns
 returns c = λ r l. sym (planned-node l c.args.i (node-there c.requires)).root

@@ -9,29 +9,23 @@ loop-at-init c = seeking_start _ _ _
 pub returns-in_default : goal.returns-in_default
 returns-in_default c = seeking_cut c.loop-at.invariant c.loop-at-test.true (no_field _ _ _ c.read_field-found.ensures c.in_default.not-Field)
 
-pub part-payload-requires : goal.part-payload-requires
-part-payload-requires c = part_in (a-field _ _ c.read_field-found.ensures c.in-Field.is)
+pub part-requires : goal.part-requires
+part-requires c = part_in (a-field _ _ c.read_field-found.ensures c.in-Field.is)
 
 pub returns-then-is_variable : goal.returns-then-is_variable
-returns-then-is_variable c = seeking_found c.loop-at.invariant c.loop-at-test.true (a-field _ _ c.read_field-found.ensures c.in-Field.is) c.part-payload.ensures c.is_variable.ensures c.if-is_variable.true
+returns-then-is_variable c = seeking_found c.loop-at.invariant c.loop-at-test.true (a-field _ _ c.read_field-found.ensures c.in-Field.is) c.part.ensures c.read_element-e.ensures c.if-is_variable.ensures
 
-pub overflow_add-lists : goal.overflow_add-lists
-overflow_add-lists c = omega (arith, c.loop-at.invariant.few, c.loop-at-test.true)
+pub loop-at-smaller-then-takes_list : goal.loop-at-smaller-then-takes_list
+loop-at-smaller-then-takes_list c = nearer (a-field _ _ c.read_field-found.ensures c.in-Field.is)
 
-pub overflow_add-singles : goal.overflow_add-singles
-overflow_add-singles c = omega (arith, c.loop-at.invariant.few, c.loop-at-test.true)
-
-pub loop-at-smaller-then-is_list : goal.loop-at-smaller-then-is_list
-loop-at-smaller-then-is_list c = nearer (a-field _ _ c.read_field-found.ensures c.in-Field.is)
-
-pub loop-at-preserved-then-is_list : goal.loop-at-preserved-then-is_list
-loop-at-preserved-then-is_list c = seeking_list c.loop-at.invariant c.loop-at-test.true (a-field _ _ c.read_field-found.ensures c.in-Field.is) c.part-payload.ensures c.is_variable.ensures c.if-is_variable.false c.is_list.ensures c.if-is_list.true
+pub loop-at-preserved-then-takes_list : goal.loop-at-preserved-then-takes_list
+loop-at-preserved-then-takes_list c = seeking_list c.loop-at.invariant c.loop-at-test.true (a-field _ _ c.read_field-found.ensures c.in-Field.is) c.part.ensures c.read_element-e.ensures c.if-is_variable.ensures c.if-takes_list.ensures
 
 pub loop-at-smaller : goal.loop-at-smaller
 loop-at-smaller c = nearer (a-field _ _ c.read_field-found.ensures c.in-Field.is)
 
 pub loop-at-preserved : goal.loop-at-preserved
-loop-at-preserved c = seeking_single c.loop-at.invariant c.loop-at-test.true (a-field _ _ c.read_field-found.ensures c.in-Field.is) c.part-payload.ensures c.is_variable.ensures c.if-is_variable.false c.is_list.ensures c.if-is_list.false
+loop-at-preserved c = seeking_single c.loop-at.invariant c.loop-at-test.true (a-field _ _ c.read_field-found.ensures c.in-Field.is) c.part.ensures c.read_element-e.ensures c.if-is_variable.ensures c.if-takes_list.ensures
 
 pub returns : goal.returns
 returns c = seeking_done c.loop-at.invariant c.loop-at-test.false

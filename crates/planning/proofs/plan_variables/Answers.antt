@@ -1,12 +1,7 @@
 use Rattle.std.proofs.Common.{◌≡◌, arith, length}
 use Rattle.planning.proofs.Stores.{types-count, named_more}
+use Rattle.planning.proofs.Variables.{found_or}
 use Rattle.planning.proofs.plan_variables.Goals as goal
-
-pub loop-v-init : goal.loop-v-init
-loop-v-init c = (omega arith, λ r l. record { laid = l; first = λ u h. absurd (omega arith) })
-
-pub first_with-f-requires : goal.first_with-f-requires
-first_with-f-requires c = record { tree = c.requires.tree; laid = (c.loop-v.invariant.1 c.requires.tree c.requires.laid).laid }
 
 pub offset_bounds-plan-v : goal.offset_bounds-plan-v
 offset_bounds-plan-v c = omega (arith, types-count c.requires.laid, c.requires.laid.few_variables, c.loop-v-test.true)
@@ -27,7 +22,11 @@ pub bounds-plan-v-in-loop-v-2 : goal.bounds-plan-v-in-loop-v-2
 bounds-plan-v-in-loop-v-2 c = omega (arith, types-count c.requires.laid, c.requires.laid.few_variables, c.loop-v-test.true)
 
 pub loop-v-preserved : goal.loop-v-preserved
-loop-v-preserved c = (omega arith, λ r l. named_more (omega (arith, types-count l, l.few_variables, c.loop-v-test.true)) (c.loop-v.invariant.1 r l) (c.first_with-f.ensures r (c.loop-v.invariant.1 r l).laid))
+loop-v-preserved c = λ r l.
+    let w = c.loop-v.invariant r l in
+    let e = c.unwrap_or-first.ensures in
+    named_more (omega (arith, types-count l, l.few_variables, c.loop-v-test.true)) w
+    (rw e (found_or r c.loop-v.v c.first_with.result _ (c.first_with.ensures r w.laid) (omega (arith, l.items.nodes, l.items.edges))))
 
 pub returns : goal.returns
-returns c = λ r l. let e : c.loop-v.v ≡ length r.variables = omega (arith, types-count l, c.loop-v.invariant.0, c.loop-v-test.false) in let w = c.loop-v.invariant.1 r l in rw e at w
+returns c = λ r l. let e : c.loop-v.v ≡ length r.variables = omega (arith, types-count l, c.loop-v-test.false) in let w = c.loop-v.invariant r l in rw e at w

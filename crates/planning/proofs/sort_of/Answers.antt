@@ -5,8 +5,8 @@ use Rattle.parts.specs.Walks.{spells_label, opens-first, opens-nothing}
 use Rattle.planning.proofs.Labelling.{only_one}
 use Rattle.planning.proofs.sort_of.Goals as goal
 
-pub returns-then-plan-v : goal.returns-then-plan-v
-returns-then-plan-v c = λ l q. inr (record { variable = c.in-Variable.v; is = only_one (opens-first _ _ _ _ c.first_element-front.ensures c.in-First.is) c.if-end-p.false l q ∙ ap (λ (d : Element). d ∷ []) c.in-Variable.is; there = c.if-v-types.true; first = c.if-plan-v.true })
+pub returns-in-Variable : goal.returns-in-Variable
+returns-in-Variable c = λ l q. inr (record { variable = c.in-Variable.v; is = only_one (opens-first _ _ _ _ c.first_element-front.ensures c.in-First.is) c.if-end-p.false l q ∙ ap (λ (d : Element). d ∷ []) c.in-Variable.is; there = c.if-v-types.true; first = c.if-plan-v.true })
 
 pub returns-in-Constant : goal.returns-in-Constant
 returns-in-Constant c = λ l q. only_one (opens-first _ _ _ _ c.first_element-front.ensures c.in-First.is) c.if-end-p.false l q ∙ ap (λ (d : Element). d ∷ []) c.in-Constant.is

@@ -1,5 +1,5 @@
--- `all_tests` meets its contract. The loop's invariant: the tests passed hold. The measure is the number of those left.
-use Rattle.std.proofs.Common.{◌-◌, ◌≤◌, ◌≡◌, true, take}
+-- `all_tests` meets its contract. The loop's invariant: the tests passed hold.
+use Rattle.std.proofs.Common.{◌≡◌, true, take}
 use Rattle.meaning.specs.Image.{most_items}
 use Rattle.meaning.specs.Basics.{every}
 use Rattle.meaning.specs.Matching.{test_holds}
@@ -9,7 +9,4 @@ use Rattle.agreeing.specs.Placed.{Full}
 use Rattle.testing.proofs.all_tests.Given as goal
 
 abbrev pub invariant-loop-t : goal.invariant-loop-t
-invariant-loop-t l = (l.t ≤ l.n) × ((w : Full (host_of l.l l.nodes l.edges) l.rule l.plan l.at most_items 0) → every (test_holds (host_of l.l l.nodes l.edges) w.trial.placed (assigned (host_of l.l l.nodes l.edges) w.trial.rule w.trial.placed)) (take l.t w.trial.rule.tests) ≡ true)
-
-abbrev pub decreases-loop-t : goal.decreases-loop-t
-decreases-loop-t l = l.n - l.t
+invariant-loop-t l = (w : Full (host_of l.l l.nodes l.edges) l.rule l.plan l.at most_items 0) → every (test_holds (host_of l.l l.nodes l.edges) w.trial.placed (assigned (host_of l.l l.nodes l.edges) w.trial.rule w.trial.placed)) (take l.t w.trial.rule.tests) ≡ true

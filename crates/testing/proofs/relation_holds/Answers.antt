@@ -55,5 +55,5 @@ atom-b-requires c =
 pub returns-then-byte_at-eq-EQUAL : goal.returns-then-byte_at-eq-EQUAL
 returns-then-byte_at-eq-EQUAL c = λ w. let a = atoms (goal.at.returns-then-byte_at-eq-EQUAL c).After-byte_at w in equal-holds (two w) _ _ _ _ _ a.0 a.1 c.byte_at.ensures c.if-byte_at-eq-EQUAL.true
 
-pub returns : goal.returns
-returns c = λ w. let a = atoms (goal.at.returns c).After-byte_at w in less-holds (two w) _ _ _ _ _ a.0 a.1 c.byte_at.ensures c.if-byte_at-eq-EQUAL.false _ _ c.height.ensures.0 c.height-2.ensures.0
+pub returns-else-byte_at-eq-EQUAL : goal.returns-else-byte_at-eq-EQUAL
+returns-else-byte_at-eq-EQUAL c = λ w. let a = atoms (goal.at.returns-else-byte_at-eq-EQUAL c).After-byte_at w in less-holds (two w) _ _ _ _ _ a.0 a.1 c.byte_at.ensures c.if-byte_at-eq-EQUAL.false _ _ c.height.ensures.0 c.height-else-byte_at-eq-EQUAL.ensures.0

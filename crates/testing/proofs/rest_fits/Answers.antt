@@ -10,7 +10,7 @@ use Rattle.agreeing.specs.Placed.{Known, label_at, Tried}
 use Rattle.agreeing.specs.Trials.{before-length, item-there, tried_item}
 use Rattle.testing.proofs.Rest.{alone-agrees, compared_is, compared_no, left-tests}
 use Rattle.testing.proofs.rest_fits.Goals as goal
-use Rattle.testing.proofs.rest_fits.Goals.{Start, then-sort-ne-LENGTH+then-sort-ne-CONSTANT+else-not-compared, then-sort-ne-LENGTH+else-sort-ne-CONSTANT, else-sort-ne-LENGTH}
+use Rattle.testing.proofs.rest_fits.Goals.{Start, else-sort-ne-LENGTH-via-then-sort-ne-LENGTH+then-sort-ne-CONSTANT+else-not-compared, else-sort-ne-LENGTH-via-then-sort-ne-LENGTH+else-sort-ne-CONSTANT, else-sort-ne-LENGTH-via-else-sort-ne-LENGTH}
 
 abbrev host : (s : Start) → Host
 host s = host_of s.args.l s.args.nodes.now s.args.edges.now
@@ -61,10 +61,10 @@ returns c =
     let start = (goal.at.returns c).Start in
     let l = c.requires.likely w in
     let agrees : Agrees start w =
-    elim c.if-sort-ne-LENGTH.branch [
-      | then-sort-ne-LENGTH+then-sort-ne-CONSTANT+else-not-compared k ↦ compared_is l _ (k.compared.ensures (tried start w)) ∙ k.if-not-compared.false
-      | then-sort-ne-LENGTH+else-sort-ne-CONSTANT k ↦ by-atom start w k.if-sort-ne-CONSTANT.false
-      | else-sort-ne-LENGTH k ↦ by_length start w k.if-sort-ne-LENGTH.false
+    elim c.else-sort-ne-LENGTH.branch [
+      | else-sort-ne-LENGTH-via-then-sort-ne-LENGTH+then-sort-ne-CONSTANT+else-not-compared k ↦ compared_is l _ (k.compared.ensures (tried start w)) ∙ k.if-not-compared.false
+      | else-sort-ne-LENGTH-via-then-sort-ne-LENGTH+else-sort-ne-CONSTANT k ↦ by-atom start w k.if-sort-ne-CONSTANT.false
+      | else-sort-ne-LENGTH-via-else-sort-ne-LENGTH k ↦ by_length start w k.if-sort-ne-LENGTH.false
     ]
     in
     left-tests l agrees _ (c.tests_so_far.ensures (tried start w))

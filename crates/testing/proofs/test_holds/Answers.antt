@@ -45,5 +45,5 @@ condition_holds-holds-requires c =
 pub returns-then-flag : goal.returns-then-flag
 returns-then-flag c = λ w. sym (choose_true _ _ _ c.if-flag.true) ∙ chosen (goal.at.returns-then-flag c).After-flag w
 
-pub returns : goal.returns
-returns c = λ w. sym (choose_false _ _ _ c.if-flag.false) ∙ chosen (goal.at.returns c).After-flag w
+pub returns-else-flag : goal.returns-else-flag
+returns-else-flag c = λ w. sym (choose_false _ _ _ c.if-flag.false) ∙ chosen (goal.at.returns-else-flag c).After-flag w

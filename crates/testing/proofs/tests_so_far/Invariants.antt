@@ -1,6 +1,5 @@
--- `tests_so_far` meets its contract. The loop's invariant: the tests passed that the item decides hold. The measure is the number of
--- those left.
-use Rattle.std.proofs.Common.{◌-◌, ◌≤◌, ◌≡◌, true, take}
+-- `tests_so_far` meets its contract. The loop's invariant: the tests passed that the item decides hold.
+use Rattle.std.proofs.Common.{◌≡◌, true, take}
 use Rattle.meaning.specs.Basics.{every}
 use Rattle.meaning.specs.Layout.{host_of}
 use Rattle.agreeing.specs.Placed.{Tried}
@@ -8,7 +7,4 @@ use Rattle.testing.proofs.Decisions.{so_far}
 use Rattle.testing.proofs.tests_so_far.Given as goal
 
 abbrev pub invariant-loop-t : goal.invariant-loop-t
-invariant-loop-t l = (l.t ≤ l.n) × ((w : Tried (host_of l.l l.nodes l.edges) l.rule l.plan l.at l.i l.c) → every (so_far w) (take l.t w.trial.rule.tests) ≡ true)
-
-abbrev pub decreases-loop-t : goal.decreases-loop-t
-decreases-loop-t l = l.n - l.t
+invariant-loop-t l = (w : Tried (host_of l.l l.nodes l.edges) l.rule l.plan l.at l.i l.c) → every (so_far w) (take l.t w.trial.rule.tests) ≡ true
