@@ -10,9 +10,7 @@ use Rattle.meaning.specs.References.{labels}
 use Rattle.meaning.specs.Matching.{left_node, left_edge, left_nodes, left_edges}
 use Rattle.fields.specs.Parsed.{rule_node-is, rule_edge-is}
 use Rattle.laws.specs.Assignment.{label-node, label-edge}
-use Rattle.fields.specs.Fields.{nth_field}
-use Rattle.fields.specs.declared.Found.{Found}
-use Rattle.fields.specs.declared.Found.TheVariants.{Field}
+use Rattle.fields.specs.Fields.{Found, found, nth_field}
 use Rattle.parts.specs.Series.{part_field}
 use Rattle.parts.proofs.Loops.{NoField, no_part, nth_in}
 use Rattle.plan.specs.Plan.{Placed, Laid, HasItem, HasNode, HasEdge, Marked, edge_end, end_place, Part, edges_at, end_at, nodes_at, start_at}
@@ -203,7 +201,7 @@ module _ {bs plan : List ℕ} {j : ℕ} (w : HasItem bs plan j) where
 pub place_none : (bs : List ℕ) (n : ℕ) (f : Found) → f ≡ nth_field n bs 0 → NoField f → Part bs n 0 0
 place_none bs n f e k = record { ordered = omega arith; inside = omega arith; is = no_part bs f (nth_field n bs 0) e k }
 
-pub place-there : (bs : List ℕ) (n : ℕ) {f : Found} {tag start end : ℕ} → f ≡ nth_field n bs 0 → f ≡ Field tag start end → Part bs n start end
+pub place-there : (bs : List ℕ) (n : ℕ) {f : Found} {tag start end : ℕ} → f ≡ nth_field n bs 0 → f ≡ found tag start end → Part bs n start end
 place-there bs n {f} {tag} {start} {end} e g =
     let i = nth_in bs n e g in
     record { ordered = i.0; inside = i.1; is = sym (part_field bs (nth_field n bs 0) tag start end (sym e ∙ g)) }

@@ -106,7 +106,7 @@ pub fn pattern<'a>(rule: &'a [u8], plan: &[usize; At::LENGTH], j: usize) -> &'a 
     ensures { For rule.now plan.now (λ r. label result.now ≡ some (get_or (labels r.left) j [])) }
 {
     let head = if j < plan[At::NODES] { 2 } else { 3 };
-    fields::part(rule, plan[At::START + j] + head, plan[At::END + j])
+    &rule[plan[At::START + j] + head..plan[At::END + j]]
 }
 
 // The mark of left item j.
@@ -131,7 +131,7 @@ pub fn end_of(rule: &[u8], plan: &[usize; At::LENGTH], k: usize, side: Side) -> 
     ensures { For rule.now plan.now (λ r. result ≡ edge_end side (left_edge r k)) }
 {
     let start = plan[At::START + (plan[At::NODES] + k)];
-    fields::wide(rule[start + side.place()])
+    usize::from(rule[start + side.place()])
 }
 
 // The types of the variables.
@@ -139,7 +139,7 @@ pub fn types<'a>(rule: &'a [u8], plan: &[usize; At::LENGTH]) -> &'a [u8]
     requires { IsLaid rule.now plan.now }
     ensures { For rule.now plan.now (λ r. result.now ≡ r.variables) }
 {
-    fields::part(rule, plan[At::TYPES_START], plan[At::TYPES_END])
+    &rule[plan[At::TYPES_START]..plan[At::TYPES_END]]
 }
 
 // The tests.
@@ -147,7 +147,7 @@ pub fn tests<'a>(rule: &'a [u8], plan: &[usize; At::LENGTH]) -> &'a [u8]
     requires { IsLaid rule.now plan.now }
     ensures { For rule.now plan.now (λ r. only passes_all test limits.tests result.now ≡ some r.tests) }
 {
-    fields::part(rule, plan[At::TESTS_START], plan[At::TESTS_END])
+    &rule[plan[At::TESTS_START]..plan[At::TESTS_END]]
 }
 
 // The counts of the label of item j.

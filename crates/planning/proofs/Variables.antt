@@ -7,21 +7,16 @@ use mathlib.Core.Bool.{Bool, true, false}
 use Prim.Native.Nat.{ℕ, zero, suc, ◌+◌, ◌-◌, ◌<◌, ◌≤◌}
 use native.Mathlib.Omega.{arith}
 use native.Mathlib.Decide.{ℕ_discrete}
-use lib.Dec.{eqb}
 use lib.ListN.{length, get_or, take, drop}
-use Rattle.meaning.specs.Tags.{constant_tag, difference_tag, sum_tag, variable_tag}
 use Rattle.meaning.specs.Basics.{choose, either}
 use Rattle.meaning.specs.Image.{limits, Rule, field, element, passes_all, label}
-use Rattle.meaning.specs.References.{is_list, takes_list}
+use Rattle.meaning.specs.References.{takes_list}
 use Rattle.meaning.specs.Assigned.{is_variable}
 use Rattle.meaning.specs.Matching.{left_nodes, left_edges}
 use Rattle.meaning.specs.FirstMatch.{has, first_with}
 use Rattle.meaning.specs.Laws.Tests.{choose_true, choose_false}
-use Rattle.fields.specs.Image.{element-other}
-use Rattle.fields.specs.Parsed.{constant-read, variable-read, sum-read, difference-read}
 use Rattle.meaning.specs.declared.Element.{Element}
 use Rattle.meaning.specs.declared.Element.TheVariants.{Constant, Variable, Sum, Difference}
-use Rattle.meaning.specs.declared.Operand.{Operand}
 use Rattle.fields.specs.Laws.{Lies}
 use Rattle.parts.specs.Series.{Series, only-series, series-none, series-some, series-there}
 use Rattle.plan.specs.Plan.{FirstAt, singles_before, lists_before}

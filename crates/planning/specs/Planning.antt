@@ -1,6 +1,6 @@
 -- Making a plan: where the parts of a rule lie, where a label first has a variable, how a label is compared, when a condition is decided, and the plan as far
 -- as it is made. Rests on plan's Plan and on the meaning's FirstMatch.
-use Rattle.std.specs.Prelude.{◌≡◌, ◌⊎◌, true, false, Option, Some, None, List, [], ◌∷◌, ◌++◌, map, ℕ, suc, ◌+◌, ◌<◌, ◌≤◌, length, get_or}
+use Rattle.std.specs.Prelude.{◌≡◌, ◌⊎◌, true, false, Option, Some, None, Ok, List, [], ◌∷◌, ◌++◌, map, ℕ, suc, ◌+◌, ◌<◌, ◌≤◌, eqb, length, get_or}
 use Rattle.std.proofs.Math.Option.{some}
 use Rattle.meaning.specs.Basics.{concat}
 use Rattle.meaning.specs.Image.{RuleGraph, Rule, limits, most_items, rule_graph, rule}
@@ -13,11 +13,12 @@ use Rattle.meaning.specs.declared.Operand.TheVariants.{Constant as constant_oper
 use Rattle.meaning.specs.declared.Condition.{Condition}
 use Rattle.meaning.specs.declared.Element.{Element}
 use Rattle.meaning.specs.declared.Element.TheVariants.{Constant as constant_element, Variable}
-use Rattle.fields.specs.Fields.{field_at, nth_field}
-use Rattle.fields.specs.declared.Found.TheVariants.{Field}
+use Rattle.fields.specs.Fields.{field_at, found, nth_field}
+use Rattle.fields.specs.declared.Field.{Field}
 use Rattle.plan.specs.Plan.{Placed, Laid, Part, singles_before, lists_before, FirstAt, Labelled, Planned, before_at, first_at, plan_length, singles_at, constant_at, elements_at, lists_at, sort_at}
 use Rattle.planning.specs.declared.Behind.{Behind}
 use Rattle.planning.specs.declared.First.{First}
+use Rattle.planning.specs.declared.Parts.{Parts}
 use Rattle.planning.specs.declared.Sort.{Sort}
 use Rattle.planning.specs.declared.Sort.TheVariants.{Length, Constant, Elements}
 
@@ -27,10 +28,27 @@ use Rattle.planning.specs.declared.Sort.TheVariants.{Length, Constant, Elements}
 abbrev pub NumberAt : List ℕ → ℕ → ℕ → Type 0
 NumberAt bs n at = nth_field n bs 0 ≡ field_at bs at
 
--- the payload of the field at a place, whatever its number, and the next field behind it
-pub record Lying (bs : List ℕ) (at start end : ℕ) : Type 0 where
-  pub part : (n : ℕ) → NumberAt bs n at → Part bs n start end
-  pub next : (n tag s e : ℕ) → NumberAt bs n at → nth_field n bs 0 ≡ Field tag s e → NumberAt bs (suc n) end
+-- the field at a place, if there is one
+abbrev pub LiesAt : List ℕ → ℕ → Option Field → Type 0
+LiesAt bs at (Some f) = field_at bs at ≡ Some (Ok f)
+LiesAt bs at None = (tag start end : ℕ) → field_at bs at ≡ found tag start end → ⊥
+
+-- the parts of a rule that its plan speaks of are the fields of their numbers, and the mode is the one behind them
+pub record PartsLie (bs : List ℕ) (p : Parts) : Type 0 where
+  pub types : Part bs 0 p.types.start p.types.end
+  pub left : Part bs 1 p.left.start p.left.end
+  pub interface : Part bs 3 p.interface.start p.interface.end
+  pub tests : Part bs 4 p.tests.start p.tests.end
+  pub mode : NumberAt bs 5 p.tests.end
+
+-- all are there where the bytes are a rule
+abbrev pub PartsOf : List ℕ → Option Parts → Type 0
+PartsOf bs (Some p) = PartsLie bs p
+PartsOf bs None = (r : Rule) → rule bs ≡ some r → ⊥
+
+-- the number says whether the rule preserves roots, if its mode is at a place
+abbrev pub ModeAt : List ℕ → ℕ → ℕ → Type 0
+ModeAt bs at mode = (r : Rule) → rule bs ≡ some r → NumberAt bs 5 at → r.preserving ≡ eqb mode 1
 
 -- Where variables are.
 

@@ -7,12 +7,11 @@ ghost use Rattle.meaning.specs.Image.{Rule, RuleGraph, rule_graph, label};
 ghost use Rattle.meaning.specs.Assigned.{is_variable};
 ghost use Rattle.meaning.specs.declared.Element.{Element};
 ghost use Rattle.plan.specs.Plan.{plan_length, Placed, Items, Planned, IsLaid, For, Labelled, IsRule, edges_at, nodes_at};
-ghost use Rattle.planning.specs.Planning.{Lying, Named, HasGraph, IsNamed, Valued, decided_by, Decides, Plans, operand_decided, Occurring, FirstFound, Sorts, OnlyLabel, AllLabelled, IsLabelled};
+ghost use Rattle.planning.specs.Planning.{LiesAt, ModeAt, PartsOf, Named, HasGraph, IsNamed, Valued, decided_by, Decides, Plans, operand_decided, Occurring, FirstFound, Sorts, OnlyLabel, AllLabelled, IsLabelled};
 
-use fields::Found;
+use fields::{Field, Fields};
 use meaning::tags::Tag;
 use meaning::{Condition, Element, Operand, Room};
-use parts::{Counts, Front};
 use plan::{At, Sorted};
 
 // Whether an element is variable v.
@@ -35,15 +34,13 @@ pub struct Behind {
 fn occurrence(types: &[u8], p: &[u8], v: usize) -> Option<Behind>
     ensures { (r : Rule) → r.variables ≡ types.now → (l : List Element) → label p.now ≡ some l → Occurring r v l result }
 {
-    let mut at: usize = 0;
-    let mut singles: usize = 0;
-    let mut lists: usize = 0;
-    while at < p.len() {
-        let found = fields::read_field(p, at);
-        let Found::Field(tag, start, end) = found else {
+    let mut singles = 0;
+    let mut lists = 0;
+    for field in Fields::of(p) {
+        let Ok(Field { tag, start, end }) = field else {
             return None;
         };
-        let e = parts::reading::read_element(tag, fields::part(p, start, end));
+        let e = parts::reading::read_element(tag, &p[start..end]);
         if is_variable(e, v) {
             return Some(Behind { singles, lists });
         }
@@ -52,7 +49,6 @@ fn occurrence(types: &[u8], p: &[u8], v: usize) -> Option<Behind>
         } else {
             singles += 1;
         }
-        at = end;
     }
     None
 }
@@ -96,7 +92,10 @@ fn decided(plan: &[usize; At::LENGTH], c: Condition) -> usize
     match c {
         Condition::Edge(a, b) => plan::later(a, b) + 1,
         Condition::InDegree(a, _) | Condition::OutDegree(a, _) => a + 1,
-        Condition::Equal(a, b) | Condition::Less(a, b) => plan::later(operand_decided(plan, a), operand_decided(plan, b)),
+        Condition::Equal(a, b) | Condition::Less(a, b) => plan::later(
+            operand_decided(plan, a),
+            operand_decided(plan, b),
+        ),
     }
 }
 
@@ -106,20 +105,17 @@ fn items(rule: &[u8], start: usize, end: usize, plan: &mut [usize; At::LENGTH])
     requires plan_len { length plan.old ≡ plan_length }
     ensures { (g : RuleGraph) → Placed rule_graph rule.now start end g → Items rule.now g plan.new }
 {
-    let graph = fields::part(rule, start, end);
-    let mut at: usize = 0;
-    let mut j: usize = 0;
-    let mut nodes: usize = 0;
-    while at < graph.len() {
-        let found = fields::read_field(graph, at);
-        let Found::Field(tag, s, e) = found else {
+    let graph = &rule[start..end];
+    let mut j = 0;
+    let mut nodes = 0;
+    for field in Fields::of(graph) {
+        let Ok(item) = field else {
             return;
         };
-        plan[At::START + j] = start + s;
-        plan[At::END + j] = start + e;
+        plan[At::START + j] = start + item.start;
+        plan[At::END + j] = start + item.end;
         j += 1;
-        at = e;
-        if tag == Tag::NODE {
+        if item.tag == Tag::NODE {
             nodes += 1;
         }
     }
@@ -135,7 +131,10 @@ fn plan_variables(rule: &[u8], plan: &mut [usize; At::LENGTH])
 {
     let none = First {
         item: plan[At::NODES] + plan[At::EDGES],
-        behind: Behind { singles: 0, lists: 0 },
+        behind: Behind {
+            singles: 0,
+            lists: 0,
+        },
     };
     for v in 0..plan[At::TYPES_END] - plan[At::TYPES_START] {
         let first = first_with(rule, plan, v).unwrap_or(none);
@@ -158,19 +157,15 @@ fn sort_of(types: &[u8], plan: &[usize; At::LENGTH], j: usize, p: &[u8]) -> Sort
     requires { length plan.now ≡ plan_length }
     ensures { (l : List Element) → label p.now ≡ some l → Sorts (length types.now) plan.now j l result }
 {
-    let front = parts::elements::first_element(p);
-    match front {
-        Front::First(e, end) => {
-            if end < p.len() {
-                return Sort::Elements;
-            }
-            match e {
-                Element::Constant(x) => Sort::Constant(x),
-                Element::Variable(v) if v < types.len() && v < Room::VARIABLES && plan[At::FIRST + v] == j => Sort::Length,
-                _ => Sort::Elements,
-            }
-        }
-        Front::Nothing => Sort::Length,
+    let Some((e, end)) = parts::elements::first_element(p) else {
+        return Sort::Length;
+    };
+    match e {
+        _ if end < p.len() => Sort::Elements,
+        Element::Constant(x) => Sort::Constant(x),
+        Element::Variable(v)
+            if v < types.len() && v < Room::VARIABLES && plan[At::FIRST + v] == j => Sort::Length,
+        _ => Sort::Elements,
     }
 }
 
@@ -185,8 +180,7 @@ fn plan_label(rule: &[u8], plan: &mut [usize; At::LENGTH], j: usize)
     let c = parts::elements::shape(kinds, p);
     plan[At::ELEMENTS + j] = c.elements;
     plan[At::LISTS + j] = c.lists;
-    let s = sort_of(kinds, plan, j, p);
-    match s {
+    match sort_of(kinds, plan, j, p) {
         Sort::Length => {
             plan[At::SORT + j] = Sorted::LENGTH;
         }
@@ -214,65 +208,78 @@ fn plan_tests(rule: &[u8], plan: &mut [usize; At::LENGTH])
     requires { IsLabelled rule.now plan.old }
     ensures { (r : Rule) → AllLabelled rule.now r plan.old → Planned rule.now r plan.new }
 {
-    let tests = plan::tests(rule, &*plan);
-    let mut at: usize = 0;
-    let mut t: usize = 0;
-    while at < tests.len() {
-        let found = fields::read_field(tests, at);
-        let Found::Field(tag, s, e) = found else {
+    let tests = plan::tests(rule, plan);
+    let mut t = 0;
+    for field in Fields::of(tests) {
+        let Ok(Field { tag, start, end }) = field else {
             return;
         };
-        let x = parts::reading::read_test(tag, fields::part(tests, s, e));
-        let c = x.condition;
-        let n = decided(plan, c);
-        plan[At::DECIDED + t] = n;
+        let test = parts::reading::read_test(tag, &tests[start..end]);
+        plan[At::DECIDED + t] = decided(plan, test.condition);
         t += 1;
-        at = e;
     }
     plan[At::TESTS] = t;
 }
 
-// Where a part of the rule lies.
-#[derive(Clone, Copy)]
-struct Span {
-    start: usize,
-    end: usize,
+// The field at a place.
+fn place(rule: &[u8], at: usize) -> Option<Field>
+    ensures { LiesAt rule.now at result }
+{
+    fields::read_field(rule, at)?.ok()
 }
 
-// The payload of the field at a place.
-fn place(rule: &[u8], at: usize) -> Span
-    ensures { Lying rule.now at result.start result.end }
+// The mode at a place, 0 if the rule has none.
+fn mode_at(rule: &[u8], at: usize) -> usize
+    ensures { ModeAt rule.now at result }
 {
-    let found = fields::read_field(rule, at);
-    let Found::Field(tag, start, end) = found else {
-        return Span { start: 0, end: 0 };
-    };
-    Span {
-        start: start,
-        end: end,
+    match place(rule, at) {
+        Some(Field { start, end, .. }) => parts::number_at(&rule[start..end], 0),
+        None => 0,
     }
 }
 
-// Makes the plan of a rule, whose parts are read one behind the other.
+// Where the parts of a rule lie that its plan speaks of.
+#[derive(Clone, Copy)]
+struct Parts {
+    types: Field,
+    left: Field,
+    interface: Field,
+    tests: Field,
+}
+
+// They are read one behind the other.
+fn parts_of(rule: &[u8]) -> Option<Parts>
+    ensures { PartsOf rule.now result }
+{
+    let types = place(rule, 0)?;
+    let left = place(rule, types.end)?;
+    let right = place(rule, left.end)?;
+    let interface = place(rule, right.end)?;
+    let tests = place(rule, interface.end)?;
+    Some(Parts {
+        types,
+        left,
+        interface,
+        tests,
+    })
+}
+
+// Makes the plan of a rule.
 pub fn make(rule: &[u8], plan: &mut [usize; At::LENGTH])
     requires rule { IsRule rule.now }
     requires plan_len { length plan.old ≡ plan_length }
     ensures { Plans rule.now plan.new }
 {
-    let types = place(rule, 0);
-    let left = place(rule, types.end);
-    let right = place(rule, left.end);
-    let interface = place(rule, right.end);
-    let tests = place(rule, interface.end);
-    let mode = place(rule, tests.end);
-    let at = interface.start;
-    items(rule, left.start, left.end, plan);
-    plan[At::INTERFACE] = fields::wide(rule[at]);
-    plan[At::TESTS_START] = tests.start;
-    plan[At::TESTS_END] = tests.end;
-    plan[At::TYPES_START] = types.start;
-    plan[At::TYPES_END] = types.end;
-    plan[At::MODE] = parts::number_at(fields::part(rule, mode.start, mode.end), 0);
+    let Some(parts) = parts_of(rule) else {
+        return;
+    };
+    items(rule, parts.left.start, parts.left.end, plan);
+    plan[At::INTERFACE] = usize::from(rule[parts.interface.start]);
+    plan[At::TESTS_START] = parts.tests.start;
+    plan[At::TESTS_END] = parts.tests.end;
+    plan[At::TYPES_START] = parts.types.start;
+    plan[At::TYPES_END] = parts.types.end;
+    plan[At::MODE] = mode_at(rule, parts.tests.end);
     plan_variables(rule, plan);
     plan_labels(rule, plan);
     plan_tests(rule, plan);

@@ -12,4 +12,4 @@ bounds-rule-start c = omega (arith, c.place.ensures, end-there c.requires c.args
 pub returns : goal.returns
 returns c =
     let e = c.place.ensures in
-    λ r l. rw e at c.wide.ensures.0 ∙ sym ((planned-edge l c.args.k (edge-there c.requires)).ends c.args.side)
+    λ r l. rw e at c.from.ensures ∙ sym ((planned-edge l c.args.k (edge-there c.requires)).ends c.args.side)

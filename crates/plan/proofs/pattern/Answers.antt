@@ -1,19 +1,30 @@
 -- `pattern` meets its contract: the label lies behind a node's two bytes or an edge's three.
-use Rattle.std.proofs.Common.{arith}
+use Rattle.std.proofs.Common.{refl, ◌+◌, ◌≤◌, length, get_or}
+use Rattle.plan.specs.Plan.{start_at, end_at}
 use Rattle.plan.specs.Places.{node-inside, edge-inside, item-there, node-pattern, edge-pattern}
 use Rattle.plan.proofs.pattern.Goals as goal
-use Rattle.plan.proofs.pattern.Goals.{then-j-plan, else-j-plan}
+use Rattle.plan.proofs.pattern.Goals.{Joined-j-plan, then-j-plan, else-j-plan}
 
-pub part-requires : goal.part-requires
-part-requires c =
+inside : (c : Joined-j-plan)
+    → (get_or c.args.plan.now (start_at + c.args.j) 0 + c.if-j-plan.head ≤ get_or c.args.plan.now (end_at + c.args.j) 0) × (get_or c.args.plan.now (end_at + c.args.j) 0 ≤ length c.args.rule.now)
+inside c =
     elim c.if-j-plan.branch [
       | then-j-plan w ↦ rw w.head-is (node-inside c.requires w.if-j-plan.true)
       | else-j-plan w ↦ rw w.head-is (edge-inside c.requires w.if-j-plan.false)
     ]
 
+pub slice_bounds-result-count : goal.slice_bounds-result-count
+slice_bounds-result-count c = (inside (goal.at.slice_bounds-result-count c).Joined-j-plan).0
+
+pub slice_bounds-result-start : goal.slice_bounds-result-start
+slice_bounds-result-start c = (inside (goal.at.slice_bounds-result-start c).Joined-j-plan).0
+
+pub slice_bounds-result-end : goal.slice_bounds-result-end
+slice_bounds-result-end c = (inside (goal.at.slice_bounds-result-end c).Joined-j-plan).1
+
 pub returns : goal.returns
 returns c = λ r l.
     elim c.if-j-plan.branch [
-      | then-j-plan w ↦ node-pattern l c.args.j _ w.if-j-plan.true (rw w.head-is at c.part.ensures)
-      | else-j-plan w ↦ edge-pattern l c.args.j _ w.if-j-plan.false (item-there c.requires) (rw w.head-is at c.part.ensures)
+      | then-j-plan w ↦ rw w.head-is (node-pattern l c.args.j _ w.if-j-plan.true refl)
+      | else-j-plan w ↦ rw w.head-is (edge-pattern l c.args.j _ w.if-j-plan.false (item-there c.requires) refl)
     ]

@@ -1,9 +1,6 @@
--- `place` meets its contract: a field that is found lies in the bytes, and one that is not has no payload.
-use Rattle.planning.proofs.Places.{lying_none, lying_there}
+-- `place` meets its contract.
+use Rattle.planning.proofs.Places.{lies-ok}
 use Rattle.planning.proofs.place.Goals as goal
 
-pub returns-in_default : goal.returns-in_default
-returns-in_default c = lying_none _ _ _ c.read_field-found.ensures c.in_default.not-Field
-
 pub returns : goal.returns
-returns c = lying_there _ _ c.read_field-found.ensures c.in-Field.is
+returns c = rw c.ok.ensures.value (lies-ok _ _ c.in_ok-read_field.field-0 c.in_ok-read_field.ensures)

@@ -11,14 +11,14 @@ returns-in-Length c = λ r w.
     let t = c.types-kinds.ensures r w.laid in
     let l = c.pattern-p.ensures r w.laid in
     let k = c.shape-c.ensures.1 r (sym t) _ l in
-    said-length w c.requires.j_bound k t _ (c.sort_of-s.ensures _ l) c.in-Length.is
+    said-length w c.requires.j_bound k t _ (c.sort_of.ensures _ l) c.in-Length.is
 
 pub returns-in-Constant : goal.returns-in-Constant
 returns-in-Constant c = λ r w.
     let t = c.types-kinds.ensures r w.laid in
     let l = c.pattern-p.ensures r w.laid in
     let k = c.shape-c.ensures.1 r (sym t) _ l in
-    said-constant w c.requires.j_bound k t _ (c.sort_of-s.ensures _ l) c.in-Constant.is
+    said-constant w c.requires.j_bound k t _ (c.sort_of.ensures _ l) c.in-Constant.is
 
 pub returns-in-Elements : goal.returns-in-Elements
 returns-in-Elements c = λ r w.

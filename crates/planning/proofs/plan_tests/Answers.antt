@@ -1,41 +1,40 @@
-use Rattle.std.proofs.Common.{◌<◌, arith}
-use Rattle.parts.proofs.Loops.{a-field, no_field, part_in, nearer}
+use Rattle.std.proofs.Common.{◌<◌, refl}
+use Rattle.parts.proofs.Loops.{starts, gives-field, gives-cut, gives-end}
 use Rattle.planning.proofs.Deciding.{deciding_start, deciding_cut, deciding_done, deciding_next, next_low, next-decides}
 use Rattle.planning.proofs.plan_tests.Goals as goal
-use Rattle.planning.proofs.plan_tests.Goals.{After-decided-n}
+use Rattle.planning.proofs.plan_tests.Goals.{After-decided}
 
-low : (c : After-decided-n) → c.loop-at.t < 4
-low c = next_low (c.loop-at.invariant _ c.requires.labelled) c.loop-at-test.true (a-field _ _ c.read_field-found.ensures c.in-Field.is) c.part.ensures c.read_test-x.ensures
+low : (c : After-decided) → c.loop-field.t < 4
+low c =
+    let s = gives-field c.loop-field.invariant.0 c.in-Some.ensures.steps c.in-Ok.is in
+    next_low (c.loop-field.invariant.1 _ c.requires.labelled) s.inside s.lies refl c.read_test-test.ensures
 
-pub loop-at-init : goal.loop-at-init
-loop-at-init c = λ r w. deciding_start w (c.tests-tests.ensures r w.named.laid)
+pub loop-field-init : goal.loop-field-init
+loop-field-init c = let s = starts c.into_iter-field-iterator.ensures.into_iter_gives c.of-field-items.ensures in (s.0, λ r w. rw s.1 (deciding_start w (c.tests-tests.ensures r w.named.laid)))
 
 pub returns-in_default : goal.returns-in_default
-returns-in_default c = λ r w. absurd (deciding_cut (c.loop-at.invariant r w) c.loop-at-test.true (no_field _ _ _ c.read_field-found.ensures c.in_default.not-Field))
+returns-in_default c = λ r w.
+    let s = gives-cut c.loop-field.invariant.0 c.in-Some.ensures.steps c.in_default.is in
+    absurd (deciding_cut (c.loop-field.invariant.1 r w) s.0 s.1)
 
-pub part-requires : goal.part-requires
-part-requires c = part_in (a-field _ _ c.read_field-found.ensures c.in-Field.is)
+pub slice_bounds-read_test-count : goal.slice_bounds-read_test-count
+slice_bounds-read_test-count c = (gives-field c.loop-field.invariant.0 c.in-Some.ensures.steps c.in-Ok.is).part.0
 
-pub decided-n-requires : goal.decided-n-requires
-decided-n-requires c = next-decides (c.loop-at.invariant _ c.requires.labelled) c.loop-at-test.true (a-field _ _ c.read_field-found.ensures c.in-Field.is) c.part.ensures c.read_test-x.ensures
+pub slice_bounds-read_test-start : goal.slice_bounds-read_test-start
+slice_bounds-read_test-start c = (gives-field c.loop-field.invariant.0 c.in-Some.ensures.steps c.in-Ok.is).part.0
 
-pub overflow_add-plan : goal.overflow_add-plan
-overflow_add-plan c = let h = low (goal.at.overflow_add-plan c).After-decided-n in omega arith
+pub slice_bounds-read_test-end : goal.slice_bounds-read_test-end
+slice_bounds-read_test-end c = (gives-field c.loop-field.invariant.0 c.in-Some.ensures.steps c.in-Ok.is).part.1
 
-pub offset_bounds-plan-t : goal.offset_bounds-plan-t
-offset_bounds-plan-t c = let h = low (goal.at.offset_bounds-plan-t c).After-decided-n in omega arith
+pub decided-requires : goal.decided-requires
+decided-requires c =
+    let s = gives-field c.loop-field.invariant.0 c.in-Some.ensures.steps c.in-Ok.is in
+    next-decides (c.loop-field.invariant.1 _ c.requires.labelled) s.inside s.lies refl c.read_test-test.ensures
 
-pub bounds-plan-t : goal.bounds-plan-t
-bounds-plan-t c = let h = low (goal.at.bounds-plan-t c).After-decided-n in omega arith
-
-pub overflow_add-t : goal.overflow_add-t
-overflow_add-t c = let h = low (goal.at.overflow_add-t c).After-decided-n in omega arith
-
-pub loop-at-smaller : goal.loop-at-smaller
-loop-at-smaller c = nearer (a-field _ _ c.read_field-found.ensures c.in-Field.is)
-
-pub loop-at-preserved : goal.loop-at-preserved
-loop-at-preserved c = λ r w. deciding_next (c.loop-at.invariant r w) c.loop-at-test.true (a-field _ _ c.read_field-found.ensures c.in-Field.is) c.part.ensures c.read_test-x.ensures c.decided-n.ensures
+pub loop-field-preserved : goal.loop-field-preserved
+loop-field-preserved c =
+    let s = gives-field c.loop-field.invariant.0 c.in-Some.ensures.steps c.in-Ok.is in
+    (s.same, λ r w. rw s.place (deciding_next (c.loop-field.invariant.1 r w) s.inside s.lies refl c.read_test-test.ensures c.decided.ensures))
 
 pub returns : goal.returns
-returns c = λ r w. deciding_done (c.loop-at.invariant r w) c.loop-at-test.false
+returns c = λ r w. deciding_done (c.loop-field.invariant.1 r w) (gives-end c.loop-field.invariant.0 c.in-None.ensures.steps)
