@@ -2,6 +2,7 @@
 use mathlib.Core.Path.{◌≡◌, refl, sym, ap, ◌∙◌}
 use mathlib.Core.Bool.{Bool, true, false}
 use mathlib.Core.List.{List}
+use Rattle.std.specs.Prelude.{Option as Choice, Some, None}
 use Prim.Native.Nat.{ℕ, ◌+◌, ◌-◌, ◌<◌, ◌≤◌}
 use native.Mathlib.Omega.{arith}
 use native.Mathlib.Decide.{dec_lt}
@@ -16,7 +17,7 @@ use Rattle.fields.specs.Fields.{Found, field_at}
 use Rattle.fields.specs.Laws.{Lies}
 use Rattle.fields.proofs.Finding.{NoField, no_field, tail_part}
 use Rattle.image.specs.declared.Row.{Row}
-use Rattle.image.specs.declared.Row.TheVariants.{Rules, Procedures, Variables, Left, Right, Interface, Conditions, Modes, Nodes, Edges, Tests, Elements, Operands, Sequence, Guarded, One, Nothing}
+use Rattle.image.specs.declared.Row.TheVariants.{Rules, Procedures, Variables, Left, Right, Interface, Conditions, Modes, Nodes, Edges, Tests, Elements, Operands, Sequence, Guarded, One}
 use Rattle.image.specs.Form.{read, passes_of, least_of, most_of, next_of, belonging, met, behind, fits, rank}
 use Rattle.image.proofs.Insides.{is-empty}
 
@@ -100,8 +101,17 @@ module _ {row : Row} {bs : List ℕ} {at n : ℕ} (r : Along row bs at n) {more 
 
 -- Rows one behind the other.
 
-follows : (row : Row) (bs : List ℕ) → behind row bs ≡ fits (next_of row) bs
-unfolding behind met leading both
+-- what the next row says of the bytes: without one there are none
+abbrev pub goes_on : Choice Row → List ℕ → Bool
+goes_on None bs = is_empty bs
+goes_on (Some row) bs = fits row bs
+
+abbrev pub rank_of : Choice Row → ℕ
+rank_of None = 0
+rank_of (Some row) = rank row
+
+follows : (row : Row) (bs : List ℕ) → behind row bs ≡ goes_on (next_of row) bs
+unfolding behind
 follows Rules bs = refl
 follows Procedures bs = refl
 follows Variables bs = refl
@@ -118,68 +128,51 @@ follows Operands bs = refl
 follows (Sequence depth) bs = refl
 follows (Guarded depth) bs = refl
 follows (One depth) bs = refl
-follows Nothing bs = refl
 
-falls : (row : Row) → 0 < most_of row → rank (next_of row) < rank row
-falls Rules h = lit< tt
-falls Procedures h = lit< tt
-falls Variables h = lit< tt
-falls Left h = lit< tt
-falls Right h = lit< tt
-falls Interface h = lit< tt
-falls Conditions h = lit< tt
-falls Modes h = lit< tt
-falls Nodes h = lit< tt
-falls Edges h = lit< tt
-falls Tests h = lit< tt
-falls Elements h = lit< tt
-falls Operands h = lit< tt
-falls (Sequence depth) h = omega arith
-falls (Guarded depth) h = omega arith
-falls (One depth) h = omega arith
-falls Nothing h = absurd (omega arith)
+falls : (row : Row) → rank_of (next_of row) < rank row
+falls Rules = lit< tt
+falls Procedures = lit< tt
+falls Variables = lit< tt
+falls Left = lit< tt
+falls Right = lit< tt
+falls Interface = lit< tt
+falls Conditions = lit< tt
+falls Modes = lit< tt
+falls Nodes = lit< tt
+falls Edges = lit< tt
+falls Tests = lit< tt
+falls Elements = lit< tt
+falls Operands = lit< tt
+falls (Sequence depth) = omega arith
+falls (Guarded depth) = omega arith
+falls (One depth) = omega arith
 
--- no row is left
-done : (row : Row) (bs : List ℕ) → most_of row ≤ 0 → fits row bs ≡ is_empty bs
-unfolding behind met leading both
-done Rules bs h = absurd (omega arith)
-done Procedures bs h = absurd (omega arith)
-done Variables bs h = absurd (omega arith)
-done Left bs h = absurd (omega arith)
-done Right bs h = absurd (omega arith)
-done Interface bs h = absurd (omega arith)
-done Conditions bs h = absurd (omega arith)
-done Modes bs h = absurd (omega arith)
-done Nodes bs h = absurd (omega arith)
-done Edges bs h = absurd (omega arith)
-done Tests bs h = absurd (omega arith)
-done Elements bs h = absurd (omega arith)
-done Operands bs h = absurd (omega arith)
-done (Sequence depth) bs h = absurd (omega arith)
-done (Guarded depth) bs h = absurd (omega arith)
-done (One depth) bs h = absurd (omega arith)
-done Nothing bs h = refl
+-- What is left: the next row, if there is one, and the bytes that it begins.
 
--- What is left: a row, and the bytes that it begins.
+pub record Onto (first : Row) (bs : List ℕ) (next : Choice Row) (rest : List ℕ) : Type 0 where
+  pub lower : rank_of next ≤ rank first
+  pub same : fits first bs ≡ goes_on next rest
 
-pub record Onto (first : Row) (bs : List ℕ) (row : Row) (rest : List ℕ) : Type 0 where
-  pub lower : rank row ≤ rank first
-  pub same : fits first bs ≡ fits row rest
-
-pub onto_start : (first : Row) (bs : List ℕ) → Onto first bs first bs
+pub onto_start : (first : Row) (bs : List ℕ) → Onto first bs (Some first) bs
 onto_start first bs = record { lower = omega arith; same = refl }
 
-module _ {first : Row} {bs : List ℕ} {row : Row} {rest : List ℕ} (w : Onto first bs row rest) where
-  pub onto_bad : fits row rest ≡ false → false ≡ fits first bs
-  onto_bad e = sym (w.same ∙ e)
+module _ {first : Row} {bs : List ℕ} {next : Choice Row} {rest : List ℕ} (w : Onto first bs next rest) where
+  pub onto_done : next ≡ None → eqb (length rest) 0 ≡ fits first bs
+  onto_done e = is-empty rest ∙ sym (w.same ∙ ap (λ (n : Choice Row). goes_on n rest) e)
 
-  module _ {most : ℕ} (m : most ≡ most_of row) where
-    pub onto_done : most ≤ 0 → eqb (length rest) 0 ≡ fits first bs
-    onto_done h = is-empty rest ∙ sym (w.same ∙ done row rest (omega arith))
+  module _ {row : Row} (q : next ≡ Some row) where
+    here : fits first bs ≡ fits row rest
+    here = w.same ∙ ap (λ (n : Choice Row). goes_on n rest) q
 
-    module _ (h : 0 < most) {next : Row} (e : next ≡ next_of row) where
-      pub onto_less : rank next < rank row
-      onto_less = rw e (falls row (omega arith))
+    pub onto_lower : rank row ≤ rank first
+    onto_lower = rw q at w.lower
 
-      pub onto_next : (at : ℕ) → fits row rest ≡ behind row (drop at rest) → Onto first bs next (take (length rest - at) (drop at rest))
-      onto_next at q = record { lower = omega (arith, w.lower, onto_less); same = w.same ∙ q ∙ follows row (drop at rest) ∙ rw (tail_part at rest, e) }
+    pub onto_bad : fits row rest ≡ false → false ≡ fits first bs
+    onto_bad e = sym (here ∙ e)
+
+    module _ {behind_it : Choice Row} (e : behind_it ≡ next_of row) where
+      pub onto_less : rank_of behind_it < rank_of next
+      onto_less = rw (e, q) (falls row)
+
+      pub onto_next : (at : ℕ) → fits row rest ≡ behind row (drop at rest) → Onto first bs behind_it (take (length rest - at) (drop at rest))
+      onto_next at p = record { lower = omega (arith, w.lower, onto_less); same = here ∙ p ∙ follows row (drop at rest) ∙ rw (tail_part at rest, e) }

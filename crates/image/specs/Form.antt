@@ -10,7 +10,7 @@ use Rattle.meaning.specs.declared.Operand.{Operand}
 use Rattle.meaning.specs.declared.Element.{Element}
 use Rattle.meaning.specs.declared.Test.{Test}
 use Rattle.image.specs.declared.Row.{Row}
-use Rattle.image.specs.declared.Row.TheVariants.{Rules, Procedures, Variables, Left, Right, Interface, Conditions, Modes, Nodes, Edges, Tests, Elements, Operands, Sequence, Guarded, One, Nothing}
+use Rattle.image.specs.declared.Row.TheVariants.{Rules, Procedures, Variables, Left, Right, Interface, Conditions, Modes, Nodes, Edges, Tests, Elements, Operands, Sequence, Guarded, One}
 use Rattle.image.specs.declared.Inside.{Inside}
 use Rattle.image.specs.declared.Inside.TheVariants.{Known, From}
 
@@ -33,7 +33,6 @@ Value Operands = Operand
 Value (Sequence depth) = Raw
 Value (Guarded depth) = Raw
 Value (One depth) = Raw
-Value Nothing = ℕ
 
 abbrev pub read : (row : Row) → ℕ → List ℕ → Option (Value row)
 read Rules tag bs = rule bs
@@ -52,42 +51,40 @@ read Operands tag bs = operand tag bs
 read (Sequence depth) tag bs = command depth tag bs
 read (Guarded depth) tag bs = command depth tag bs
 read (One depth) tag bs = command depth tag bs
-read Nothing tag bs = none
 
 -- the row of the main command, and what is in a procedure; 16 is `limits.depth`
 abbrev pub main_row : Row
 main_row = One 16
 
--- What a row takes: the tag of every item (none where any may stand), how many at least and at most, and the row behind it. Rows fall
--- by rank: those in an item, and those behind a row, are below it.
+-- What a row takes: the tag of every item (none where any may stand), how many at least and at most, and the row behind it, if one
+-- follows. Rows fall by rank: those in an item, and those behind a row, are below it.
 pub record Takes : Type 0 where
   pub tag : Choice ℕ
   pub least : ℕ
   pub most : ℕ
-  pub next : Row
+  pub next : Choice Row
   pub rank : ℕ
 
-abbrev takes : Choice ℕ → ℕ → ℕ → Row → ℕ → Takes
+abbrev takes : Choice ℕ → ℕ → ℕ → Choice Row → ℕ → Takes
 takes tag least most next rank = record { tag = tag; least = least; most = most; next = next; rank = rank }
 
 abbrev table : Row → Takes
-table Rules = takes (Some rule_tag) 0 limits.rules Procedures 19
-table Procedures = takes (Some procedure_tag) 0 limits.procedures main_row 18
-table Variables = takes (Some variables_tag) 1 1 Left 9
-table Left = takes (Some left_tag) 1 1 Right 8
-table Right = takes (Some right_tag) 1 1 Interface 7
-table Interface = takes (Some interface_tag) 1 1 Conditions 6
-table Conditions = takes (Some tests_tag) 1 1 Modes 5
-table Modes = takes (Some mode_tag) 0 1 Nothing 1
-table Nodes = takes (Some node_tag) 0 limits.nodes Edges 4
-table Edges = takes (Some edge_tag) 0 limits.edges Nothing 3
-table Tests = takes None 0 limits.tests Nothing 2
-table Elements = takes None 0 limits.elements Nothing 2
-table Operands = takes None 2 2 Nothing 1
-table (Sequence depth) = takes None 1 limits.commands Nothing (suc depth)
-table (Guarded depth) = takes None 3 3 Nothing (suc depth)
-table (One depth) = takes None 1 1 Nothing (suc depth)
-table Nothing = takes None 0 0 Nothing 0
+table Rules = takes (Some rule_tag) 0 limits.rules (Some Procedures) 19
+table Procedures = takes (Some procedure_tag) 0 limits.procedures (Some main_row) 18
+table Variables = takes (Some variables_tag) 1 1 (Some Left) 9
+table Left = takes (Some left_tag) 1 1 (Some Right) 8
+table Right = takes (Some right_tag) 1 1 (Some Interface) 7
+table Interface = takes (Some interface_tag) 1 1 (Some Conditions) 6
+table Conditions = takes (Some tests_tag) 1 1 (Some Modes) 5
+table Modes = takes (Some mode_tag) 0 1 None 1
+table Nodes = takes (Some node_tag) 0 limits.nodes (Some Edges) 4
+table Edges = takes (Some edge_tag) 0 limits.edges None 3
+table Tests = takes None 0 limits.tests None 2
+table Elements = takes None 0 limits.elements None 2
+table Operands = takes None 2 2 None 1
+table (Sequence depth) = takes None 1 limits.commands None (suc depth)
+table (Guarded depth) = takes None 3 3 None (suc depth)
+table (One depth) = takes None 1 1 None (suc depth)
 
 abbrev pub tag_of : Row → Choice ℕ
 tag_of row = (table row).tag
@@ -98,7 +95,7 @@ least_of row = (table row).least
 abbrev pub most_of : Row → ℕ
 most_of row = (table row).most
 
-abbrev pub next_of : Row → Row
+abbrev pub next_of : Row → Choice Row
 next_of row = (table row).next
 
 abbrev pub rank : Row → ℕ
@@ -141,7 +138,6 @@ behind Operands = is_empty
 behind (Sequence depth) = is_empty
 behind (Guarded depth) = is_empty
 behind (One depth) = is_empty
-behind Nothing = is_empty
 
 -- the bytes are a row and those behind it
 abbrev pub fits : Row → List ℕ → Bool

@@ -161,6 +161,5 @@ pub fn inside(row: Row, tag: u8, p: &[u8]) -> Inside
         Row::Elements => element(tag, p),
         Row::Operands => Inside::Known(operand_ok(tag, p)),
         Row::Sequence(depth) | Row::Guarded(depth) | Row::One(depth) => command(tag, p, depth),
-        Row::Nothing => Inside::Known(false),
     }
 }

@@ -40,8 +40,6 @@ pub enum Row {
     Guarded(usize),
     // One command, nested at most so deep: the main command, and what is in a procedure or in a loop.
     One(usize),
-    // No row: nothing follows.
-    Nothing,
 }
 
 // What an item's first bytes say of its form.
@@ -82,9 +80,9 @@ fn item_ok(row: Row, tag: u8, p: &[u8]) -> bool
 fn rows_ok(first: Row, p: &[u8]) -> bool
     ensures { result ≡ fits first p.now }
 {
-    let mut row = first;
+    let mut next = Some(first);
     let mut rest = p;
-    while table::most(row) > 0 {
+    while let Some(row) = next {
         let mut at = 0;
         let mut n = 0;
         while belongs(row, n, rest, at) {
@@ -100,7 +98,7 @@ fn rows_ok(first: Row, p: &[u8]) -> bool
         if n < table::least(row) {
             return false;
         }
-        row = table::next(row);
+        next = table::next(row);
         rest = &rest[at..];
     }
     rest.is_empty()

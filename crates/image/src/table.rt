@@ -1,4 +1,4 @@
-// What each row takes: the tag of its items, how many there are at least and at most, and the row behind it.
+// What each row takes: the tag of its items, how many there are at least and at most, and the row behind it, if one follows.
 ghost use Rattle.std.specs.Prelude.{◌≡◌};
 ghost use Rattle.image.specs.Form.{tag_of, least_of, most_of, next_of};
 
@@ -54,23 +54,22 @@ pub fn most(row: Row) -> usize
         Row::Operands => 2,
         Row::Sequence(_) => Limit::COMMANDS,
         Row::Guarded(_) => 3,
-        Row::Nothing => 0,
         _ => 1,
     }
 }
 
-pub fn next(row: Row) -> Row
+pub fn next(row: Row) -> Option<Row>
     ensures { result ≡ next_of row }
 {
     match row {
-        Row::Rules => Row::Procedures,
-        Row::Procedures => Row::One(Limit::DEPTH),
-        Row::Variables => Row::Left,
-        Row::Left => Row::Right,
-        Row::Right => Row::Interface,
-        Row::Interface => Row::Conditions,
-        Row::Conditions => Row::Modes,
-        Row::Nodes => Row::Edges,
-        _ => Row::Nothing,
+        Row::Rules => Some(Row::Procedures),
+        Row::Procedures => Some(Row::One(Limit::DEPTH)),
+        Row::Variables => Some(Row::Left),
+        Row::Left => Some(Row::Right),
+        Row::Right => Some(Row::Interface),
+        Row::Interface => Some(Row::Conditions),
+        Row::Conditions => Some(Row::Modes),
+        Row::Nodes => Some(Row::Edges),
+        _ => None,
     }
 }

@@ -7,11 +7,11 @@ use Rattle.image.proofs.+item_ok_rows_ok.Goals as goal
 pub rows_ok-loop-tag-init : goal.rows_ok-loop-tag-init
 rows_ok-loop-tag-init t c = along_start _ _
 
-pub rows_ok-returns-in_default : goal.rows_ok-returns-in_default
-rows_ok-returns-in_default t c = onto_bad c.loop-row.invariant (turn-cut c.loop-tag.invariant c.belongs.ensures c.loop-tag-test.true c.read_field.ensures (λ tag start end e. cc))
+pub rows_ok-returns-in_default-read_field : goal.rows_ok-returns-in_default-read_field
+rows_ok-returns-in_default-read_field t c = onto_bad c.loop-next.invariant c.in-Some.is (turn-cut c.loop-tag.invariant c.belongs.ensures c.loop-tag-test.true c.read_field.ensures (λ tag start end e. cc))
 
-pub rows_ok-returns-in_default-2 : goal.rows_ok-returns-in_default-2
-rows_ok-returns-in_default-2 t c = onto_bad c.loop-row.invariant (turn-cut c.loop-tag.invariant c.belongs.ensures c.loop-tag-test.true c.read_field.ensures (λ tag start end e. cc))
+pub rows_ok-returns-in_default-read_field-2 : goal.rows_ok-returns-in_default-read_field-2
+rows_ok-returns-in_default-read_field-2 t c = onto_bad c.loop-next.invariant c.in-Some.is (turn-cut c.loop-tag.invariant c.belongs.ensures c.loop-tag-test.true c.read_field.ensures (λ tag start end e. cc))
 
 pub rows_ok-slice_bounds-item_ok-count : goal.rows_ok-slice_bounds-item_ok-count
 rows_ok-slice_bounds-item_ok-count t c = (part_in (a-field _ _ c.read_field.ensures (c.in-Some-Ok.is ∙ ap Some c.in-Some-Ok.field-0-is))).0
@@ -23,7 +23,7 @@ pub rows_ok-slice_bounds-item_ok-end : goal.rows_ok-slice_bounds-item_ok-end
 rows_ok-slice_bounds-item_ok-end t c = (part_in (a-field _ _ c.read_field.ensures (c.in-Some-Ok.is ∙ ap Some c.in-Some-Ok.field-0-is))).1
 
 pub rows_ok-returns-then-not-item_ok : goal.rows_ok-returns-then-not-item_ok
-rows_ok-returns-then-not-item_ok t c = onto_bad c.loop-row.invariant (turn-bad c.loop-tag.invariant c.belongs.ensures c.loop-tag-test.true (a-field _ _ c.read_field.ensures (c.in-Some-Ok.is ∙ ap Some c.in-Some-Ok.field-0-is)) refl c.item_ok.ensures c.if-not-item_ok.true)
+rows_ok-returns-then-not-item_ok t c = onto_bad c.loop-next.invariant c.in-Some.is (turn-bad c.loop-tag.invariant c.belongs.ensures c.loop-tag-test.true (a-field _ _ c.read_field.ensures (c.in-Some-Ok.is ∙ ap Some c.in-Some-Ok.field-0-is)) refl c.item_ok.ensures c.if-not-item_ok.true)
 
 pub rows_ok-loop-tag-smaller : goal.rows_ok-loop-tag-smaller
 rows_ok-loop-tag-smaller t c = nearer (a-field _ _ c.read_field.ensures (c.in-Some-Ok.is ∙ ap Some c.in-Some-Ok.field-0-is))
@@ -32,10 +32,10 @@ pub rows_ok-loop-tag-preserved : goal.rows_ok-loop-tag-preserved
 rows_ok-loop-tag-preserved t c = turn-next c.loop-tag.invariant c.belongs.ensures c.loop-tag-test.true (a-field _ _ c.read_field.ensures (c.in-Some-Ok.is ∙ ap Some c.in-Some-Ok.field-0-is)) refl c.item_ok.ensures c.if-not-item_ok.false
 
 pub rows_ok-returns-then-n-least : goal.rows_ok-returns-then-n-least
-rows_ok-returns-then-n-least t c = onto_bad c.loop-row.invariant (too_few c.loop-tag.invariant c.belongs.ensures c.loop-tag-test.false c.least.ensures c.if-n-least.true)
+rows_ok-returns-then-n-least t c = onto_bad c.loop-next.invariant c.in-Some.is (too_few c.loop-tag.invariant c.belongs.ensures c.loop-tag-test.false c.least.ensures c.if-n-least.true)
 
-pub rows_ok-loop-row-preserved : goal.rows_ok-loop-row-preserved
-rows_ok-loop-row-preserved t c = onto_next c.loop-row.invariant c.most.ensures c.loop-row-test.true c.next-row.ensures _ (enough c.loop-tag.invariant c.belongs.ensures c.loop-tag-test.false c.least.ensures c.if-n-least.false)
+pub rows_ok-loop-next-preserved : goal.rows_ok-loop-next-preserved
+rows_ok-loop-next-preserved t c = onto_next c.loop-next.invariant c.in-Some.is c.next-next.ensures _ (enough c.loop-tag.invariant c.belongs.ensures c.loop-tag-test.false c.least.ensures c.if-n-least.false)
 
 pub rows_ok-returns : goal.rows_ok-returns
-rows_ok-returns t c = c.is_empty.ensures ∙ onto_done c.loop-row.invariant c.most.ensures c.loop-row-test.false
+rows_ok-returns t c = c.is_empty.ensures ∙ onto_done c.loop-next.invariant c.in_default.is

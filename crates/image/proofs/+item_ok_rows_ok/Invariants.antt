@@ -1,9 +1,9 @@
--- The measure is the rank of the row: what is in an item is below its row. The outer loop's invariant: what is left is a row and
--- the bytes that it begins; its measure is the row's rank. The inner loop's: n items of the row are read, and the definition goes on
+-- The measure is the rank of the row: what is in an item is below its row. The outer loop's invariant: what is left is the next
+-- row and the bytes that it begins; its measure is that row's rank. The inner loop's: n items of the row are read, and the definition goes on
 -- from the place; its measure is what is left of the bytes.
 use Rattle.std.proofs.Common.{◌+◌, ◌-◌, ◌*◌, length}
 use Rattle.image.specs.Form.{rank}
-use Rattle.image.proofs.Walks.{Along, Onto}
+use Rattle.image.proofs.Walks.{Along, Onto, rank_of}
 use Rattle.image.proofs.+item_ok_rows_ok.Given as goal
 
 abbrev pub decreases-item_ok : goal.decreases-item_ok
@@ -18,8 +18,8 @@ invariant-rows_ok-loop-tag l = Along l.row l.rest l.at l.n
 abbrev pub decreases-rows_ok-loop-tag : goal.decreases-rows_ok-loop-tag
 decreases-rows_ok-loop-tag l = length l.rest - l.at
 
-abbrev pub invariant-rows_ok-loop-row : goal.invariant-rows_ok-loop-row
-invariant-rows_ok-loop-row l = Onto l.fn.first l.fn.p l.row l.rest
+abbrev pub invariant-rows_ok-loop-next : goal.invariant-rows_ok-loop-next
+invariant-rows_ok-loop-next l = Onto l.fn.first l.fn.p l.next l.rest
 
-abbrev pub decreases-rows_ok-loop-row : goal.decreases-rows_ok-loop-row
-decreases-rows_ok-loop-row l = rank l.row
+abbrev pub decreases-rows_ok-loop-next : goal.decreases-rows_ok-loop-next
+decreases-rows_ok-loop-next l = rank_of l.next

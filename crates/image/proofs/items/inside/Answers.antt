@@ -1,9 +1,7 @@
 -- `items::inside` meets its contract, row by row.
-use Rattle.std.proofs.Common.{refl, sym, ℕ, arith, lit<}
-use mathlib.Core.Option.{none}
+use Rattle.std.proofs.Common.{sym, arith, lit<}
 use mathlib.Core.Logic.{inl, inr}
 use Rattle.fields.specs.Image.{one_byte_ok}
-use Rattle.image.proofs.Insides.{failed}
 use Rattle.image.proofs.Rows.{rule_fits, one-fits, graph-fits, tests-fit}
 use Rattle.image.proofs.items.inside.Goals as goal
 
@@ -50,6 +48,3 @@ returns-in-Operands c = rw c.in-Operands.is c.operand_ok.ensures
 pub returns-in-Sequence : goal.returns-in-Sequence
 returns-in-Sequence c =
     elim c.in-Sequence.is [ inl e ↦ rw e c.command.ensures | inr h ↦ elim h [ inl e ↦ rw e c.command.ensures | inr e ↦ rw e c.command.ensures ] ]
-
-pub returns-in-Nothing : goal.returns-in-Nothing
-returns-in-Nothing c = rw c.in-Nothing.is (failed {A = ℕ} none refl)
