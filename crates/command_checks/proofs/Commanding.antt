@@ -7,6 +7,7 @@ use mathlib.Core.List.{List, [], ◌∷◌}
 use Prim.Native.Nat.{ℕ, suc, ◌-◌, ◌<◌, ◌≤◌}
 use native.Mathlib.Omega.{arith}
 use lib.ListN.{length, get_or, take, drop}
+use Rattle.std.specs.Prelude.{Option as Known}
 use Rattle.std.specs.Prelude.{◌&&◌}
 use Rattle.std.specs.List.{list_all}
 use Rattle.meaning.specs.Basics.{both, every, is_empty, ensure, ◌>>◌, ◌>>=◌}
@@ -22,7 +23,7 @@ use Rattle.command_checks.proofs.Demands.{nothing-stands}
 
 -- A command by its tag.
 
-sequence-parts : (d : Demand) (t : List ℕ) (l : List Raw) → parts_asked d d t l ≡ commands_asked d t (in_order l)
+sequence-parts : (d : Demand) (t : List (Known ℕ)) (l : List Raw) → parts_asked d d t l ≡ commands_asked d t (in_order l)
 unfolding parts_asked commands_asked in_order
 sequence-parts d t [] = refl
 sequence-parts d t (c ∷ l) = ap (both (command_asked d t c)) (sequence-parts d t l)
@@ -31,14 +32,14 @@ empty-parts : (n : ℕ) → only passes_all (command n) 16 [] ≡ some []
 unfolding only leading ◌>>=◌ ensure ◌>>◌ is_empty
 empty-parts n = refl
 
-module _ (d : Demand) (t : List ℕ) (n tag : ℕ) (bs : List ℕ) where
+module _ (d : Demand) (t : List (Known ℕ)) (n tag : ℕ) (bs : List ℕ) where
   pub no-depth : (r : Bool) → n ≡ 0 → For (command n tag bs) (λ c. r ≡ command_asked d t c)
   no-depth r h c e = absurd (omega (arith, (command-tag n tag bs c e).0))
 
   pub no_room : room_asked d ≡ false → For (command n tag bs) (λ c. false ≡ command_asked d t c)
   no_room h c e = sym (nothing-stands d t h c)
 
-module _ (d : Demand) (t : List ℕ) (n tag : ℕ) (bs : List ℕ) (r : Bool) (room : room_asked d ≡ true) where
+module _ (d : Demand) (t : List (Known ℕ)) (n tag : ℕ) (bs : List ℕ) (r : Bool) (room : room_asked d ≡ true) where
   -- besides, there is room
   besides : (b : Bool) → r ≡ b → r ≡ both (room_asked d) b
   besides b q = q ∙ sym (both_yes (room_asked d) b room)
@@ -104,7 +105,7 @@ module _ (d : Demand) (t : List ℕ) (n tag : ℕ) (bs : List ℕ) (r : Bool) (r
         at (call i) e k = absurd (h8 k)
 
 -- the same at a depth that is not 0
-module _ (d : Demand) (t : List ℕ) (depth tag : ℕ) (bs : List ℕ) (r : Bool) (h : depth ≡ 0 → ⊥) (room : room_asked d ≡ true) where
+module _ (d : Demand) (t : List (Known ℕ)) (depth tag : ℕ) (bs : List ℕ) (r : Bool) (h : depth ≡ 0 → ⊥) (room : room_asked d ≡ true) where
   deeper : (c : Raw) → command depth tag bs ≡ some c → command (suc (depth - 1)) tag bs ≡ some c
   deeper c e =
       let z : suc (depth - 1) ≡ depth = omega arith in
@@ -128,13 +129,13 @@ module _ (d : Demand) (t : List ℕ) (depth tag : ℕ) (bs : List ℕ) (r : Bool
 
 -- Commands one after the other: what is asked from the place on is what is asked of all.
 
-pub record Parting (first others : Demand) (t : List ℕ) (n : ℕ) (bs : List ℕ) (at : ℕ) (d : Demand) : Type 0 where
+pub record Parting (first others : Demand) (t : List (Known ℕ)) (n : ℕ) (bs : List ℕ) (at : ℕ) (d : Demand) : Type 0 where
   pub left : For (only passes_all (command n) 16 bs) (λ l. (m : List Raw) × (Series (command n) m [] (drop at bs)) × (parts_asked first others t l ≡ parts_asked d others t m))
 
-pub parting_start : (first others : Demand) (t : List ℕ) (n : ℕ) (bs : List ℕ) → Parting first others t n bs 0 first
+pub parting_start : (first others : Demand) (t : List (Known ℕ)) (n : ℕ) (bs : List ℕ) → Parting first others t n bs 0 first
 parting_start first others t n bs = record { left = λ l e. (l, only-series passes_all (command n) (command n) (λ t b a p x. x) 16 bs l e, refl) }
 
-module _ {first others : Demand} {t : List ℕ} {n : ℕ} {bs : List ℕ} {at : ℕ} {d : Demand} (w : Parting first others t n bs at d) where
+module _ {first others : Demand} {t : List (Known ℕ)} {n : ℕ} {bs : List ℕ} {at : ℕ} {d : Demand} (w : Parting first others t n bs at d) where
   pub parting_done : length bs ≤ at → For (only passes_all (command n) 16 bs) (λ l. true ≡ parts_asked first others t l)
   unfolding parts_asked
   parting_done h l e =

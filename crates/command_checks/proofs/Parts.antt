@@ -4,6 +4,7 @@ use mathlib.Core.Bool.{Bool, true}
 use mathlib.Core.List.{List, [], ◌∷◌, ◌++◌, map}
 use Prim.Native.Nat.{ℕ}
 use native.Mathlib.Omega.{arith}
+use Rattle.std.specs.Prelude.{Option as Known}
 use Rattle.meaning.specs.Basics.{both, every}
 use Rattle.meaning.specs.Image.{Rule, RawProgram, limits, command}
 use Rattle.meaning.specs.Procedures.{everywhere}
@@ -14,7 +15,7 @@ use Rattle.parts.specs.Images.{Part, rule_of, procedure_of, main_of, procedure, 
 use Rattle.command_checks.specs.declared.Demand.{Demand}
 use Rattle.command_checks.specs.Asked.{command_asked, part_asked}
 
-module _ (d : Demand) (t : List ℕ) where
+module _ (d : Demand) (t : List (Known ℕ)) where
   rules_pass : (xs : List Rule) (l : List Part) → every (part_asked d t) (map rule_of xs ++ l) ≡ every (part_asked d t) l
   unfolding part_asked every both
   rules_pass [] l = refl

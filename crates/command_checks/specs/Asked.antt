@@ -1,7 +1,7 @@
 -- What is asked of each command and of each part of an image, for a demand. `t` are the heights of the procedures: how deep each
--- one's command is with procedures put in for calls, 0 where that is not known. Rests on the meaning's Image and Tags and on parts'
+-- one's command is with procedures put in for calls, where that is known. Rests on the meaning's Image and Tags and on parts'
 -- Images.
-use Rattle.std.specs.Prelude.{Bool, true, false, List, [], ◌∷◌, ℕ, ◌-◌, eqb, ltb, get_or, drop}
+use Rattle.std.specs.Prelude.{Bool, true, false, Option, Some, None, List, [], ◌∷◌, ℕ, ◌-◌, eqb, ltb, get_or, drop}
 use Rattle.meaning.specs.Basics.{choose, both, every}
 use Rattle.meaning.specs.Image.{Raw, rule_set, sequence, guarded, loop, skip, fail, break, call, Raws, no_more, then}
 use Rattle.meaning.specs.Tags.{loop_tag, sequence_tag, guarded_tag}
@@ -25,11 +25,16 @@ break_asked (Names n m) = true
 break_asked (Breaks ok) = ok
 break_asked (Depth n) = true
 
--- a height that is not known is too high, and a procedure that there is not stands for skip
-unfoldable pub call_asked : Demand → List ℕ → ℕ → Bool
+-- a height is below n; one that is not known is too high
+unfoldable pub is_low : ℕ → Option ℕ → Bool
+is_low n None = false
+is_low n (Some h) = ltb h n
+
+-- a procedure that there is not stands for skip
+unfoldable pub call_asked : Demand → List (Option ℕ) → ℕ → Bool
 call_asked (Names n m) t i = ltb i m
 call_asked (Breaks ok) t i = true
-call_asked (Depth n) t i = both (ltb 0 (get_or t i 1)) (ltb (get_or t i 1) n)
+call_asked (Depth n) t i = is_low n (get_or t i (Some 1))
 
 -- what is asked of the parts of a command
 abbrev pub inside : Demand → Demand
@@ -44,7 +49,7 @@ breaking (Breaks ok) may = Breaks may
 breaking (Depth n) may = Depth n
 
 unfoldable mutual
-  pub command_asked : Demand → List ℕ → Raw → Bool
+  pub command_asked : Demand → List (Option ℕ) → Raw → Bool
   command_asked d t (rule_set l) = both (room_asked d) (numbers_asked d l)
   command_asked d t (sequence cs) = both (room_asked d) (commands_asked (inside d) t cs)
   command_asked d t (guarded keep g a b) =
@@ -56,12 +61,12 @@ unfoldable mutual
   command_asked d t break = both (room_asked d) (break_asked d)
   command_asked d t (call i) = both (room_asked d) (call_asked d t i)
 
-  pub commands_asked : Demand → List ℕ → Raws → Bool
+  pub commands_asked : Demand → List (Option ℕ) → Raws → Bool
   commands_asked d t no_more = true
   commands_asked d t (then c cs) = both (command_asked d t c) (commands_asked d t cs)
 
 -- what is asked of the first of some commands, and of the others
-unfoldable pub parts_asked : Demand → Demand → List ℕ → List Raw → Bool
+unfoldable pub parts_asked : Demand → Demand → List (Option ℕ) → List Raw → Bool
 parts_asked first others t [] = true
 parts_asked first others t (c ∷ l) = both (command_asked first t c) (parts_asked others others t l)
 
@@ -75,7 +80,7 @@ unfoldable pub inner_of : ℕ → List ℕ → List ℕ
 inner_of tag bs = choose (eqb tag guarded_tag) (drop 1 bs) bs
 
 -- what is asked of a part of an image: of a rule nothing
-unfoldable pub part_asked : Demand → List ℕ → Part → Bool
+unfoldable pub part_asked : Demand → List (Option ℕ) → Part → Bool
 part_asked d t (rule_of x) = true
 part_asked d t (procedure_of c) = command_asked d t c
 part_asked d t (main_of tag c) = command_asked d t c

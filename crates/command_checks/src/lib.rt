@@ -4,7 +4,7 @@
 // no call is followed.
 #![tactic(auto)]
 
-ghost use Rattle.std.specs.Prelude.{◌≡◌, true, ◌<◌, ltb, length, get_or};
+ghost use Rattle.std.specs.Prelude.{◌≡◌, true, Some, ◌<◌, ltb, length, get_or};
 ghost use Rattle.meaning.specs.Basics.{every};
 ghost use Rattle.meaning.specs.Image.{limits, only, passes_all, command, Raw, raw_program};
 ghost use Rattle.meaning.specs.Procedures.{everywhere, depth_holds};
@@ -62,25 +62,22 @@ fn break_holds(demand: Demand) -> bool
     !matches!(demand, Demand::Breaks(false))
 }
 
-// How deep the procedure of number i is, 0 where that is not known; one that there is not stands for skip.
-fn height(heights: &[u8], i: usize) -> u8
-    ensures { result ≡ get_or heights.now i 1 }
+// How deep the procedure of number i is, where that is known; one that there is not stands for skip.
+fn height(heights: &[Option<u8>], i: usize) -> Option<u8>
+    ensures { result ≡ get_or heights.now i (Some 1) }
 {
-    heights.get(i).copied().unwrap_or(1)
+    heights.get(i).copied().unwrap_or(Some(1))
 }
 
 // A call of procedure i; the call itself is one level.
-#[tactic(auto, unfolding(crate::specs::Asked::call_asked, meaning::specs::Basics::both))]
-fn call_holds(demand: Demand, heights: &[u8], i: usize) -> bool
+#[tactic(auto, unfolding(crate::specs::Asked::call_asked, crate::specs::Asked::is_low))]
+fn call_holds(demand: Demand, heights: &[Option<u8>], i: usize) -> bool
     ensures { result ≡ call_asked demand heights.now i }
 {
     match demand {
         Demand::Names(_, m) => i < m,
         Demand::Breaks(_) => true,
-        Demand::Depth(n) => {
-            let h = usize::from(height(heights, i));
-            h > 0 && h < n
-        }
+        Demand::Depth(n) => height(heights, i).is_some_and(|h| usize::from(h) < n),
     }
 }
 
@@ -132,7 +129,7 @@ fn inner(tag: u8, p: &[u8]) -> &[u8]
 
 // A command, nested at most `depth` deep, from its tag and payload.
 #[cycle(command_holds_commands_hold)]
-fn command_holds(demand: Demand, heights: &[u8], tag: u8, p: &[u8], depth: usize) -> bool
+fn command_holds(demand: Demand, heights: &[Option<u8>], tag: u8, p: &[u8], depth: usize) -> bool
     ensures { For (command depth tag p.now) (λ c. result ≡ command_asked demand heights.now c) }
 {
     if depth == 0 {
@@ -160,7 +157,13 @@ fn command_holds(demand: Demand, heights: &[u8], tag: u8, p: &[u8], depth: usize
 
 // Commands one after the other: what is asked of the first, and of the others.
 #[cycle(command_holds_commands_hold)]
-fn commands_hold(first: Demand, others: Demand, heights: &[u8], p: &[u8], depth: usize) -> bool
+fn commands_hold(
+    first: Demand,
+    others: Demand,
+    heights: &[Option<u8>],
+    p: &[u8],
+    depth: usize,
+) -> bool
     ensures { For (only passes_all (command depth) limits.commands p.now) (λ l. result ≡ parts_asked first others heights.now l) }
 {
     let mut demand = first;
@@ -177,7 +180,7 @@ fn commands_hold(first: Demand, others: Demand, heights: &[u8], p: &[u8], depth:
 }
 
 // A procedure, from its payload: its command is its first field.
-fn body_holds(demand: Demand, heights: &[u8], p: &[u8]) -> bool
+fn body_holds(demand: Demand, heights: &[Option<u8>], p: &[u8]) -> bool
     ensures { For (procedure p.now) (λ c. result ≡ command_asked demand heights.now c) }
 {
     command_holds(
@@ -190,14 +193,14 @@ fn body_holds(demand: Demand, heights: &[u8], p: &[u8]) -> bool
 }
 
 // The procedure of a number.
-fn procedure_holds(demand: Demand, heights: &[u8], image: &[u8], i: usize) -> bool
+fn procedure_holds(demand: Demand, heights: &[Option<u8>], image: &[u8], i: usize) -> bool
     ensures { For (raw_program image.now) (λ p. i < length p.procedures → (d : Raw) → result ≡ command_asked demand heights.now (get_or p.procedures i d)) }
 {
     body_holds(demand, heights, parts::procedure_part(image, i))
 }
 
 // A procedure of the image, or its main command; of a rule nothing is asked here.
-fn part_holds(demand: Demand, heights: &[u8], tag: u8, p: &[u8]) -> bool
+fn part_holds(demand: Demand, heights: &[Option<u8>], tag: u8, p: &[u8]) -> bool
     ensures { For (image_part tag p.now) (λ i. result ≡ part_asked demand heights.now i) }
 {
     match tag {
@@ -208,7 +211,7 @@ fn part_holds(demand: Demand, heights: &[u8], tag: u8, p: &[u8]) -> bool
 }
 
 // Every procedure, called or not, and the main command.
-fn all_hold(demand: Demand, heights: &[u8], image: &[u8]) -> bool
+fn all_hold(demand: Demand, heights: &[Option<u8>], image: &[u8]) -> bool
     ensures { For (raw_program image.now) (λ p. result ≡ everywhere (command_asked demand heights.now) p) }
 {
     for field in Fields::of(image) {
@@ -228,14 +231,14 @@ pub fn names_exist(image: &[u8]) -> bool
 {
     let rules = parts::rule_count(image);
     let procedures = parts::procedure_count(image);
-    all_hold(Demand::Names(rules, procedures), &image[..0], image)
+    all_hold(Demand::Names(rules, procedures), &[], image)
 }
 
 // Placement of break.
 pub fn breaks_lie(image: &[u8]) -> bool
     ensures { For (raw_program image.now) (λ p. result ≡ placement p) }
 {
-    all_hold(Demand::Breaks(false), &image[..0], image)
+    all_hold(Demand::Breaks(false), &[], image)
 }
 
 // With procedures put in for calls, commands are nested as deep as they may be; where calls form a ring they are not.
@@ -246,6 +249,6 @@ pub fn depth_holds(image: &[u8]) -> bool
     if count > Limit::PROCEDURES {
         return false;
     }
-    let mut heights = [0; Limit::PROCEDURES];
+    let mut heights = [None; Limit::PROCEDURES];
     rounds::depth_fits(image, &mut heights[..count])
 }

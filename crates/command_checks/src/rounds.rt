@@ -10,21 +10,18 @@ use crate::Demand;
 use meaning::tags::Limit;
 
 // The height of procedure i after round n: n where it was not known and the procedure is at most n deep, else as it was.
-fn raised(image: &[u8], heights: &[u8], i: usize, n: u8) -> u8
+fn raised(image: &[u8], heights: &[Option<u8>], i: usize, n: u8) -> Option<u8>
     ensures { For (raw_program image.now) (λ p. Heights p.procedures (n - 1) heights.now → i < length p.procedures → Height p.procedures n result (get_or p.procedures i skip)) }
 {
-    let h = crate::height(heights, i);
-    if h > 0 {
-        h
-    } else if crate::procedure_holds(Demand::Depth(usize::from(n)), heights, image, i) {
-        n
-    } else {
-        0
+    let asked = Demand::Depth(usize::from(n));
+    match crate::height(heights, i) {
+        None => crate::procedure_holds(asked, heights, image, i).then_some(n),
+        known => known,
     }
 }
 
 // Round n. Heights that it has found stand among the others: a call in this round has no room for them.
-fn raise(image: &[u8], heights: &mut [u8], n: u8)
+fn raise(image: &[u8], heights: &mut [Option<u8>], n: u8)
     ensures { For (raw_program image.now) (λ p. Heights p.procedures (n - 1) heights.old → Heights p.procedures n heights.new) }
 {
     for i in 0..heights.len() {
@@ -32,8 +29,8 @@ fn raise(image: &[u8], heights: &mut [u8], n: u8)
     }
 }
 
-// Whether the depth limit holds. `heights` has a zero for each procedure, and is written over.
-pub fn depth_fits(image: &[u8], heights: &mut [u8]) -> bool
+// Whether the depth limit holds. `heights` has a place for each procedure, where none is known yet, and is written over.
+pub fn depth_fits(image: &[u8], heights: &mut [Option<u8>]) -> bool
     ensures { For (raw_program image.now) (λ p. Heights p.procedures 0 heights.old → result ≡ depth_holds p) }
 {
     for n in 1..Limit::DEPTH {

@@ -1,18 +1,16 @@
 -- `raised` meets its contract.
-use Rattle.std.proofs.Common.{◌∙◌, ◌-◌, arith}
+use Rattle.std.proofs.Common.{◌-◌, sym, arith}
 use Rattle.meaning.specs.Image.{skip}
 use Rattle.command_checks.proofs.Demands.{put-asked}
-use Rattle.command_checks.proofs.Raising.{now-known, still_unknown}
+use Rattle.command_checks.proofs.Raising.{asked-height, still-known}
 use Rattle.command_checks.proofs.rounds.raised.Goals as goal
 
-pub returns-then-procedure_holds : goal.returns-then-procedure_holds
-returns-then-procedure_holds c p e w h =
+pub returns-in-None : goal.returns-in-None
+returns-in-None c p e w h =
     let a = c.args in
-    now-known p.procedures (a.n - 1) a.n _ (omega arith) ((w.height a.i).beyond (omega (arith, c.height-h.ensures)))
-    (put-asked p.procedures (a.n - 1) a.heights.now w c.from.result a.n (omega arith) (omega arith) _ _ (c.procedure_holds.ensures p e h skip) ∙ c.if-procedure_holds.true)
+    rw c.then_some.ensures
+    (asked-height p.procedures (a.n - 1) a.n _ _ (sym c.in-None.ensures) (omega arith) (w.height a.i) _
+    (put-asked p.procedures (a.n - 1) a.heights.now w c.from.result a.n (omega arith) (omega arith) _ _ (c.procedure_holds.ensures p e h skip)))
 
-pub returns-else-procedure_holds : goal.returns-else-procedure_holds
-returns-else-procedure_holds c p e w h =
-    let a = c.args in
-    still_unknown p.procedures a.n _
-    (put-asked p.procedures (a.n - 1) a.heights.now w c.from.result a.n (omega arith) (omega arith) _ _ (c.procedure_holds.ensures p e h skip) ∙ c.if-procedure_holds.false)
+pub returns-in_default : goal.returns-in_default
+returns-in_default c p e w h = still-known p.procedures (c.args.n - 1) c.args.n _ _ c.in_default.not-None (rw c.height.ensures (w.height c.args.i))
