@@ -1,11 +1,14 @@
 -- Each way out of the reader says what the definition reads. Rests on Carried and on run_input's Reading.
-use mathlib.Core.Path.{◌≡◌}
+use mathlib.Core.Path.{◌≡◌, refl}
+use mathlib.Core.Bool.{Bool, true, false}
 use mathlib.Core.Option.{some, none}
 use mathlib.Core.List.{List}
 use Prim.Native.Nat.{ℕ, ◌<◌, ◌≤◌}
-use borrow.Author.Tests.{le-leb, lt-leb}
+use borrow.Author.Tests.{leb-true, leb-false, le-leb, lt-leb}
+use lib.Dec.{leb}
 use lib.ListN.{length, drop, drop_of_length-le}
 use lib.Seq.{drop-cons}
+use Rattle.std.specs.Bool.{then_some}
 use Rattle.meaning.specs.Basics.{is_empty, ensure, ◌>>◌, ◌>>=◌}
 use Rattle.meaning.specs.Image.{expect}
 use Rattle.meaning.specs.declared.Layout.{Layout}
@@ -13,6 +16,7 @@ use Rattle.run_input.specs.Input.{nodes_tag, edges_tag, most_input}
 use Rattle.run_input.specs.Reading.{field_in, Expected}
 use Rattle.writing.specs.Words.{letters}
 use Rattle.writing.specs.Text.{Lists}
+use Rattle.carrier.specs.Finding.{Finds}
 use Rattle.carrier.specs.Carried.{tables_in, carried_text, carried_tables, printed, carried_input}
 
 -- What is read.
@@ -33,7 +37,7 @@ module _ (bs : List ℕ) where
       no_edges q = rw (le-leb (length bs) most_input h, n.is, q)
 
       module _ {end : ℕ} (e : Expected bs middle edges_tag end) where
-        pub behind : end < length bs → tables_in bs ≡ none
+        behind : end < length bs → tables_in bs ≡ none
         unfolding tables_in is_empty ensure ◌>>◌ ◌>>=◌
         behind i = rw (le-leb (length bs) most_input h, n.is, e.is, drop-cons bs end 0 i)
 
@@ -41,6 +45,13 @@ module _ (bs : List ℕ) where
             → tables_in bs ≡ some (record { nodes = (field_in bs nodes_tag 0 middle).payload; edges = (field_in bs edges_tag middle end).payload })
         unfolding tables_in is_empty ensure ◌>>◌ ◌>>=◌
         both_read i = rw (le-leb (length bs) most_input h, n.is, e.is, drop_of_length-le bs {i = end} i)
+
+        pub found : Finds bs (then_some (leb (length bs) end) (middle, end))
+        found = told (leb (length bs) end) refl
+          where
+            told : (t : Bool) → leb (length bs) end ≡ t → Finds bs (then_some t (middle, end))
+            told true q = record { small = h; nodes = n; edges = e; whole = leb-true (length bs) end q }
+            told false q = behind (leb-false (length bs) end q)
 
 -- What is printed.
 

@@ -1,4 +1,5 @@
 pub mod Carried
 pub mod Rooms
+pub mod Finding
 pub mod Laws
 pub mod Back

@@ -13,9 +13,10 @@ ghost use Rattle.writing.specs.Lines.{line};
 ghost use Rattle.writing.specs.Text.{Adds, Lists};
 ghost use Rattle.carrier.specs.Carried.{table_fields, length_for, carried_text, carried_tables, carried_input};
 ghost use Rattle.carrier.specs.Rooms.{field_size, InputOf, Between};
+ghost use Rattle.carrier.specs.Finding.{Finds};
 
 use meaning::{Layout, Manner};
-use run_input::{Place, RunImage};
+use run_input::RunImage;
 use writing::put;
 
 // Writing.
@@ -25,10 +26,9 @@ fn put_field(out: &mut [u8], at: usize, tag: u8, payload: &[u8]) -> usize
     requires { at + field_size (length payload.now) ≤ length out.old }
     ensures { Adds (field_size (length payload.now)) (field_bytes tag payload.now) out.old at out.new result }
 {
-    let tags = [tag];
     let mut size = [0u8; 2];
     slots::bytes::put_number(&mut size, payload.len());
-    let second = put(out, at, &tags);
+    let second = put(out, at, &[tag]);
     let start = put(out, second, &size);
     put(out, start, payload)
 }
@@ -68,11 +68,7 @@ fn length_for(table: &[u8], w: usize, v: usize, most: usize) -> usize
     requires { (0 < w) × (most * v ≤ most_input) }
     ensures { (result ≡ length_for w table.now v most) × (result ≤ most * v) }
 {
-    let n = table.len() / w;
-    if n < most {
-        return n * v;
-    }
-    most * v
+    (table.len() / w).min(most) * v
 }
 
 // Carries to tables that are lent and zeroed first, and writes what comes of it.
@@ -95,9 +91,10 @@ fn carry_to(
     let answer = carrying::carry_tables(Manner::Exact, from, to, nodes, edges, to_nodes, to_edges);
     let number = answers::answer_number(answer) as usize;
     if number == 0 {
-        return put_tables(&to_nodes[..], &to_edges[..], out);
+        put_tables(to_nodes, to_edges, out)
+    } else {
+        put_refused(number, out)
     }
-    put_refused(number, out)
 }
 
 // Carries tables, and writes what comes of it.
@@ -121,25 +118,27 @@ fn carry_parts(from: Layout, to: Layout, nodes: &[u8], edges: &[u8], out: &mut [
     )
 }
 
+// Where the payloads of the two fields of an input end: each once in order, and nothing behind.
+fn find_tables(input: &[u8]) -> Option<(usize, usize)>
+    ensures { Finds input.now result }
+{
+    if input.len() > RunImage::MOST {
+        return None;
+    }
+    let middle = run_input::expect(input, 0, RunImage::NODES)?;
+    let end = run_input::expect(input, middle, RunImage::EDGES)?;
+    (end >= input.len()).then_some((middle, end))
+}
+
 // Carries the tables of an input, and says how long what is printed is.
 fn carry_input(from: Layout, to: Layout, input: &[u8], out: &mut [u8]) -> usize
     requires between { Between from to }
     requires most_input_in_bounds { most_input ≤ length out.old }
     ensures { Lists (carried_input from to input.now) out.old out.new result }
 {
-    let len = input.len();
-    if len > RunImage::MOST {
-        return put_no_input(out);
-    }
-    let Place::Until(middle) = run_input::expect(input, 0, RunImage::NODES) else {
+    let Some((middle, end)) = find_tables(input) else {
         return put_no_input(out);
     };
-    let Place::Until(end) = run_input::expect(input, middle, RunImage::EDGES) else {
-        return put_no_input(out);
-    };
-    if end < len {
-        return put_no_input(out);
-    }
     let nodes = run_input::payload(input, 0, middle);
     let edges = run_input::payload(input, middle, end);
     carry_parts(from, to, nodes, edges, out)
