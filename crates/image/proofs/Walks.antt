@@ -2,11 +2,13 @@
 use mathlib.Core.Path.{◌≡◌, refl, sym, ap, ◌∙◌}
 use mathlib.Core.Bool.{Bool, true, false}
 use mathlib.Core.List.{List}
-use Rattle.std.specs.Prelude.{Option as Choice, Some, None}
+use Rattle.std.specs.Prelude.{Option as Choice, Some, None, Result, Ok}
+use Rattle.fields.specs.declared.Field.{Field}
+use Rattle.fields.specs.declared.CutShort.{CutShort}
 use Prim.Native.Nat.{ℕ, ◌+◌, ◌-◌, ◌<◌, ◌≤◌}
 use native.Mathlib.Omega.{arith}
 use native.Mathlib.Decide.{dec_lt}
-use borrow.Author.Tests.{lt-ltb, le-ltb, ltb-true, le-leb, lt-leb}
+use borrow.Author.Tests.{lt-ltb, ltb-true, le-leb, lt-leb}
 use lib.Dec.{eqb, leb, ltb, lit<}
 use lib.ListN.{length, get_or, take, drop}
 use Rattle.meaning.specs.Basics.{both, is_empty, is_some}
@@ -15,27 +17,15 @@ use Rattle.meaning.specs.Laws.Tests.{both-no, both_yes, both_true, is_some_true}
 use Rattle.fields.specs.Image.{Reading, stopped, reading-start, reading-full, reading-end, reading-other, reading-cut, reading-bad, reading-next, is_some_false}
 use Rattle.fields.specs.Fields.{Found, field_at}
 use Rattle.fields.specs.Laws.{Lies}
-use Rattle.fields.proofs.Finding.{NoField, no_field, tail_part}
+use Rattle.fields.proofs.Finding.{NoField, no_field, a-field, tail_part}
 use Rattle.image.specs.declared.Row.{Row}
 use Rattle.image.specs.declared.Row.TheVariants.{Rules, Procedures, Variables, Left, Right, Interface, Conditions, Modes, Nodes, Edges, Tests, Elements, Operands, Sequence, Guarded, One}
 use Rattle.image.specs.Form.{read, passes_of, least_of, most_of, next_of, belonging, met, behind, fits, rank}
 use Rattle.image.proofs.Insides.{is-empty}
 
--- One more item.
-
-module _ (row : Row) (n : ℕ) (bs : List ℕ) (at : ℕ) where
-  pub no_byte : length bs ≤ at → false ≡ belonging row n bs at
-  unfolding belonging
-  no_byte h = sym (both-no _ _ (le-ltb at _ h))
-
-  module _ (h : at < length bs) {most : ℕ} (m : most ≡ most_of row) where
-    pub no_room : most ≤ n → false ≡ belonging row n bs at
-    unfolding belonging
-    no_room k = sym (both_yes _ _ (lt-ltb at _ h) ∙ both-no _ _ (le-ltb n _ (omega arith)))
-
-    pub room : n < most → {b : Bool} → b ≡ passes_of row (get_or bs at 0) → b ≡ belonging row n bs at
-    unfolding belonging
-    room k e = e ∙ sym (both_yes _ _ (lt-ltb at _ h) ∙ both_yes _ _ (lt-ltb n _ (omega arith)))
+-- what was found is a field, as a match on it says: where it lies
+pub lying : (bs : List ℕ) (at : ℕ) {f : Found} {x : Result Field CutShort} {g : Field} → f ≡ field_at bs at → f ≡ Some x → x ≡ Ok g → Lies bs at g.tag g.start g.end
+lying bs at e p q = a-field bs at e (p ∙ ap Some q)
 
 -- A row that is read up to a place.
 
@@ -55,7 +45,7 @@ module _ {row : Row} {bs : List ℕ} {at n : ℕ} (r : Along row bs at n) {more 
     unfolding belonging
     others = (both_true (ltb at (length bs)) _ (sym q ∙ m)).1
 
-    pub space : n < most_of row
+    space : n < most_of row
     space = ltb-true n _ (both_true (ltb n (most_of row)) _ others).0
 
     passes : passes_of row (get_or bs at 0) ≡ true
@@ -153,9 +143,6 @@ pub record Onto (first : Row) (bs : List ℕ) (next : Choice Row) (rest : List �
   pub lower : rank_of next ≤ rank first
   pub same : fits first bs ≡ goes_on next rest
 
-pub onto_start : (first : Row) (bs : List ℕ) → Onto first bs (Some first) bs
-onto_start first bs = record { lower = omega arith; same = refl }
-
 module _ {first : Row} {bs : List ℕ} {next : Choice Row} {rest : List ℕ} (w : Onto first bs next rest) where
   pub onto_done : next ≡ None → eqb (length rest) 0 ≡ fits first bs
   onto_done e = is-empty rest ∙ sym (w.same ∙ ap (λ (n : Choice Row). goes_on n rest) e)
@@ -164,14 +151,11 @@ module _ {first : Row} {bs : List ℕ} {next : Choice Row} {rest : List ℕ} (w 
     here : fits first bs ≡ fits row rest
     here = w.same ∙ ap (λ (n : Choice Row). goes_on n rest) q
 
-    pub onto_lower : rank row ≤ rank first
-    onto_lower = rw q at w.lower
-
     pub onto_bad : fits row rest ≡ false → false ≡ fits first bs
     onto_bad e = sym (here ∙ e)
 
     module _ {behind_it : Choice Row} (e : behind_it ≡ next_of row) where
-      pub onto_less : rank_of behind_it < rank_of next
+      onto_less : rank_of behind_it < rank_of next
       onto_less = rw (e, q) (falls row)
 
       pub onto_next : (at : ℕ) → fits row rest ≡ behind row (drop at rest) → Onto first bs behind_it (take (length rest - at) (drop at rest))
