@@ -1,12 +1,9 @@
--- What the search asks of lent tables beforehand, how many slots a table has, and which edges count. Rests on the meaning's Layout and Matching.
-use Rattle.std.specs.Prelude.{◌≡◌, Bool, true, List, ℕ, ◌≤◌, length}
-use Rattle.meaning.specs.Layout.{Host, Sized, most_atoms, node_length, edge_length, fits_table, read_nodes, read_edges, keeps_layout}
-use Rattle.meaning.specs.Matching.{edge_leaves, edge_arrives, edge_touches}
+-- What the search asks of lent tables beforehand, and how many slots a table has. Rests on the meaning's Layout.
+use Rattle.std.specs.Prelude.{◌≡◌, true, List, ℕ, ◌≤◌, length}
+use Rattle.meaning.specs.Layout.{Sized, most_atoms, node_length, edge_length, fits_table, read_nodes, read_edges, keeps_layout}
 use Rattle.meaning.specs.declared.Layout.{Layout}
 use Rattle.meaning.specs.declared.Table.{Table}
 use Rattle.meaning.specs.declared.Table.TheVariants.{Nodes, Edges}
-use Rattle.graph.specs.declared.Incidence.{Incidence}
-use Rattle.graph.specs.declared.Incidence.TheVariants.{Leaving, Arriving, Touching}
 
 module _ (L : Layout) (nodes edges : List ℕ) where
   -- the tables keep a layout whose labels have no more atoms than there is room for
@@ -21,9 +18,3 @@ module _ (L : Layout) (nodes edges : List ℕ) where
   abbrev pub slots_in : Table → ℕ
   slots_in Nodes = length (read_nodes L nodes)
   slots_in Edges = length (read_edges L edges)
-
--- edge x counts at slot c
-abbrev pub counts : Incidence → Host → ℕ → ℕ → Bool
-counts Leaving = edge_leaves
-counts Arriving = edge_arrives
-counts Touching = edge_touches

@@ -6,19 +6,11 @@ ghost use Rattle.meaning.specs.Basics.{exists, count};
 ghost use Rattle.meaning.specs.Layout.{Sized, most_atoms, live_at, read_nodes, read_edges, host_of};
 ghost use Rattle.meaning.specs.Matching.{node_at, edge_at, edge_runs, edge_leaves, edge_arrives, in_degree, out_degree, edge_touches};
 ghost use Rattle.slots.specs.Laid.{laid};
-ghost use Rattle.graph.specs.Graph.{Legal, slots_in, counts};
+ghost use Rattle.graph.specs.Graph.{Legal, slots_in};
 
 use meaning::{Layout, Table};
 use slots::held;
 use slots::held::Place;
-
-// Which edges count at a slot.
-#[derive(Clone, Copy)]
-pub enum Incidence {
-    Leaving,
-    Arriving,
-    Touching,
-}
 
 // Nodes.
 
@@ -135,12 +127,9 @@ pub fn edge_runs(l: Layout, nodes: &[u8], edges: &[u8], s: usize, t: usize, x: u
     requires x_in_bounds { x < length (host_of l nodes.now edges.now).edges }
     ensures { result ≡ edge_runs (host_of l nodes.now edges.now) s t x }
 {
-    if edge_live(l, nodes, edges, x) {
-        if edge_source(l, nodes, edges, x) == s {
-            return edge_target(l, nodes, edges, x) == t;
-        }
-    }
-    false
+    edge_live(l, nodes, edges, x)
+        && edge_source(l, nodes, edges, x) == s
+        && edge_target(l, nodes, edges, x) == t
 }
 
 // Whether edge x is live and leaves slot s.
@@ -149,10 +138,7 @@ fn edge_leaves(l: Layout, nodes: &[u8], edges: &[u8], s: usize, x: usize) -> boo
     requires x_in_bounds { x < length (host_of l nodes.now edges.now).edges }
     ensures { result ≡ edge_leaves (host_of l nodes.now edges.now) s x }
 {
-    if edge_live(l, nodes, edges, x) {
-        return edge_source(l, nodes, edges, x) == s;
-    }
-    false
+    edge_live(l, nodes, edges, x) && edge_source(l, nodes, edges, x) == s
 }
 
 // Whether edge x is live and arrives at slot t.
@@ -161,10 +147,16 @@ fn edge_arrives(l: Layout, nodes: &[u8], edges: &[u8], t: usize, x: usize) -> bo
     requires x_in_bounds { x < length (host_of l nodes.now edges.now).edges }
     ensures { result ≡ edge_arrives (host_of l nodes.now edges.now) t x }
 {
-    if edge_live(l, nodes, edges, x) {
-        return edge_target(l, nodes, edges, x) == t;
-    }
-    false
+    edge_live(l, nodes, edges, x) && edge_target(l, nodes, edges, x) == t
+}
+
+// Whether edge x is live and touches slot c: it leaves it or arrives at it.
+fn edge_touches(l: Layout, nodes: &[u8], edges: &[u8], c: usize, x: usize) -> bool
+    requires legal { Legal l nodes.now edges.now }
+    requires x_in_bounds { x < length (host_of l nodes.now edges.now).edges }
+    ensures { result ≡ edge_touches (host_of l nodes.now edges.now) c x }
+{
+    edge_leaves(l, nodes, edges, c, x) || edge_arrives(l, nodes, edges, c, x)
 }
 
 // What the edges do.
@@ -174,48 +166,7 @@ pub fn any_runs(l: Layout, nodes: &[u8], edges: &[u8], s: usize, t: usize) -> bo
     requires { Legal l nodes.now edges.now }
     ensures { result ≡ exists (edge_runs (host_of l nodes.now edges.now) s t) (length (host_of l nodes.now edges.now).edges) }
 {
-    let n = edge_slots(l, edges);
-    let mut x: usize = 0;
-    while x < n {
-        if edge_runs(l, nodes, edges, s, t, x) {
-            return true;
-        }
-        x += 1;
-    }
-    false
-}
-
-// Whether edge x counts at slot c.
-fn edge_counts(l: Layout, nodes: &[u8], edges: &[u8], which: Incidence, c: usize, x: usize) -> bool
-    requires legal { Legal l nodes.now edges.now }
-    requires x_in_bounds { x < length (host_of l nodes.now edges.now).edges }
-    ensures { result ≡ counts which (host_of l nodes.now edges.now) c x }
-{
-    let leaves = edge_leaves(l, nodes, edges, c, x);
-    match which {
-        Incidence::Leaving => leaves,
-        Incidence::Arriving => edge_arrives(l, nodes, edges, c, x),
-        Incidence::Touching => leaves || edge_arrives(l, nodes, edges, c, x),
-    }
-}
-
-// How many edges count at slot c.
-fn count_edges(l: Layout, nodes: &[u8], edges: &[u8], which: Incidence, c: usize) -> usize
-    requires { Legal l nodes.now edges.now }
-    ensures { result ≡ count (counts which (host_of l nodes.now edges.now) c) (length (host_of l nodes.now edges.now).edges) }
-{
-    let n = edge_slots(l, edges);
-    let mut x: usize = 0;
-    let mut d: usize = 0;
-    while x < n {
-        if edge_counts(l, nodes, edges, which, c, x) {
-            d += 1;
-            x += 1;
-        } else {
-            x += 1;
-        }
-    }
-    d
+    (0..edge_slots(l, edges)).any(|x| edge_runs(l, nodes, edges, s, t, x))
 }
 
 // How many edges leave slot s.
@@ -223,7 +174,9 @@ pub fn out_degree(l: Layout, nodes: &[u8], edges: &[u8], s: usize) -> usize
     requires { Legal l nodes.now edges.now }
     ensures { result ≡ out_degree (host_of l nodes.now edges.now) s }
 {
-    count_edges(l, nodes, edges, Incidence::Leaving, s)
+    (0..edge_slots(l, edges))
+        .filter(|x| edge_leaves(l, nodes, edges, s, *x))
+        .count()
 }
 
 // How many edges arrive at slot t.
@@ -231,7 +184,9 @@ pub fn in_degree(l: Layout, nodes: &[u8], edges: &[u8], t: usize) -> usize
     requires { Legal l nodes.now edges.now }
     ensures { result ≡ in_degree (host_of l nodes.now edges.now) t }
 {
-    count_edges(l, nodes, edges, Incidence::Arriving, t)
+    (0..edge_slots(l, edges))
+        .filter(|x| edge_arrives(l, nodes, edges, t, *x))
+        .count()
 }
 
 // How many edges touch slot c, a loop counted once.
@@ -239,5 +194,7 @@ pub fn degree(l: Layout, nodes: &[u8], edges: &[u8], c: usize) -> usize
     requires { Legal l nodes.now edges.now }
     ensures { result ≡ count (edge_touches (host_of l nodes.now edges.now) c) (length (host_of l nodes.now edges.now).edges) }
 {
-    count_edges(l, nodes, edges, Incidence::Touching, c)
+    (0..edge_slots(l, edges))
+        .filter(|x| edge_touches(l, nodes, edges, c, *x))
+        .count()
 }

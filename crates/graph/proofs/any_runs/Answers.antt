@@ -1,26 +1,16 @@
-use Rattle.std.proofs.Common.{refl, arith}
-use Rattle.meaning.specs.Basics.{exists}
-use Rattle.meaning.specs.Laws.Loops.{exists-yes, exists-next, exists-end}
+-- `any_runs` meets its contract: what the walk over the edges' numbers gives.
+use Rattle.std.proofs.Common.{refl, ◌∙◌, arith, rules, tests}
+use Rattle.std.proofs.lemmas.Iterator.{YieldsList-from_range}
+use Rattle.std.proofs.lemmas.Iterator.Search.{any_from_yields_List}
+use Rattle.meaning.specs.Layout.{host_of}
+use Rattle.meaning.specs.Matching.{edge_runs}
+use Rattle.slots.specs.Ranges.{exists-below}
 use Rattle.graph.proofs.any_runs.Goals as goal
 
-pub edge_slots-n-requires : goal.edge_slots-n-requires
-edge_slots-n-requires c = c.requires.sized
-
-pub loop-x-init : goal.loop-x-init
-unfolding exists
-loop-x-init c = (omega arith, refl)
-
-pub edge_runs-requires : goal.edge_runs-requires
-edge_runs-requires c = record {
-  legal = c.requires;
-  x_in_bounds = omega (arith, c.edge_slots-n.ensures);
-}
-
-pub returns-then-edge_runs : goal.returns-then-edge_runs
-returns-then-edge_runs c = exists-yes _ _ c.edge_runs.ensures c.if-edge_runs.true _ (omega (arith, c.edge_slots-n.ensures))
-
-pub loop-x-preserved : goal.loop-x-preserved
-loop-x-preserved c = (omega arith, exists-next _ _ c.edge_runs.ensures c.if-edge_runs.false c.loop-x.invariant.1)
-
 pub returns : goal.returns
-returns c = rw (← c.edge_slots-n.ensures) (exists-end _ _ _ (omega arith) c.loop-x.invariant.1)
+returns c =
+    let a = c.args in
+    let f = edge_runs (host_of a.l a.nodes.now a.edges.now) a.s a.t in
+    let n = c.edge_slots.result in
+    rw (← c.edge_slots.ensures)
+    (any_from_yields_List f _ _ c.any.result c.any.ensures.ran (YieldsList-from_range 0 n n refl (omega arith)) (λ x b q k. search (rules, tests)) ∙ exists-below f n)

@@ -12,6 +12,6 @@ returns-then-edge_live c =
       c.if-edge_live.true,
     )
 
-pub returns : goal.returns
+pub returns-else-edge_live : goal.returns-else-edge_live
 unfolding edge_leaves both
-returns c = rw (← c.edge_live.ensures, c.if-edge_live.false)
+returns-else-edge_live c = rw (← c.edge_live.ensures, c.if-edge_live.false)

@@ -1,7 +1,19 @@
--- `in_degree` meets its contract.
-use Rattle.meaning.specs.Matching.{in_degree}
+-- `in_degree` meets its contract: what the count of the edges' numbers gives.
+use Rattle.std.proofs.Common.{◌∙◌, arith, rules, tests}
+use Rattle.std.proofs.lemmas.Iterator.{YieldsList-from_range}
+use Rattle.std.proofs.lemmas.Iterator.Consumers.{YieldsList-from_filter, count_from_yields_List}
+use Rattle.meaning.specs.Layout.{host_of}
+use Rattle.meaning.specs.Matching.{edge_arrives, in_degree}
+use Rattle.slots.specs.Ranges.{count-below}
 use Rattle.graph.proofs.in_degree.Goals as goal
 
 pub returns : goal.returns
 unfolding in_degree
-returns c = c.count_edges.ensures
+returns c =
+    let a = c.args in
+    let f = edge_arrives (host_of a.l a.nodes.now a.edges.now) a.t in
+    let n = c.edge_slots.result in
+    rw (← c.edge_slots.ensures)
+    (count_from_yields_List c.filter.result c.count.result c.count.ensures.ran
+    (YieldsList-from_filter _ f (YieldsList-from_range 0 n n c.filter.ensures.source (omega arith)) c.filter.ensures.closure (λ x r q k. search (rules, tests)))
+    ∙ count-below f n)
