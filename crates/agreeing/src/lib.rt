@@ -16,7 +16,7 @@ ghost use Rattle.agreeing.specs.Placed.{Known, slots, label_at, slot_of, Tried};
 ghost use Rattle.agreeing.specs.Agreeing.{HasValue, HasElement, HasElements, OnLeft, Takes, AgreesFrom};
 ghost use Rattle.agreeing.specs.Candidates.{Candidate, Guessed};
 
-use fields::Found;
+use fields::{Field, Fields};
 use meaning::tags::Tag;
 use meaning::{Element, Layout, Room};
 use plan::{At, Sorted};
@@ -71,7 +71,10 @@ fn part_of(rule: &[u8], plan: &[usize; At::LENGTH], v: usize, len: usize) -> Par
     let k = parts::elements::share(plan::types(rule, plan), Element::Variable(v), n);
     let place = plan[At::SINGLES + v] + plan[At::BEFORE + v] * n;
     let from = place.min(len);
-    Part { from, n: k.min(len - from) }
+    Part {
+        from,
+        n: k.min(len - from),
+    }
 }
 
 // The value of variable v, where it lies: in the label of item plan[At::FIRST + v], the first to have it.
@@ -113,7 +116,11 @@ pub fn variable_atom(
     ensures { (w : HasValue (host_of l nodes.now edges.now) rule.now plan.now at.now i c v) → result ≡ get_or (assigned (host_of l nodes.now edges.now) w.trial.rule w.trial.placed v) 0 0 }
 {
     let b = value(l, nodes, edges, rule, plan, at, i, c, v);
-    if laid::count(b) == 0 { 0 } else { laid::atom(b, 0) }
+    if laid::count(b) == 0 {
+        0
+    } else {
+        laid::atom(b, 0)
+    }
 }
 
 // Labels compared.
@@ -123,7 +130,11 @@ fn part_agrees(a: &[u8], from: usize, b: &[u8]) -> Option<usize>
     requires { from ≤ length (laid a.now) }
     ensures { AgreesFrom (laid a.now) from (laid b.now) result }
 {
-    if laid::has_part(a, from, b) { Some(from + laid::count(b)) } else { None }
+    if laid::has_part(a, from, b) {
+        Some(from + laid::count(b))
+    } else {
+        None
+    }
 }
 
 // Where the atoms that a left element stands for end in label a, if a has them from a place on: a constant's lie in the rule, a
@@ -174,19 +185,17 @@ fn elements_agree(
     requires has_elements { HasElements (host_of l nodes.now edges.now) rule.now plan.now at.now i c p.now }
     ensures { (w : HasElements (host_of l nodes.now edges.now) rule.now plan.now at.now i c p.now) → result ≡ same (laid a.now) (instance (assigned (host_of l nodes.now edges.now) w.trial.rule w.trial.placed) w.elements) }
 {
-    let mut next: usize = 0;
-    let mut from: usize = 0;
-    while next < p.len() {
-        let found = fields::read_field(p, next);
-        let Found::Field(tag, start, end) = found else {
+    let mut from = 0;
+    for field in Fields::of(p) {
+        let Ok(Field { tag, start, end }) = field else {
             return false;
         };
-        let part = fields::part(p, start, end);
-        let Some(k) = element_agrees(l, nodes, edges, rule, plan, at, i, c, tag, part, a, from) else {
+        let part = &p[start..end];
+        let Some(upto) = element_agrees(l, nodes, edges, rule, plan, at, i, c, tag, part, a, from)
+        else {
             return false;
         };
-        from = k;
-        next = end;
+        from = upto;
     }
     from == laid::count(a)
 }
@@ -207,7 +216,8 @@ pub fn label_likely(
 {
     let a = item_label(l, nodes, edges, plan, i, c);
     parts::elements::length_fits(plan::counts(plan, i), laid::count(a))
-        && (plan[At::SORT + i] != Sorted::CONSTANT || laid::atom(a, 0) as usize == plan[At::CONSTANT + i])
+        && (plan[At::SORT + i] != Sorted::CONSTANT
+            || laid::atom(a, 0) as usize == plan[At::CONSTANT + i])
 }
 
 // Whether the label in slot c is what the pattern of item i stands for. Both are compared where they lie, the label in its table

@@ -1,7 +1,7 @@
 -- `label_likely` meets its contract.
 use Rattle.std.proofs.Common.{sym, ◌∙◌, ap, length, arith}
 use Rattle.meaning.specs.Layout.{host_of}
-use Rattle.agreeing.proofs.Agreeing.{constant-one, guessed_no, guessed_yes, guessed_constant, candidate_inside, candidate_known, candidate_simple, known-fits, known_constant, planned-label}
+use Rattle.agreeing.proofs.Agreeing.{constant-one, guessed_no, guessed_constant, candidate_inside, candidate_known, candidate_simple, known-fits, known_constant, planned-label}
 use Rattle.agreeing.proofs.label_likely.Goals as goal
 
 pub item_label-a-requires : goal.item_label-a-requires
