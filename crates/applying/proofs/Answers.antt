@@ -6,6 +6,7 @@ use mathlib.Core.List.{List}
 use Prim.Native.Nat.{ℕ, ◌/◌}
 use native.Mathlib.Omega.{arith}
 use lib.ListN.{length, take}
+use Rattle.std.specs.Prelude.{Result, Ok, Err}
 use Rattle.meaning.specs.Layout.{record_length}
 use Rattle.meaning.specs.Image.{Rule}
 use Rattle.meaning.specs.Applying.{Right, Ledger, right_side, changed, hindrance, Applied, applied, hindered, apply}
@@ -16,13 +17,11 @@ use Rattle.meaning.specs.Matching.{total}
 use Rattle.ledger.specs.Running.{ledger_of, Running, Leads}
 use Rattle.ledger.specs.Rooms.{stop_of}
 use Rattle.ledger.specs.Applications.{stopped-is, applied-is, runs_on}
-use Rattle.ledger.specs.declared.Applied.{Applied as Came}
-use Rattle.ledger.specs.declared.Applied.TheVariants.{Done, Stopped}
 use Rattle.applying.specs.Application.{applied_of, AtMatch, Applies}
 use Rattle.applying.specs.Halves.{Unhindered, Changed}
 use Rattle.applying.proofs.Parts.{r, p, g, match, right_there}
 
-pub none_done : stop_of Done ≡ none
+pub none_done : stop_of (Ok tt) ≡ none
 unfolding stop_of
 none_done = refl
 
@@ -32,7 +31,7 @@ module _ {L : Layout} {nodes edges journal : List ℕ} {used : ℕ} {bs slots le
     abbrev before : Ledger
     before = ledger_of L nodes edges journal used
 
-    abbrev checked : Came → Type 0
+    abbrev checked : Result (Unit {0}) Stop → Type 0
     checked a = stop_of a ≡ hindrance L.atoms (length journal / record_length L) w.tree (take (total w.tree) slots) before
 
     -- what is said of the rule that the bytes are known to be holds of any that they are
@@ -42,8 +41,8 @@ module _ {L : Layout} {nodes edges journal : List ℕ} {used : ℕ} {bs slots le
         subst (λ (t : Rule). a ≡ apply L.atoms (length journal / record_length L) t (take (total t) slots) before) (some_inj w.tree r q) e
 
     -- it stops before any change
-    pub stops : (s : Stop) → checked (Stopped s)
-        → Applies L nodes edges journal used bs slots (record { applied = Stopped s; records = used }) nodes edges journal
+    pub stops : (s : Stop) → checked (Err s)
+        → Applies L nodes edges journal used bs slots (Err s) nodes edges journal
     unfolding stop_of applied_of
     stops s e =
         record {
@@ -52,7 +51,7 @@ module _ {L : Layout} {nodes edges journal : List ℕ} {used : ℕ} {bs slots le
           running = run;
         }
 
-    abbrev pub unhindered-here : checked Done → Unhindered L nodes edges journal used bs slots lens atoms
+    abbrev pub unhindered-here : checked (Ok tt) → Unhindered L nodes edges journal used bs slots lens atoms
     unhindered-here e = record { running = run; match = w; fine = sym e ∙ none_done }
 
 module _ {L : Layout} {nodes edges journal : List ℕ} {used : ℕ} {bs slots lens atoms : List ℕ} (u : Unhindered L nodes edges journal used bs slots lens atoms)
@@ -70,7 +69,7 @@ module _ {L : Layout} {nodes edges journal : List ℕ} {used : ℕ} {bs slots le
         (match u) right_side_lem.0 right_side_lem.1 u.fine nodes' edges' journal' all led
 
     -- it is done
-    pub does : Applies L nodes edges journal used bs slots (record { applied = Done; records = all }) nodes' edges' journal'
+    pub does : Applies L nodes edges journal used bs slots (Ok all) nodes' edges' journal'
     unfolding applied_of
     does =
         record {

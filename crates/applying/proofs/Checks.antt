@@ -7,6 +7,7 @@ use Prim.Native.Nat.{ℕ, ◌+◌, ◌/◌, ◌≤◌}
 use native.Mathlib.Nat.{le-div_iff_mul-le, mul-le-mul_left}
 use native.Mathlib.Omega.{arith}
 use lib.ListN.{length, take}
+use Rattle.std.specs.Prelude.{Result, Err}
 use borrow.Author.Tests.{not-true}
 use Rattle.meaning.specs.Basics.{absent, is_some}
 use Rattle.meaning.specs.Layout.{record_length, read_nodes, read_edges, host_of}
@@ -18,14 +19,13 @@ use Rattle.meaning.specs.Applying.{free_slots, right_side, new_nodes, gone_nodes
 use Rattle.meaning.specs.Laws.Tests.{choose_true, choose_false, clauses-true}
 use Rattle.meaning.specs.Laws.Every.{Every, Every-true, Every-parts, Every-then}
 use Rattle.meaning.specs.declared.Layout.{Layout}
+use Rattle.meaning.specs.declared.Stop.{Stop}
 use Rattle.meaning.specs.declared.Stop.TheVariants.{LabelTooLarge}
 use Rattle.values.specs.Values.{values_of, Agree, all_held}
 use Rattle.values.specs.Right.{held-right}
 use Rattle.ledger.specs.Running.{journal_of, ledger_of}
 use Rattle.ledger.specs.Whole.{records-count}
 use Rattle.ledger.specs.Rooms.{stop_of, lacking, hindrance-is}
-use Rattle.ledger.specs.declared.Applied.{Applied}
-use Rattle.ledger.specs.declared.Applied.TheVariants.{Stopped}
 use Rattle.applying.specs.Application.{AtMatch}
 
 -- a number of records is at most half of the journal's bytes
@@ -58,14 +58,14 @@ module _ {L : Layout} {nodes edges bs slots lens atoms : List ℕ} (w : AtMatch 
   module _ (journal : List ℕ) (used : ℕ) {b : Bool} (h : b ≡ all_held L.atoms (values_of lens atoms) w.tree.right) where
     -- a label can't be held
     pub too_large : b ≡ false
-        → stop_of (Stopped LabelTooLarge) ≡ hindrance L.atoms (length journal / record_length L) w.tree placed (ledger_of L nodes edges journal used)
+        → stop_of (Err LabelTooLarge) ≡ hindrance L.atoms (length journal / record_length L) w.tree placed (ledger_of L nodes edges journal used)
     unfolding stop_of
     too_large e =
         sym (hindrance-is L.atoms (length journal / record_length L) w.tree placed (ledger_of L nodes edges journal used)
         ∙ choose_false _ _ _ (held-is h ∙ e))
 
     -- or else what is lacking hinders
-    pub lacks : b ≡ true → (a : Applied) {new gone count m all : ℕ}
+    pub lacks : b ≡ true → (a : Result (Unit {0}) Stop) {new gone count m all : ℕ}
         → new ≡ new_nodes w.tree → gone ≡ gone_nodes w.tree → count ≡ length w.tree.right.edges → m ≡ left_edges w.tree
         → all ≡ used + records_of w.tree
         → stop_of a ≡ lacking new (free_slots (read_nodes L nodes)) gone count (free_slots (read_edges L edges)) m all (length journal / record_length L)

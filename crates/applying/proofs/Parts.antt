@@ -10,7 +10,7 @@ use native.Mathlib.Omega.{arith}
 use borrow.Author.Tests.{leb-true}
 use lib.ListN.{length, get_or, take, drop}
 use lib.Seq.{get_or-take, take-take, take-add, drop_at, length-take-le}
-use Rattle.meaning.specs.Layout.{free, node_length, edge_length, record_length, read_node, read_edge}
+use Rattle.meaning.specs.Layout.{node_length, edge_length, record_length, read_node, read_edge}
 use Rattle.meaning.specs.Image.{Rule, rule_graph, most_items}
 use Rattle.meaning.specs.Matching.{left_nodes, left_edges, Match, total}
 use Rattle.meaning.specs.Applying.{Right, right_side, Ledger, Added, stores, free_slots, edges_go, nodes_change, add_nodes, between, add_edges, changed, records_of, hindrance}

@@ -1,6 +1,6 @@
 -- An application of a rule at its first match in lent bytes: what is known of the match before, and what is left after.
 -- Rests on ledger's Running, on values' Values and on the meaning's Applying.
-use Rattle.std.specs.Prelude.{◌≡◌, false, List, ℕ, ◌/◌, length, take}
+use Rattle.std.specs.Prelude.{◌≡◌, false, List, ℕ, ◌/◌, length, take, Result, Ok, Err}
 use Rattle.std.proofs.Math.Option.{some}
 use Rattle.meaning.specs.Basics.{absent}
 use Rattle.meaning.specs.Layout.{record_length, host_of}
@@ -15,14 +15,16 @@ use Rattle.meaning.specs.declared.Stop.{Stop}
 use Rattle.meaning.specs.Matching.{total}
 use Rattle.values.specs.Values.{values_of, Stored}
 use Rattle.ledger.specs.Running.{ledger_of, Running}
-use Rattle.ledger.specs.declared.Applied.{Applied as Came}
-use Rattle.ledger.specs.declared.Applied.TheVariants.{Done, Stopped}
-use Rattle.applying.specs.declared.After.{After}
 
 -- what an application came to, with the ledger that the bytes hold after it
-unfoldable pub applied_of : Came → Ledger → Applied
-applied_of Done g = applied g
-applied_of (Stopped w) g = hindered w
+unfoldable pub applied_of : Result ℕ Stop → Ledger → Applied
+applied_of (Ok n) g = applied g
+applied_of (Err w) g = hindered w
+
+-- the records used after it, where so many were used before: those that it says, or where it stopped the same
+abbrev pub records_after : ℕ → Result ℕ Stop → ℕ
+records_after used (Ok n) = n
+records_after used (Err w) = used
 
 module _ (L : Layout) where
   -- the bytes are a legal rule, the slots are its first match, and the arrays hold the values of its variables
@@ -37,10 +39,10 @@ module _ (L : Layout) where
         → values_of lens atoms v ≡ assigned (host_of L nodes edges) tree (take (total tree) slots) v
 
   -- what applying leaves: the definition's answer and ledger, and bytes that run on; where it stopped, the ledger as it was
-  pub record Applies (nodes edges journal : List ℕ) (used : ℕ) (bs slots : List ℕ) (a : After) (nodes' edges' journal' : List ℕ) : Type 0 where
+  pub record Applies (nodes edges journal : List ℕ) (used : ℕ) (bs slots : List ℕ) (a : Result ℕ Stop) (nodes' edges' journal' : List ℕ) : Type 0 where
     pub right : (r : Rule) → rule bs ≡ some r
-        → applied_of a.applied (ledger_of L nodes' edges' journal' a.records)
+        → applied_of a (ledger_of L nodes' edges' journal' (records_after used a))
         ≡ apply L.atoms (length journal / record_length L) r (take (total r) slots) (ledger_of L nodes edges journal used)
-    pub kept : (w : Stop) → a.applied ≡ Stopped w
-        → ledger_of L nodes' edges' journal' a.records ≡ ledger_of L nodes edges journal used
-    pub running : Running L nodes' edges' journal' a.records
+    pub kept : (w : Stop) → a ≡ Err w
+        → ledger_of L nodes' edges' journal' used ≡ ledger_of L nodes edges journal used
+    pub running : Running L nodes' edges' journal' (records_after used a)

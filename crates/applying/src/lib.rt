@@ -10,15 +10,7 @@ ghost use Rattle.ledger.specs.Rooms.{stop_of};
 ghost use Rattle.applying.specs.Application.{AtMatch, Applies};
 ghost use Rattle.applying.specs.Halves.{Unhindered, Changed, LeftChanged, Halfway, RightCame};
 
-use ledger::Applied;
 use meaning::{Layout, Room, Stop};
-
-// What an application came to, and the records used after it.
-#[derive(Drop)]
-pub struct After {
-    pub applied: Applied,
-    pub records: usize,
-}
 
 // The checks before any change, in order: the labels can be held; room for nodes, for edges, for records.
 fn hindrance(
@@ -31,24 +23,24 @@ fn hindrance(
     slots: &[usize; Room::ITEMS],
     lens: &[usize; Room::VARIABLES],
     atoms: &[u32; Room::ATOMS],
-) -> Applied
+) -> Result<(), Stop>
     requires running { Running l nodes.now edges.now journal.now used }
     requires at_match { AtMatch l nodes.now edges.now rule.now slots.now lens.now atoms.now }
     ensures { (w : AtMatch l nodes.now edges.now rule.now slots.now lens.now atoms.now) → stop_of result ≡ hindrance l.atoms (length journal.now / record_length l) w.tree (take (total w.tree) slots.now) (ledger_of l nodes.now edges.now journal.now used) }
 {
     let left = parts::left_part(rule);
     let right = parts::right_part(rule);
-    if values::labels_held(l.atoms, lens, atoms, right) {
-        let k = parts::interface_of(rule);
-        let n = parts::node_count(left);
-        let m = parts::edge_count(left, n);
-        let right_nodes = parts::node_count(right);
-        let new = right_nodes - k;
-        let count = parts::edge_count(right, right_nodes);
-        let all = used + (m + n + new + count);
-        return ledger::room(l, nodes, edges, journal, new, n - k, count, m, all);
+    if !values::labels_held(l.atoms, lens, atoms, right) {
+        return Err(Stop::LabelTooLarge);
     }
-    Applied::Stopped(Stop::LabelTooLarge)
+    let k = parts::interface_of(rule);
+    let n = parts::node_count(left);
+    let m = parts::edge_count(left, n);
+    let right_nodes = parts::node_count(right);
+    let new = right_nodes - k;
+    let count = parts::edge_count(right, right_nodes);
+    let all = used + (m + n + new + count);
+    ledger::room(l, nodes, edges, journal, new, n - k, count, m, all)
 }
 
 // The left part of the changes, in order, with one record each: left edges go, all left nodes change. The answer: the records
@@ -161,7 +153,8 @@ fn change(
     add_right(l, nodes, edges, journal, kept, rule, slots, lens, atoms)
 }
 
-// Applies a rule at its first match: the checks, then the changes.
+// Applies a rule at its first match: the checks, then the changes. The answer: the records used after them, or why nothing was
+// changed.
 pub fn apply(
     l: Layout,
     nodes: &mut [u8],
@@ -172,12 +165,12 @@ pub fn apply(
     slots: &[usize; Room::ITEMS],
     lens: &[usize; Room::VARIABLES],
     atoms: &[u32; Room::ATOMS],
-) -> After
+) -> Result<usize, Stop>
     requires running { Running l nodes.old edges.old journal.old used }
     requires at_match { AtMatch l nodes.old edges.old rule.now slots.now lens.now atoms.now }
     ensures { Applies l nodes.old edges.old journal.old used rule.now slots.now result nodes.new edges.new journal.new }
 {
-    let h = hindrance(
+    hindrance(
         l,
         &nodes[..],
         &edges[..],
@@ -187,20 +180,6 @@ pub fn apply(
         slots,
         lens,
         atoms,
-    );
-    match h {
-        Applied::Stopped(w) => {
-            return After {
-                applied: Applied::Stopped(w),
-                records: used,
-            };
-        }
-        Applied::Done => {
-            let all = change(l, nodes, edges, journal, used, rule, slots, lens, atoms);
-            return After {
-                applied: Applied::Done,
-                records: all,
-            };
-        }
-    }
+    )?;
+    Ok(change(l, nodes, edges, journal, used, rule, slots, lens, atoms))
 }

@@ -1,6 +1,6 @@
 -- What follows a command: its kind by its tag and payload, whether a row goes on, the part after a guard, and what undoing after
 -- a guard or after a loop's last round leaves. Rests on ledger's Running, on fields' Parsed and on the meaning's Commands.
-use Rattle.std.specs.Prelude.{◌≡◌, refl, Bool, true, false, ◌⊎◌, List, ℕ, eqb, length, get_or}
+use Rattle.std.specs.Prelude.{◌≡◌, refl, Bool, true, false, ◌⊎◌, List, ℕ, eqb, length, get_or, Option, Some, None}
 use Rattle.std.proofs.Common.{inl, inr}
 use Rattle.meaning.specs.Basics.{choose}
 use Rattle.meaning.specs.Tags.{rule_set_tag, sequence_tag, loop_tag, skip_tag, fail_tag, break_tag, call_tag, guarded_tag}
@@ -64,12 +64,12 @@ is_done Failed = false
 is_done Broke = false
 is_done (Stopped w) = false
 
--- the part of a guarded command that follows its guard, 0 if none does
-unfoldable pub part_after : End → ℕ
-part_after Done = 1
-part_after Failed = 2
-part_after Broke = 0
-part_after (Stopped w) = 0
+-- the part of a guarded command that follows its guard, if one does
+unfoldable pub part_after : End → Option ℕ
+part_after Done = Some 1
+part_after Failed = Some 2
+part_after Broke = None
+part_after (Stopped w) = None
 
 -- the state that it begins in, after a guard that began at s
 unfoldable pub settled : End → Bool → State → State → State

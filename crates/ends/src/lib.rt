@@ -26,8 +26,7 @@ pub fn kind_of(tag: u8, p: &[u8]) -> Kind
     ensures { result ≡ kind_of tag p.now }
 {
     match tag {
-        Tag::SEQUENCE => Kind::InRow,
-        Tag::CALL => Kind::InRow,
+        Tag::SEQUENCE | Tag::CALL => Kind::InRow,
         Tag::GUARDED => Kind::Guarded(parts::flag(p)),
         Tag::LOOP => Kind::Loop,
         Tag::SKIP => Kind::Leaf(End::Done),
@@ -40,23 +39,17 @@ pub fn kind_of(tag: u8, p: &[u8]) -> Kind
 pub fn goes_on(end: End) -> bool
     ensures { result ≡ is_done end }
 {
-    match end {
-        End::Done => true,
-        End::Failed => false,
-        End::Broke => false,
-        End::Stopped(_) => false,
-    }
+    matches!(end, End::Done)
 }
 
-// The part of a guarded command that follows its guard, by the guard's end: the second, the third, or 0 if none does.
-pub fn part_after(end: End) -> usize
+// The part of a guarded command that follows its guard, by the guard's end: the second, the third, or none.
+pub fn part_after(end: End) -> Option<usize>
     ensures { result ≡ part_after end }
 {
     match end {
-        End::Done => 1,
-        End::Failed => 2,
-        End::Broke => 0,
-        End::Stopped(_) => 0,
+        End::Done => Some(1),
+        End::Failed => Some(2),
+        End::Broke | End::Stopped(_) => None,
     }
 }
 
@@ -91,18 +84,10 @@ pub fn settle(
     requires mark_le_records { mark ≤ ran.tally.records }
     ensures { Settled l keep nodes.old edges.old journal.old ran mark result nodes.new edges.new journal.new }
 {
-    let end = ran.end;
-    let t = ran.tally;
-    match end {
-        End::Done => {
-            if keep {
-                return t;
-            }
-            back(l, nodes, edges, journal, t, mark)
-        }
-        End::Failed => back(l, nodes, edges, journal, t, mark),
-        End::Broke => t,
-        End::Stopped(_) => t,
+    match ran.end {
+        End::Done if keep => ran.tally,
+        End::Done | End::Failed => back(l, nodes, edges, journal, ran.tally, mark),
+        End::Broke | End::Stopped(_) => ran.tally,
     }
 }
 
@@ -119,21 +104,15 @@ pub fn close(
     requires mark_le_records { mark ≤ ran.tally.records }
     ensures { Closed l nodes.old edges.old journal.old ran mark result nodes.new edges.new journal.new }
 {
-    let end = ran.end;
-    let t = ran.tally;
-    match end {
-        End::Done => ran,
-        End::Failed => {
-            let undone = back(l, nodes, edges, journal, t, mark);
-            Ran {
-                end: End::Done,
-                tally: undone,
-            }
-        }
+    match ran.end {
+        End::Failed => Ran {
+            end: End::Done,
+            tally: back(l, nodes, edges, journal, ran.tally, mark),
+        },
         End::Broke => Ran {
             end: End::Done,
-            tally: t,
+            ..ran
         },
-        End::Stopped(_) => ran,
+        End::Done | End::Stopped(_) => ran,
     }
 }

@@ -43,22 +43,14 @@ pub fn finish(
     requires report_len { length report.old ≡ report_length }
     ensures { Finishes l nodes.old edges.old journal.old steps records result nodes.new edges.new journal.new report.new end }
 {
-    match end {
+    let answer = match end {
         End::Done => {
             answers::put_report(report, steps, records);
             return Answer::Result;
         }
-        End::Failed => {
-            give_back(l, nodes, edges, journal, steps, records, report);
-            return Answer::Fail;
-        }
-        End::Broke => {
-            give_back(l, nodes, edges, journal, steps, records, report);
-            return Answer::Fail;
-        }
-        End::Stopped(why) => {
-            give_back(l, nodes, edges, journal, steps, records, report);
-            return Answer::Stopped(why);
-        }
-    }
+        End::Failed | End::Broke => Answer::Fail,
+        End::Stopped(why) => Answer::Stopped(why),
+    };
+    give_back(l, nodes, edges, journal, steps, records, report);
+    answer
 }

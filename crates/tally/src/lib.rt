@@ -1,5 +1,4 @@
-// The running tally, changed in place: one function for each change of it that running makes. Above each stands the same by
-// value, for callers that are proved without a walk. Rests on the tally of `meaning` alone.
+// The running tally: one function for each change of it that running makes. Rests on the tally of `meaning` alone.
 #![tactic(auto)]
 
 ghost use Rattle.std.specs.Prelude.{◌≡◌, ◌+◌, ◌-◌, ◌<◌, ◌^◌};
@@ -7,36 +6,20 @@ ghost use Rattle.std.specs.Prelude.{◌≡◌, ◌+◌, ◌-◌, ◌<◌, ◌^�
 use meaning::Tally;
 
 // Entering a command: one fuel less, one step more.
-pub fn spend(t: &mut Tally)
-    requires { (0 < t.old.fuel) × (t.old.steps + 1 < 2 ^ 64) }
-    ensures { t.new ≡ record { fuel = t.old.fuel - 1; steps = t.old.steps + 1; records = t.old.records } }
-{
-    t.fuel = t.fuel - 1;
-    t.steps = t.steps + 1;
-}
-
-// The records used after an application, or after undoing.
-pub fn count(t: &mut Tally, records: usize)
-    ensures { t.new ≡ record { fuel = t.old.fuel; steps = t.old.steps; records = records } }
-{
-    t.records = records;
-}
-
-// A command entered, by value.
 pub fn entered(t: Tally) -> Tally
     requires { (0 < t.fuel) × (t.steps + 1 < 2 ^ 64) }
     ensures { result ≡ record { fuel = t.fuel - 1; steps = t.steps + 1; records = t.records } }
 {
-    let mut next = t;
-    spend(&mut next);
-    next
+    Tally {
+        fuel: t.fuel - 1,
+        steps: t.steps + 1,
+        ..t
+    }
 }
 
-// The records counted, by value.
+// The records used after an application, or after undoing.
 pub fn counted(t: Tally, records: usize) -> Tally
     ensures { result ≡ record { fuel = t.fuel; steps = t.steps; records = records } }
 {
-    let mut next = t;
-    count(&mut next, records);
-    next
+    Tally { records, ..t }
 }

@@ -31,9 +31,6 @@ new_nodes-places-requires c = let w = c.requires in record {
   grows = grows w.start w.values (counted (goal.at.new_nodes-places-requires c).After-edge_count-count w) w.left;
 }
 
-pub overflow_add-come : goal.overflow_add-come
-overflow_add-come c = let w = c.requires in omega (arith, right-fits w.start w.values (counted (goal.at.overflow_add-come c).After-edge_count-count w) w.left, c.well_formed)
-
 pub new_edges-requires : goal.new_edges-requires
 new_edges-requires c = let w = c.requires in let s = counted (goal.at.new_edges-requires c).After-edge_count-count w in let grew = c.new_nodes-places.ensures (grows w.start w.values s w.left) in record {
   held = grew.went.leads.held;

@@ -1,7 +1,6 @@
 -- `applying::change_left` meets its contract: the left nodes are handed what the left edges left.
-use Rattle.std.proofs.Common.{arith}
 use Rattle.applying.specs.Halves.{Unhindered}
-use Rattle.applying.proofs.Parts.{LeftCounted, right_there, records-fit, go-next, alters, left-done}
+use Rattle.applying.proofs.Parts.{LeftCounted, right_there, go-next, alters, left-done}
 use Rattle.applying.proofs.change_left.Goals as goal
 use Rattle.applying.proofs.change_left.Goals.{After-edge_count-m}
 
@@ -30,17 +29,11 @@ free_edges-requires c = let u = c.requires in let t = go-next u (right_there u).
   below = t.2;
 }
 
-pub overflow_add-gone : goal.overflow_add-gone
-overflow_add-gone c = let u = c.requires in let s = counted (goal.at.overflow_add-gone c).After-edge_count-m u in omega (arith, s.edges, records-fit u, c.well_formed)
-
 pub change_nodes-requires : goal.change_nodes-requires
 change_nodes-requires c = let u = c.requires in let gone = c.free_edges.ensures in record {
   held = gone.leads.held;
   alters = alters u (right_there u).1 (counted (goal.at.change_nodes-requires c).After-edge_count-m u) gone;
 }
-
-pub overflow_add-result : goal.overflow_add-result
-overflow_add-result c = let u = c.requires in let s = counted (goal.at.overflow_add-result c).After-edge_count-m u in omega (arith, s.edges, s.nodes, records-fit u, c.well_formed)
 
 pub returns : goal.returns
 returns c = λ u right q. let s = counted (goal.at.returns c).After-edge_count-m u in let gone = c.free_edges.ensures in left-done u q s gone (c.change_nodes.ensures (alters u q s gone))
