@@ -1,4 +1,5 @@
--- Laws of Asked, one for each answer of the code: elements, operands, conditions and items. Rests on Asked.
+-- Laws of lists of names and of tests; a label as a row of elements; and what is asked of a node or an edge, by its tag. Rests on
+-- Asked and on parts' Series and Rows.
 use mathlib.Core.Path.{◌≡◌, refl, ◌∙◌}
 use mathlib.Core.Bool.{Bool, true, false, not}
 use mathlib.Core.Option.{some}

@@ -15,17 +15,14 @@ use Rattle.references.specs.Walked.{Answers, done, cut, stop, next}
 -- where the question answers what is asked of the item, the walk answers what is asked of every item
 module _ {A : Type 0} (item : ℕ → List ℕ → Option A) (f : A → Bool) {R : ℕ → Bor (List ℕ) → Bool → Type 0} {bs : List ℕ}
     (h : (tag : ℕ) (part : Bor (List ℕ)) (r : Bool) → R tag part r → For (item tag part.now) (λ a. r ≡ f a)) where
-  answers : {at : ℕ} {r : Bool} → Answers R bs at r → (l : List A) → Series item l [] (drop at bs) → r ≡ every f l
+  pub every_answers : {at : ℕ} {r : Bool} → Answers R bs at r → (l : List A) → Series item l [] (drop at bs) → r ≡ every f l
   unfolding every
-  answers {at} (done k) l s = sym (ap (every f) (series-none item bs at l s k))
-  answers {at} (cut k n) l s = absurd (series-there item bs at l s k n)
-  answers {at} (stop {tag = tag} {start = start} {end = end} part k p q) l s =
+  every_answers {at} (done k) l s = sym (ap (every f) (series-none item bs at l s k))
+  every_answers {at} (cut k n) l s = absurd (series-there item bs at l s k n)
+  every_answers {at} (stop {tag = tag} {start = start} {end = end} part k p q) l s =
       let t = series-some item bs at l s (omega (arith, k.starts, k.ends, k.inside)) tag start end k in
       sym (ap (every f) t.parts ∙ both-no (f t.first) (every f t.others) (sym (h tag part false q t.first (ap (item tag) p ∙ t.read))))
-  answers {at} {r} (next {tag = tag} {start = start} {end = end} part k p q w) l s =
+  every_answers {at} {r} (next {tag = tag} {start = start} {end = end} part k p q w) l s =
       let t = series-some item bs at l s (omega (arith, k.starts, k.ends, k.inside)) tag start end k in
-      answers w t.others t.series
+      every_answers w t.others t.series
       ∙ sym (ap (every f) t.parts ∙ both_yes (f t.first) (every f t.others) (sym (h tag part true q t.first (ap (item tag) p ∙ t.read))))
-
-  pub every_answers : {r : Bool} → Answers R bs 0 r → (l : List A) → Series item l [] bs → r ≡ every f l
-  every_answers w l s = answers w l s
