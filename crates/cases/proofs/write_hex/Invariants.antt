@@ -1,9 +1,0 @@
--- `write_hex` writes each byte once.
-use Rattle.std.proofs.Common.{◌-◌, length}
-use Rattle.cases.proofs.write_hex.Given as goal
-
-abbrev pub invariant-loop-i : goal.invariant-loop-i
-invariant-loop-i l = Unit {0}
-
-abbrev pub decreases-loop-i : goal.decreases-loop-i
-decreases-loop-i l = length l.bytes - l.i
