@@ -21,9 +21,7 @@ use Rattle.meaning.specs.Laws.Tests.{some_inj, bind_some, ensure-some}
 use Rattle.meaning.specs.declared.Operand.{Operand}
 use Rattle.meaning.specs.declared.Condition.{Condition}
 use Rattle.meaning.specs.declared.Condition.TheVariants.{Equal, Less}
-use Rattle.fields.specs.Fields.{field_at, nth_field}
-use Rattle.fields.specs.declared.Found.{Found}
-use Rattle.fields.specs.declared.Found.TheVariants.{Field}
+use Rattle.fields.specs.Fields.{Found, found, field_at, nth_field}
 use Rattle.fields.specs.Image.{condition-relation}
 use Rattle.fields.specs.Parsed.{two_operands-is, relation_1, relation_2, relation_kind, IsTest, test-is}
 use Rattle.parts.specs.Series.{For, Series, only-series, series-field, series-first, nth_part, nth_tag, nth-item, part_field, tag-field}
@@ -164,7 +162,7 @@ module _ {h : Host} {bs plan at : List ℕ} {i c : ℕ} where
     pub left-none : {f : Found} → f ≡ field_at p 1 → NoField f → ⊥
     left-none e n = series-field operand p 1 _ _ two.row (no_field p 1 _ e n)
 
-    module _ {f : Found} {tag start end : ℕ} (e : f ≡ field_at p 1) (g : f ≡ Field tag start end) where
+    module _ {f : Found} {tag start end : ℕ} (e : f ≡ field_at p 1) (g : f ≡ found tag start end) where
       pub first : (operand tag (take (end - start) (drop start p)) ≡ some two.left) × Series operand (two.right ∷ []) [] (drop end p)
       first = series-first operand p 1 _ _ two.row (a-field p 1 e g)
 
@@ -177,7 +175,7 @@ module _ {h : Host} {bs plan at : List ℕ} {i c : ℕ} where
       pub right-none : {n : Found} → n ≡ field_at p end → NoField n → ⊥
       right-none k n = series-field operand p end _ _ behind (no_field p end _ k n)
 
-      abbrev pub right_operand : {n : Found} {other from to : ℕ} {q : List ℕ} → n ≡ field_at p end → n ≡ Field other from to
+      abbrev pub right_operand : {n : Found} {other from to : ℕ} {q : List ℕ} → n ≡ field_at p end → n ≡ found other from to
           → q ≡ take (to - from) (drop from p) → HasOperand h bs plan at i c other q
       right_operand {other = other} k l m = record { trial = w.trial; o = two.right; is = ap (operand other) m ∙ (series-first operand p end _ _ behind (a-field p end k l)).0; valued = right-valued }
 
@@ -194,7 +192,7 @@ module _ {h : Host} {bs plan at : List ℕ} {i c : ℕ} where
     pub test-none : NoField f → ⊥
     test-none n = omega (arith, numbered.long, ap length (no_part p f (nth_field t p 0) k n))
 
-    pub test-there : {tag start end : ℕ} {q : List ℕ} → f ≡ Field tag start end → q ≡ take (end - start) (drop start p) → IsTest tag q (test_of w.trial.rule t)
+    pub test-there : {tag start end : ℕ} {q : List ℕ} → f ≡ found tag start end → q ≡ take (end - start) (drop start p) → IsTest tag q (test_of w.trial.rule t)
     test-there g m = let n = sym k ∙ g in rw (m, ← (part_field p _ _ _ _ n), ← (tag-field _ _ _ _ n)) numbered
 
   module _ {t : ℕ} (w : HasTest h bs plan at i c t) {tag : ℕ} {q : List ℕ} (is : IsTest tag q (test_of w.trial.rule t)) where

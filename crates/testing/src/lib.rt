@@ -17,7 +17,7 @@ ghost use Rattle.agreeing.specs.Candidates.{Candidate, Likely};
 ghost use Rattle.testing.specs.Testing.{HasOperand, HasCondition, HasTest};
 
 use agreeing::slot_of;
-use fields::Found;
+use fields::Field;
 use meaning::tags::{Relation, Tag};
 use meaning::{Layout, Room};
 use plan::{At, Sorted};
@@ -44,7 +44,17 @@ fn atom(
     if tag == Tag::CONSTANT {
         parts::word_of(p)
     } else {
-        agreeing::variable_atom(l, nodes, edges, rule, plan, at, i, c, parts::number_at(p, 0))
+        agreeing::variable_atom(
+            l,
+            nodes,
+            edges,
+            rule,
+            plan,
+            at,
+            i,
+            c,
+            parts::number_at(p, 0),
+        )
     }
 }
 
@@ -64,18 +74,36 @@ fn relation_holds(
     requires has_condition { HasCondition (host_of l nodes.now edges.now) rule.now plan.now at.now i c relation_tag p.now }
     ensures { (w : HasCondition (host_of l nodes.now edges.now) rule.now plan.now at.now i c relation_tag p.now) → result ≡ condition_holds (host_of l nodes.now edges.now) w.trial.placed (assigned (host_of l nodes.now edges.now) w.trial.rule w.trial.placed) w.k }
 {
-    let found = fields::read_field(p, 1);
-    let Found::Field(tag, start, end) = found else {
+    let Some(Ok(left)) = fields::read_field(p, 1) else {
         return false;
     };
-    let next = fields::read_field(p, end);
-    let Found::Field(other, from, to) = next else {
+    let Some(Ok(right)) = fields::read_field(p, left.end) else {
         return false;
     };
-    let first = fields::part(p, start, end);
-    let a = atom(l, nodes, edges, rule, plan, at, i, c, tag, first);
-    let second = fields::part(p, from, to);
-    let b = atom(l, nodes, edges, rule, plan, at, i, c, other, second);
+    let a = atom(
+        l,
+        nodes,
+        edges,
+        rule,
+        plan,
+        at,
+        i,
+        c,
+        left.tag,
+        &p[left.start..left.end],
+    );
+    let b = atom(
+        l,
+        nodes,
+        edges,
+        rule,
+        plan,
+        at,
+        i,
+        c,
+        right.tag,
+        &p[right.start..right.end],
+    );
     if parts::byte_at(p, 0) == Relation::EQUAL {
         a == b
     } else {
@@ -105,7 +133,13 @@ fn condition_holds(
     }
     let s = slot_of(at, i, c, parts::number_at(p, 0));
     match tag {
-        Tag::EDGE_TEST => graph::any_runs(l, nodes, edges, s, slot_of(at, i, c, parts::number_at(p, 1))),
+        Tag::EDGE_TEST => graph::any_runs(
+            l,
+            nodes,
+            edges,
+            s,
+            slot_of(at, i, c, parts::number_at(p, 1)),
+        ),
         Tag::IN_DEGREE => graph::in_degree(l, nodes, edges, s) == parts::degree_of(p),
         _ => graph::out_degree(l, nodes, edges, s) == parts::degree_of(p),
     }
@@ -128,13 +162,22 @@ fn test_holds(
     ensures { (w : HasTest (host_of l nodes.now edges.now) rule.now plan.now at.now i c t) → result ≡ test_holds (host_of l nodes.now edges.now) w.trial.placed (assigned (host_of l nodes.now edges.now) w.trial.rule w.trial.placed) (test_of w.trial.rule t) }
 {
     let tests = plan::tests(rule, plan);
-    let found = fields::nth_field(tests, t);
-    let Found::Field(tag, start, end) = found else {
+    let Some(Ok(Field { tag, start, end })) = fields::nth_field(tests, t) else {
         return false;
     };
-    let p = fields::part(tests, start, end);
-    let rest = parts::behind(p, 1);
-    let holds = condition_holds(l, nodes, edges, rule, plan, at, i, c, tag, rest);
+    let p = &tests[start..end];
+    let holds = condition_holds(
+        l,
+        nodes,
+        edges,
+        rule,
+        plan,
+        at,
+        i,
+        c,
+        tag,
+        parts::behind(p, 1),
+    );
     if parts::flag(p) { !holds } else { holds }
 }
 

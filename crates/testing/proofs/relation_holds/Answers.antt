@@ -1,5 +1,6 @@
 -- `relation_holds` meets its contract: its two operands are read one behind the other.
-use Rattle.std.proofs.Common.{◌≡◌}
+use Rattle.std.proofs.Common.{◌≡◌, refl, ◌∙◌, ap, ◌≤◌, length, Some}
+use Rattle.fields.specs.Fields.{found}
 use Rattle.meaning.specs.Tags.{relation_tag}
 use Rattle.meaning.specs.Layout.{Host, host_of}
 use Rattle.meaning.specs.Matching.{Assignment, atom_of}
@@ -8,7 +9,7 @@ use Rattle.parts.proofs.Loops.{a-field, part_in}
 use Rattle.testing.specs.Testing.{HasCondition}
 use Rattle.testing.proofs.Conditions.{two, left-none, left-operand, right-none, right_operand, equal-holds, less-holds}
 use Rattle.testing.proofs.relation_holds.Goals as goal
-use Rattle.testing.proofs.relation_holds.Goals.{After-byte_at}
+use Rattle.testing.proofs.relation_holds.Goals.{In-Some-Ok-read_field, After-byte_at}
 
 abbrev host : (s : After-byte_at) → Host
 host s = host_of s.args.l s.args.nodes.now s.args.edges.now
@@ -19,37 +20,71 @@ Has s = HasCondition (host s) s.args.rule.now s.args.plan.now s.args.at.now s.ar
 abbrev α : (s : After-byte_at) → Has s → Assignment
 α s w = assigned (host s) w.trial.rule w.trial.placed
 
+left-there : (c : In-Some-Ok-read_field) → c.read_field.result ≡ found c.in-Some-Ok.left.tag c.in-Some-Ok.left.start c.in-Some-Ok.left.end
+left-there c = c.in-Some-Ok.is ∙ ap Some c.in-Some-Ok.field-0-is
+
+right-there : (c : In-Some-Ok-read_field)
+    → c.read_field-2.result ≡ found c.in-Some-Ok-read_field.right.tag c.in-Some-Ok-read_field.right.start c.in-Some-Ok-read_field.right.end
+right-there c = c.in-Some-Ok-read_field.is ∙ ap Some c.in-Some-Ok-read_field.field-0-is
+
+-- where they lie
+left-part : (c : In-Some-Ok-read_field) → (c.in-Some-Ok.left.start ≤ c.in-Some-Ok.left.end) × (c.in-Some-Ok.left.end ≤ length c.args.p.now)
+left-part c = part_in (a-field _ _ c.read_field.ensures (left-there c))
+
+right-part : (c : In-Some-Ok-read_field)
+    → (c.in-Some-Ok-read_field.right.start ≤ c.in-Some-Ok-read_field.right.end) × (c.in-Some-Ok-read_field.right.end ≤ length c.args.p.now)
+right-part c = part_in (a-field _ _ c.read_field-2.ensures (right-there c))
+
 atoms : (c : After-byte_at) (w : Has c)
     → (c.atom-a.result ≡ atom_of (α c w) (two w).left) × (c.atom-b.result ≡ atom_of (α c w) (two w).right)
 atoms c w = (
-  c.atom-a.ensures (left-operand w c.read_field-found.ensures c.in-Field.is c.part-first.ensures),
-  c.atom-b.ensures (right_operand w c.read_field-found.ensures c.in-Field.is c.read_field-next.ensures c.in-Field-next.is c.part-second.ensures),
+  c.atom-a.ensures (left-operand w c.read_field.ensures (left-there (goal.at.After-byte_at c).In-Some-Ok-read_field) refl),
+  c.atom-b.ensures (right_operand w c.read_field.ensures (left-there (goal.at.After-byte_at c).In-Some-Ok-read_field) c.read_field-2.ensures (right-there (goal.at.After-byte_at c).In-Some-Ok-read_field) refl),
 )
 
 pub returns-in_default : goal.returns-in_default
-returns-in_default c = λ w. absurd (left-none w c.read_field-found.ensures c.in_default.not-Field)
+returns-in_default c = λ w. absurd (left-none w c.read_field.ensures (λ tag start end e. cc))
 
-pub returns-in_default-next : goal.returns-in_default-next
-returns-in_default-next c = λ w. absurd (right-none w c.read_field-found.ensures c.in-Field.is c.read_field-next.ensures c.in_default-next.not-Field)
+pub returns-in_default-2 : goal.returns-in_default-2
+returns-in_default-2 c = λ w. absurd (left-none w c.read_field.ensures (λ tag start end e. cc))
 
-pub part-first-requires : goal.part-first-requires
-part-first-requires c = part_in (a-field _ _ c.read_field-found.ensures c.in-Field.is)
+pub returns-in_default-read_field : goal.returns-in_default-read_field
+returns-in_default-read_field c = λ w. absurd (right-none w c.read_field.ensures (c.in-Some-Ok.is ∙ ap Some c.in-Some-Ok.field-0-is) c.read_field-2.ensures (λ tag start end e. cc))
+
+pub returns-in_default-read_field-2 : goal.returns-in_default-read_field-2
+returns-in_default-read_field-2 c = λ w. absurd (right-none w c.read_field.ensures (c.in-Some-Ok.is ∙ ap Some c.in-Some-Ok.field-0-is) c.read_field-2.ensures (λ tag start end e. cc))
+
+pub slice_bounds-atom-count : goal.slice_bounds-atom-count
+slice_bounds-atom-count c = (left-part (goal.at.slice_bounds-atom-count c).In-Some-Ok-read_field).0
+
+pub slice_bounds-atom-start : goal.slice_bounds-atom-start
+slice_bounds-atom-start c = (left-part (goal.at.slice_bounds-atom-start c).In-Some-Ok-read_field).0
+
+pub slice_bounds-atom-end : goal.slice_bounds-atom-end
+slice_bounds-atom-end c = (left-part (goal.at.slice_bounds-atom-end c).In-Some-Ok-read_field).1
 
 pub atom-a-requires : goal.atom-a-requires
 atom-a-requires c =
     record {
       legal = c.requires.legal;
-      has_operand = left-operand c.requires.has_condition c.read_field-found.ensures c.in-Field.is c.part-first.ensures;
+      has_operand = left-operand c.requires.has_condition c.read_field.ensures (left-there (goal.at.atom-a-requires c).In-Some-Ok-read_field) refl;
     }
 
-pub part-second-requires : goal.part-second-requires
-part-second-requires c = part_in (a-field _ _ c.read_field-next.ensures c.in-Field-next.is)
+pub slice_bounds-atom-count-2 : goal.slice_bounds-atom-count-2
+slice_bounds-atom-count-2 c = (right-part (goal.at.slice_bounds-atom-count-2 c).In-Some-Ok-read_field).0
+
+pub slice_bounds-atom-start-2 : goal.slice_bounds-atom-start-2
+slice_bounds-atom-start-2 c = (right-part (goal.at.slice_bounds-atom-start-2 c).In-Some-Ok-read_field).0
+
+pub slice_bounds-atom-end-2 : goal.slice_bounds-atom-end-2
+slice_bounds-atom-end-2 c = (right-part (goal.at.slice_bounds-atom-end-2 c).In-Some-Ok-read_field).1
 
 pub atom-b-requires : goal.atom-b-requires
 atom-b-requires c =
+    let here = (goal.at.atom-b-requires c).In-Some-Ok-read_field in
     record {
       legal = c.requires.legal;
-      has_operand = right_operand c.requires.has_condition c.read_field-found.ensures c.in-Field.is c.read_field-next.ensures c.in-Field-next.is c.part-second.ensures;
+      has_operand = right_operand c.requires.has_condition c.read_field.ensures (left-there here) c.read_field-2.ensures (right-there here) refl;
     }
 
 pub returns-then-byte_at-eq-EQUAL : goal.returns-then-byte_at-eq-EQUAL

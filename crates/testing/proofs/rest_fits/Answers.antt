@@ -1,6 +1,5 @@
 -- `rest_fits` meets its contract: the label agrees, by its sort or as compared, and the tests are left.
-use Rattle.std.proofs.Common.{◌≡◌, refl, ◌∙◌, ⊎_elim, true, [], ◌∷◌, ◌++◌, ◌+◌, length, get_or, take}
-use borrow.Author.Tests.{not-false}
+use Rattle.std.proofs.Common.{◌≡◌, refl, ◌∙◌, true, [], ◌∷◌, ◌++◌, ◌+◌, length, get_or, take}
 use Rattle.meaning.specs.Layout.{Host, host_of}
 use Rattle.meaning.specs.Matching.{left_nodes}
 use Rattle.meaning.specs.Assigned.{assigned}

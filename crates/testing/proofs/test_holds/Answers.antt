@@ -1,5 +1,6 @@
 -- `test_holds` meets its contract: the field of the test's number is read as the test.
-use Rattle.std.proofs.Common.{◌≡◌, sym, ◌∙◌, not}
+use Rattle.std.proofs.Common.{◌≡◌, refl, sym, ◌∙◌, ap, not, Some}
+use Rattle.fields.specs.Fields.{found}
 use Rattle.meaning.specs.Basics.{choose}
 use Rattle.meaning.specs.Layout.{Host, host_of}
 use Rattle.meaning.specs.Matching.{Assignment, test_holds}
@@ -10,7 +11,7 @@ use Rattle.plan.specs.Plan.{test_of}
 use Rattle.testing.specs.Testing.{HasTest}
 use Rattle.testing.proofs.Conditions.{test-none, test-there, of_test, by_flag}
 use Rattle.testing.proofs.test_holds.Goals as goal
-use Rattle.testing.proofs.test_holds.Goals.{After-flag}
+use Rattle.testing.proofs.test_holds.Goals.{In-Some-Ok, After-flag}
 
 abbrev host : (s : After-flag) → Host
 host s = host_of s.args.l s.args.nodes.now s.args.edges.now
@@ -21,25 +22,37 @@ Has s = HasTest (host s) s.args.rule.now s.args.plan.now s.args.at.now s.args.i 
 abbrev α : (s : After-flag) → Has s → Assignment
 α s w = assigned (host s) w.trial.rule w.trial.placed
 
+there : (c : In-Some-Ok) → c.nth_field.result ≡ found c.in-Some-Ok.field-0-0.tag c.in-Some-Ok.field-0-0.start c.in-Some-Ok.field-0-0.end
+there c = c.in-Some-Ok.is ∙ ap Some c.in-Some-Ok.field-0-is
+
 chosen : (c : After-flag) (w : Has c)
     → choose c.flag.result (not c.condition_holds-holds.result) c.condition_holds-holds.result
     ≡ test_holds (host c) w.trial.placed (α c w) (test_of w.trial.rule c.args.t)
 chosen c w =
-    let is = test-there w _ (c.tests-tests.ensures w.trial.rule w.trial.planned.laid) c.nth_field-found.ensures c.in-Field.is c.part-p.ensures in
-    by_flag w is (α c w) _ _ c.flag.ensures (c.condition_holds-holds.ensures (of_test w is c.behind-rest.ensures))
+    let is = test-there w _ (c.tests-tests.ensures w.trial.rule w.trial.planned.laid) c.nth_field.ensures (there (goal.at.After-flag c).In-Some-Ok) refl in
+    by_flag w is (α c w) _ _ c.flag.ensures (c.condition_holds-holds.ensures (of_test w is c.behind.ensures))
 
 pub returns-in_default : goal.returns-in_default
-returns-in_default c = λ w. absurd (test-none w _ (c.tests-tests.ensures w.trial.rule w.trial.planned.laid) c.nth_field-found.ensures c.in_default.not-Field)
+returns-in_default c = λ w. absurd (test-none w _ (c.tests-tests.ensures w.trial.rule w.trial.planned.laid) c.nth_field.ensures (λ tag start end e. cc))
 
-pub part-p-requires : goal.part-p-requires
-part-p-requires c = nth_in _ _ c.nth_field-found.ensures c.in-Field.is
+pub returns-in_default-2 : goal.returns-in_default-2
+returns-in_default-2 c = λ w. absurd (test-none w _ (c.tests-tests.ensures w.trial.rule w.trial.planned.laid) c.nth_field.ensures (λ tag start end e. cc))
+
+pub slice_bounds-p-count : goal.slice_bounds-p-count
+slice_bounds-p-count c = (nth_in _ _ c.nth_field.ensures (there (goal.at.slice_bounds-p-count c).In-Some-Ok)).0
+
+pub slice_bounds-p-start : goal.slice_bounds-p-start
+slice_bounds-p-start c = (nth_in _ _ c.nth_field.ensures (there (goal.at.slice_bounds-p-start c).In-Some-Ok)).0
+
+pub slice_bounds-p-end : goal.slice_bounds-p-end
+slice_bounds-p-end c = (nth_in _ _ c.nth_field.ensures (there (goal.at.slice_bounds-p-end c).In-Some-Ok)).1
 
 pub condition_holds-holds-requires : goal.condition_holds-holds-requires
 condition_holds-holds-requires c =
     let w = c.requires.has_test in
     record {
       legal = c.requires.legal;
-      has_condition = of_test w (test-there w _ (c.tests-tests.ensures w.trial.rule w.trial.planned.laid) c.nth_field-found.ensures c.in-Field.is c.part-p.ensures) c.behind-rest.ensures;
+      has_condition = of_test w (test-there w _ (c.tests-tests.ensures w.trial.rule w.trial.planned.laid) c.nth_field.ensures (there (goal.at.condition_holds-holds-requires c).In-Some-Ok) refl) c.behind.ensures;
     }
 
 pub returns-then-flag : goal.returns-then-flag
