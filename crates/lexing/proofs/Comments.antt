@@ -85,10 +85,3 @@ pub comment_found : (bs : List ℕ) (at from : ℕ) (r : Slash) → words (drop 
     → CommentEnd bs from r → AtSlash bs at r
 comment_found bs at from (Comment to) e h c = let k = c.1 in (e ∙ c.0, omega arith, c.2)
 comment_found bs at from (Alone to) e h c = let k = c.1 in (e ∙ c.0, omega arith, c.2)
-
-module _ (bs : List ℕ) (at to : ℕ) (r : Slash) (a : AtSlash bs at r) where
-  pub comment_at : r ≡ Comment to → AtSlash bs at (Comment to)
-  comment_at e = rw e at a
-
-  pub alone_at : r ≡ Alone to → AtSlash bs at (Alone to)
-  alone_at e = rw e at a

@@ -1,4 +1,4 @@
--- Names and words compared, letter by letter. Rests on Names and on specs/Lexing.
+-- Names compared, letter by letter. Rests on Names and on specs/Lexing.
 use mathlib.Core.Path.{◌≡◌, refl, sym, ◌∙◌, ap}
 use mathlib.Core.Bool.{Bool, true, false}
 use mathlib.Core.List.{List, [], ◌∷◌}
@@ -92,30 +92,3 @@ module _ (bs : List ℕ) (a b k : ℕ) (g : Agree bs a b k) where
         rest = g.rest ∙ rw (s.1, t.1, x, y, eq-eqb (letter bs (a + k)) (letter bs (b + k)) e);
         within = omega arith;
       }
-
--- A part of the text and a word.
-
-module _ (bs word : List ℕ) (from to : ℕ) (h : from ≤ to) (j : to ≤ length bs) where
-  pub word-length : (to - from ≡ length word → ⊥) → same (slice from to bs) word ≡ false
-  word-length e = not_so _ (λ q. e (sym (length-slice from to bs j) ∙ ap length (same_true (slice from to bs) word q)))
-
-  pub word-begins : same (slice from to bs) word ≡ same (slice (from + 0) to bs) (drop 0 word)
-  word-begins = let z : from + 0 ≡ from = omega arith in rw z
-
-  module _ (k : ℕ) (l : to - from ≡ length word) (g : same (slice from to bs) word ≡ same (slice (from + k) to bs) (drop k word)) where
-    pub word-ends : length word ≤ k → k ≤ length word → same (slice from to bs) word ≡ true
-    unfolding same
-    word-ends m n =
-        let z : from + k ≡ to = omega arith in
-        g ∙ rw (z, slice_empty to bs, drop_of_length-le word m)
-
-    pub word_differs : k < length word → (byte bs (from + k) ≡ byte word k → ⊥) → same (slice from to bs) word ≡ false
-    word_differs m e =
-        g ∙ rw (slice-cons (from + k) to bs 0 (omega arith) j, drop-cons word k 0 m) (differ _ _ e)
-
-    pub word_more : k < length word → byte bs (from + k) ≡ byte word k
-        → same (slice from to bs) word ≡ same (slice (from + (k + 1)) to bs) (drop (k + 1) word)
-    unfolding same both
-    word_more m e =
-        let z : from + (k + 1) ≡ suc (from + k) = omega arith in
-        g ∙ rw (slice-cons (from + k) to bs 0 (omega arith) j, drop-cons word k 0 m, eq-eqb (byte bs (from + k)) (byte word k) e, z, add-one k)

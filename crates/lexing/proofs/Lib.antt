@@ -1,3 +1,4 @@
+mod Bytes
 mod Comments
 mod Comparing
 mod Names

@@ -1,10 +1,10 @@
 -- What the code finds at a place of a text: the contracts of the lexer. Rests on the text's Words.
-use Rattle.std.specs.Prelude.{◌≡◌, List, [], ◌∷◌, ℕ, ◌<◌, ◌≤◌, length, drop}
+use Rattle.std.specs.Prelude.{◌≡◌, Option, None, Some, List, [], ◌∷◌, ℕ, ◌<◌, ◌≤◌, length, drop}
 use Rattle.std.proofs.Math.Seq.{slice}
 use Rattle.meaning.specs.Basics.{choose}
 use Rattle.text.specs.Words.{name, sign, is_letter, slash, aside, inside, words_in, words}
 use Rattle.lexing.specs.declared.Token.{Token}
-use Rattle.lexing.specs.declared.Token.TheVariants.{End, Sign, Name}
+use Rattle.lexing.specs.declared.Token.TheVariants.{Sign, Name}
 use Rattle.lexing.specs.declared.Slash.{Slash}
 use Rattle.lexing.specs.declared.Slash.TheVariants.{Comment, Alone}
 
@@ -40,10 +40,11 @@ abbrev pub AtSlash : List ℕ → ℕ → Slash → Type 0
 AtSlash bs at (Comment to) = (words (drop at bs) ≡ words (drop to bs)) × (at < to) × (to ≤ length bs)
 AtSlash bs at (Alone to) = (words (drop at bs) ≡ sign slash ∷ words (drop to bs)) × (at < to) × (to ≤ length bs)
 
-abbrev pub Next : List ℕ → ℕ → Token → Type 0
-Next bs at End = words (drop at bs) ≡ []
-Next bs at (Sign c next) = (words (drop at bs) ≡ sign c ∷ words (drop next bs)) × (at < next) × (next ≤ length bs)
-Next bs at (Name from to) =
+-- the next word from a place on, or none
+abbrev pub Next : List ℕ → ℕ → Option Token → Type 0
+Next bs at None = words (drop at bs) ≡ []
+Next bs at (Some (Sign c next)) = (words (drop at bs) ≡ sign c ∷ words (drop next bs)) × (at < next) × (next ≤ length bs)
+Next bs at (Some (Name from to)) =
     (words (drop at bs) ≡ words (drop from bs))
     × (words (drop from bs) ≡ name (slice from to bs) ∷ words (drop to bs))
     × (name_at bs from ≡ slice from to bs)

@@ -4,13 +4,12 @@
 ghost use Rattle.std.specs.Prelude.{◌≡◌, true, ◌+◌, ◌<◌, ◌≤◌, length, get_or, drop};
 ghost use Rattle.std.proofs.Math.Seq.{slice};
 ghost use Rattle.meaning.specs.Basics.{same};
-ghost use Rattle.text.specs.Words.{within, is_letter, is_digit, is_white, slash};
+ghost use Rattle.text.specs.Words.{is_letter, is_digit, is_white, slash};
 ghost use Rattle.lexing.specs.Lexing.{name_at, NameEnd, LineEnd, CommentEnd, AtSlash, Next};
 
-// What stands at a place behind white space and comments: nothing, a sign and the place behind it, or a name between two places.
+// A word where it lies: a sign and the place behind it, or a name between two places.
 #[derive(Clone, Copy)]
 pub enum Token {
-    End,
     Sign(u8, usize),
     Name(usize, usize),
 }
@@ -25,49 +24,22 @@ pub enum Slash {
 
 // Bytes.
 
-fn between(low: u8, high: u8, b: u8) -> bool
-    ensures { result ≡ within low high b }
-{
-    if low <= b {
-        return b <= high;
-    }
-    false
-}
-
 pub fn is_digit(b: u8) -> bool
     ensures { result ≡ is_digit b }
 {
-    between(b'0', b'9', b)
+    b.is_ascii_digit()
 }
 
 pub fn is_letter(b: u8) -> bool
     ensures { result ≡ is_letter b }
 {
-    if is_digit(b) {
-        return true;
-    }
-    if between(b'A', b'Z', b) {
-        return true;
-    }
-    if between(b'a', b'z', b) {
-        return true;
-    }
-    b == b'_'
+    b.is_ascii_alphanumeric() || b == b'_'
 }
 
 pub fn is_white(b: u8) -> bool
     ensures { result ≡ is_white b }
 {
-    if b == b' ' {
-        return true;
-    }
-    if b == b'\t' {
-        return true;
-    }
-    if b == b'\n' {
-        return true;
-    }
-    b == b'\r'
+    matches!(b, b' ' | b'\t' | b'\n' | b'\r')
 }
 
 // Comments.
@@ -77,14 +49,12 @@ fn line_end(text: &[u8], from: usize) -> usize
     requires { from ≤ length text.now }
     ensures { LineEnd text.now from result }
 {
-    let mut i = from;
-    while i < text.len() {
+    for i in from..text.len() {
         if text[i] == b'\n' {
             return i + 1;
         }
-        i += 1;
     }
-    i
+    text.len()
 }
 
 // The place behind the star and the slash that end the comment, from a place in the comment.
@@ -93,16 +63,14 @@ fn comment_end(text: &[u8], from: usize) -> Slash
     ensures { CommentEnd text.now from result }
 {
     let mut starred = false;
-    let mut i = from;
-    while i < text.len() {
+    for i in from..text.len() {
         let b = text[i];
         if starred && b == b'/' {
             return Slash::Comment(i + 1);
         }
         starred = b == b'*';
-        i += 1;
     }
-    Slash::Alone(i)
+    Slash::Alone(text.len())
 }
 
 // What the slash at this place is.
@@ -132,46 +100,36 @@ fn name_end(text: &[u8], from: usize) -> usize
     requires from_value { is_letter (get_or text.now from 0) ≡ true }
     ensures { NameEnd text.now from result }
 {
-    let mut i = from + 1;
-    while i < text.len() {
-        let b = text[i];
-        if is_letter(b) {
-            i += 1;
-        } else {
+    for i in from + 1..text.len() {
+        if !is_letter(text[i]) {
             return i;
         }
     }
-    i
+    text.len()
 }
 
-// The next word from a place on.
-pub fn next_word(text: &[u8], start: usize) -> Token
+// The next word from a place on, behind white space and comments; none where the text ends.
+pub fn next_word(text: &[u8], start: usize) -> Option<Token>
     ensures { Next text.now start result }
 {
     let mut at = start;
     while at < text.len() {
         let b = text[at];
         if is_letter(b) {
-            return Token::Name(at, name_end(text, at));
+            return Some(Token::Name(at, name_end(text, at)));
         }
         if is_white(b) {
             at += 1;
+        } else if b == b'/' {
+            match at_slash(text, at) {
+                Slash::Comment(end) => at = end,
+                Slash::Alone(next) => return Some(Token::Sign(b, next)),
+            }
         } else {
-            if b != b'/' {
-                return Token::Sign(b, at + 1);
-            }
-            let slash = at_slash(text, at);
-            match slash {
-                Slash::Comment(end) => {
-                    at = end;
-                }
-                Slash::Alone(next) => {
-                    return Token::Sign(b, next);
-                }
-            }
+            return Some(Token::Sign(b, at + 1));
         }
     }
-    Token::End
+    None
 }
 
 // The letter of number k of the name at a place; 0 behind its end.
@@ -212,15 +170,5 @@ pub fn is_word(text: &[u8], from: usize, to: usize, word: &[u8]) -> bool
     requires { from ≤ to × to ≤ length text.now }
     ensures { result ≡ same (slice from to text.now) word.now }
 {
-    if to - from != word.len() {
-        return false;
-    }
-    let mut k: usize = 0;
-    while k < word.len() {
-        if text[from + k] != word[k] {
-            return false;
-        }
-        k += 1;
-    }
-    true
+    text[from..to] == word[..]
 }

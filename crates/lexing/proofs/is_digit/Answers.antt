@@ -1,7 +1,7 @@
 -- `is_digit` meets its contract.
-use Rattle.text.specs.Words.{is_digit}
+use Rattle.std.proofs.Common.{◌∙◌}
+use Rattle.lexing.proofs.Bytes.{digit-ascii}
 use Rattle.lexing.proofs.is_digit.Goals as goal
 
 pub returns : goal.returns
-unfolding is_digit
-returns c = c.between.ensures
+returns c = c.is_ascii_digit.ensures.value ∙ digit-ascii c.args.b

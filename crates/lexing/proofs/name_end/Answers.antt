@@ -1,4 +1,4 @@
-use Rattle.std.proofs.Common.{sym, ◌∙◌, arith}
+use Rattle.std.proofs.Common.{◌≡◌, length, sym, ◌∙◌, arith}
 use Rattle.lexing.proofs.Names.{naming-begins, naming-more, naming-other, naming-ends}
 use Rattle.lexing.proofs.name_end.Goals as goal
 
@@ -7,17 +7,16 @@ loop-i-init c = naming-begins c.args.text.now c.args.from c.requires.from_in_bou
 
 pub loop-i-preserved : goal.loop-i-preserved
 loop-i-preserved c =
-    let bs = c.args.text.now in
-    let e = sym c.is_letter.ensures ∙ c.if-is_letter.true in
-    naming-more bs c.args.from c.loop-i.i c.loop-i.invariant (omega arith) e
+    let e = sym c.is_letter.ensures ∙ c.if-not-is_letter.false in
+    naming-more c.args.text.now c.args.from c.loop-i.i c.loop-i.invariant (omega arith) e
 
-pub returns-else-is_letter : goal.returns-else-is_letter
-returns-else-is_letter c =
-    let bs = c.args.text.now in
-    let e = sym c.is_letter.ensures ∙ c.if-is_letter.false in
-    naming-other bs c.args.from c.loop-i.i c.loop-i.invariant (omega arith) e
+pub returns-then-not-is_letter : goal.returns-then-not-is_letter
+returns-then-not-is_letter c =
+    let e = sym c.is_letter.ensures ∙ c.if-not-is_letter.true in
+    naming-other c.args.text.now c.args.from c.loop-i.i c.loop-i.invariant (omega arith) e
 
 pub returns : goal.returns
 returns c =
     let bs = c.args.text.now in
-    naming-ends bs c.args.from c.loop-i.i c.loop-i.invariant (omega arith)
+    let e : c.loop-i.i ≡ length bs = omega arith in
+    rw e at (naming-ends bs c.args.from c.loop-i.i c.loop-i.invariant (omega arith))
