@@ -1,25 +1,25 @@
 -- A row of items, as the loop reads it: what it has kept of the items so far. Rests on Items, on parsing's Laws and Rows, and
 -- on the text's Exact.
 use mathlib.Core.Path.{◌≡◌, refl, sym, ◌∙◌, ap}
-use mathlib.Core.Bool.{Bool, true, false, not}
+use mathlib.Core.Bool.{Bool, true}
 use mathlib.Core.List.{List, [], ◌∷◌, ◌++◌}
+use Rattle.std.specs.Prelude.{Ok, Err}
 use Prim.Native.Nat.{ℕ, ◌+◌, ◌<◌, ◌≤◌}
 use native.Mathlib.Omega.{arith}
 use native.Mathlib.Decide.{ℕ_discrete}
-use borrow.Author.Tests.{not-true, not-false}
 use lib.ListN.{length, get_or, set, length-append, length-set, get_or-append}
 use lib.Seq.{set_out, get_or_at, get_or-set_same, get_or-set_other}
 use Rattle.meaning.specs.Basics.{both, every}
-use Rattle.meaning.specs.Laws.Tests.{every_append, both_false, both-last}
+use Rattle.meaning.specs.Laws.Tests.{every_append, both-last}
 use Rattle.meaning.specs.declared.Table.{Table}
 use Rattle.meaning.specs.declared.Table.TheVariants.{Nodes, Edges}
 use Rattle.text.specs.Words.{left}
-use Rattle.text.specs.Grammar.{node, edge}
+use Rattle.text.specs.Grammar.{Parsed, node, edge}
 use Rattle.text.proofs.Exact.{node-shorter, edge-shorter}
-use Rattle.parsing.specs.Reading.{Reads, Passed}
-use Rattle.parsing.specs.Laws.{was_ok, then}
-use Rattle.parsing.specs.Rows.{Rows, Shortens, row-begins, row-broken, row_ends, row_goes}
-use Rattle.parsing.specs.declared.Cursor.{Cursor}
+use Rattle.parsing.specs.Reading.{Comes, Passed}
+use Rattle.parsing.specs.Laws.{then}
+use Rattle.parsing.specs.Rows.{Rows, Shortens, row-begins, row_breaks, row_ends, row_goes}
+use Rattle.parsing.specs.declared.BrokenAt.{BrokenAt}
 use Rattle.items.specs.Items.{ItemOf, body_of, item_of, fits_in, At, Places, ReadsItem, AreItems, ReadsItems}
 use Rattle.items.specs.declared.ItemAt.{ItemAt}
 
@@ -29,23 +29,16 @@ item_shortens : (t : Table) → Shortens (item_of t)
 item_shortens Nodes = node-shorter
 item_shortens Edges = edge-shorter
 
-item-whole : (bs : List ℕ) (t : Table) {c s r : Cursor} {a : ItemOf t} → Passed bs c left s → Reads bs s (body_of t) r a
-    → Reads bs c (item_of t) r a
+item-whole : (bs : List ℕ) (t : Table) {c s q : ℕ} {o : Parsed (ItemOf t)} → Passed bs c left (Ok s) → Comes bs s (body_of t) o q
+    → Comes bs c (item_of t) o q
 unfolding node edge
-item-whole bs Nodes x y = then bs _ x.reads y
-item-whole bs Edges x y = then bs _ x.reads y
+item-whole bs Nodes x y = then bs _ x.0 y
+item-whole bs Edges x y = then bs _ x.0 y
 
 -- One item more fits where all do and it does.
 every_more : {A : Type 0} (f : A → Bool) (l : List A) (a : A) → every f (l ++ a ∷ []) ≡ both (every f l) (f a)
 unfolding every
 every_more f l a = every_append f l (a ∷ []) ∙ ap (both (every f l)) (sym (both-last (f a)))
-
--- where the item does not fit, and where it does
-pub no_longer : (a b : Bool) {r : Bool} → not b ≡ true → r ≡ false → r ≡ both a b
-no_longer a b e f = f ∙ sym (both_false a) ∙ ap (both a) (sym (not-true b e))
-
-pub still : (a b : Bool) {r : Bool} → not b ≡ false → r ≡ a → r ≡ both a b
-still a b e f = f ∙ both-last a ∙ ap (both a) (sym (not-false b e))
 
 -- The place of one item more, where there is room for it.
 
@@ -66,47 +59,48 @@ no_room ps i p h e = e ∙ sym (set_out ps i p h)
 -- The loop, with places for n items.
 
 module _ (bs : List ℕ) (t : Table) (most : ℕ) where
-  pub record SoFar (c : Cursor) (n : ℕ) (ps : List ℕ) (next : Cursor) (count : ℕ) (fits : Bool) : Type 0 where
+  pub record SoFar (c : ℕ) (n : ℕ) (ps : List ℕ) (next : ℕ) (count : ℕ) (fits : Bool) : Type 0 where
     pub items : List (ItemOf t)
     pub rows : Rows bs left (item_of t) c next items
-    pub are : next.ok ≡ true → AreItems bs t most ps (record { next = next; count = count; fits = fits }) items
-    pub few : count ≤ next.at
+    pub are : AreItems bs t most ps (record { next = next; count = count; fits = fits }) items
+    pub few : count ≤ next
     pub room : length ps ≡ n
 
-  pub none_yet : (c : Cursor) (ps : List ℕ) → SoFar c (length ps) ps c 0 true
+  pub none_yet : (c : ℕ) (ps : List ℕ) → SoFar c (length ps) ps c 0 true
   unfolding every
   none_yet c ps = record {
     items = [];
     rows = row-begins bs left (item_of t) c;
-    are = λ e. record { count = refl; fits = refl; places = λ d i h k. absurd (omega arith) };
+    are = record { count = refl; fits = refl; places = λ d i h k. absurd (omega arith) };
     few = omega arith;
     room = refl;
   }
 
-  module _ {c : Cursor} {n : ℕ} {ps : List ℕ} {next : Cursor} {count : ℕ} {fits : Bool} (x : SoFar c n ps next count fits) where
-    -- the text breaks, or no item begins
+  module _ {c : ℕ} {n : ℕ} {ps : List ℕ} {next : ℕ} {count : ℕ} {fits : Bool} (x : SoFar c n ps next count fits) where
+    -- no item begins
+    pub row-stops : {b : BrokenAt} → Passed bs next left (Err b)
+        → ReadsItems bs t most c ps (Ok (record { next = next; count = count; fits = fits }))
+    row-stops o = (x.items, row_ends bs left (item_of t) x.rows o, x.are)
 
-    pub row-breaks : next.ok ≡ false → ReadsItems bs t most c ps (record { next = next; count = count; fits = fits })
-    row-breaks e = record { items = x.items; reads = row-broken bs left (item_of t) x.rows e; are = x.are }
-
-    module _ {s : Cursor} (o : Passed bs next left s) where
-      pub row-stops : s.ok ≡ false → ReadsItems bs t most c ps (record { next = next; count = count; fits = fits })
-      row-stops e = record { items = x.items; reads = row_ends bs left (item_of t) x.rows o.reads e; are = x.are }
+    module _ {s : ℕ} (o : Passed bs next left (Ok s)) where
+      -- the text breaks in an item
+      pub row-breaks : {b : BrokenAt} (qs : List ℕ) → ReadsItem bs t most s (Err b) → ReadsItems bs t most c qs (Err b)
+      row-breaks qs y = row_breaks bs left (item_of t) x.rows o.0 (item-whole bs t o y)
 
       -- one item more
-      pub one_more : s.ok ≡ true → {r : ItemAt} {qs : List ℕ} {fit : Bool} → ReadsItem bs t most s r → qs ≡ set ps count r.from
-          → fit ≡ both fits r.fits → SoFar c n qs r.next (count + 1) fit
-      one_more e {r} {qs} {fit} y p f = record {
-        items = x.items ++ y.item ∷ [];
-        rows = row_goes bs left (item_of t) x.rows (item_shortens t) o.reads e (item-whole bs t o y.reads);
-        are = λ k.
-            let i = x.are (was_ok bs o.reads e) in
-            let j = y.is k in
-            record {
-              count = ap (λ m. m + 1) i.count ∙ sym (length-append x.items (y.item ∷ []));
-              fits = f ∙ rw (i.fits, j.fits, every_more (fits_in t most) x.items y.item);
-              places = rw (p, i.count) (place-more bs t x.items ps y.item r.from i.places j.at);
+      pub one_more : (r : ItemAt) {qs : List ℕ} {fit : Bool} → ReadsItem bs t most s (Ok r) → qs ≡ set ps count r.from → fit ≡ both fits r.fits
+          → SoFar c n qs r.next (count + 1) fit
+      one_more r {qs} {fit} y p f =
+          let i = x.are in
+          let j = y.2 in
+          record {
+            items = x.items ++ y.0 ∷ [];
+            rows = row_goes bs left (item_of t) x.rows (item_shortens t) o.0 (item-whole bs t o y.1);
+            are = record {
+              count = ap (λ m. m + 1) i.count ∙ sym (length-append x.items (y.0 ∷ []));
+              fits = f ∙ rw (i.fits, j.fits, every_more (fits_in t most) x.items y.0);
+              places = rw (p, i.count) (place-more bs t x.items ps y.0 r.from i.places j.at);
             };
-        few = let h = (o.further e).0 in let q = y.reads.onward in omega (arith, x.few);
-        room = rw p (length-set ps count r.from) ∙ x.room;
-      }
+            few = let h = o.1 in let q = y.1.onward in omega (arith, x.few);
+            room = rw p (length-set ps count r.from) ∙ x.room;
+          }

@@ -1,90 +1,150 @@
--- Single items: from what was read of each part to what was read of a node, of an edge, and of an item of either table.
--- Rests on Items and Again and on parsing's Laws.
+-- Single items: from what was read of each part to what was read of a node, of an edge, and of an item of either table; and where a part
+-- breaks. Rests on Items and on parsing's Laws.
 use mathlib.Core.Path.{◌≡◌, refl, ◌∙◌, ap, sym}
 use mathlib.Core.List.{List}
-use mathlib.Core.Bool.{Bool, true}
+use mathlib.Core.Bool.{Bool}
 use Prim.Native.Nat.{ℕ}
 use lib.ListN.{drop}
+use Rattle.std.specs.Prelude.{Option, Ok, Err, Result}
+use Rattle.labels.specs.declared.Label.{Label}
 use Rattle.meaning.specs.declared.Table.{Table}
 use Rattle.meaning.specs.declared.Table.TheVariants.{Nodes, Edges}
 use Rattle.text.specs.Words.{words, left, right, comma}
 use Rattle.text.specs.Grammar.{optional, position, a_root, node_body, edge_body}
 use Rattle.text.specs.Text.{label_fits}
 use Rattle.lexing.specs.Lexing.{name_at}
-use Rattle.parsing.specs.Reading.{ahead, Reads, Passed, ReadsName, Passes}
+use Rattle.parsing.specs.Reading.{ahead, Reads, Breaks, Passed, ReadsName, Passes}
 use Rattle.parsing.specs.Labels.{Gathers, ReadsByte, ReadsLabel}
-use Rattle.parsing.specs.Laws.{was_ok, then, done}
-use Rattle.parsing.specs.declared.Cursor.{Cursor}
+use Rattle.parsing.specs.Laws.{then, breaks, done}
+use Rattle.parsing.specs.declared.BrokenAt.{BrokenAt}
 use Rattle.parsing.specs.declared.NameAt.{NameAt}
-use Rattle.parsing.specs.declared.labelling.Gathered.{Gathered}
 use Rattle.parsing.specs.declared.labelling.ByteAt.{ByteAt}
 use Rattle.parsing.specs.declared.labelling.LabelAt.{LabelAt}
-use Rattle.items.specs.Items.{ItemOf, body_of, id_of, label_of, Fits, ReadsNode, ReadsEdge, ReadsItem}
-use Rattle.items.specs.Again.{read}
+use Rattle.items.specs.Items.{ItemOf, body_of, id_of, label_of, Fits, IsNode, ReadsNode, IsEdge, ReadsEdge, IsItem, ReadsItem}
 use Rattle.items.specs.declared.NodeAt.{NodeAt}
 use Rattle.items.specs.declared.EdgeAt.{EdgeAt}
 
 module _ (bs : List ℕ) where
-  -- A node, and an edge.
+  -- A node, part by part.
 
-  pub node-read : {c a p b q : Cursor} {id : NameAt} {r : ByteAt} {l : LabelAt}
-      → ReadsName bs c id → ReadsByte bs id.next (optional left a_root 0) r → Passed bs r.next comma a → ReadsLabel bs a l
-      → Passes bs l.next position p → Passed bs p right b → Passes bs b position q
-      → ReadsNode bs c (record { next = q; from = id.from; root = r.byte; mark = l.mark; gathered = l.gathered })
+  pub node-1 : {c : ℕ} {b : BrokenAt} → ReadsName bs c (Err b) → ReadsNode bs c (Err b)
   unfolding node_body
-  node-read {q = q} n r a l p b d = record {
-    item = _;
-    reads =
-        then bs _ n.reads
-        (then bs _ r
-        (then bs _ a.reads (then bs _ l.reads (then bs _ p.reads (then bs _ b.reads (then bs _ d.reads (done bs q _)))))));
-    is = λ e.
-        let k = was_ok bs p.reads (was_ok bs b.reads (was_ok bs d.reads e)) in
-        let h = was_ok bs r (was_ok bs a.reads (was_ok bs l.reads k)) in
-        record { here = n.here h; id = refl; root = refl; mark = refl; gathers = l.gathers k };
-  }
+  node-1 x = breaks bs _ x
 
-  pub edge-read : {c a b d q : Cursor} {id source target : NameAt} {l : LabelAt}
-      → ReadsName bs c id → Passed bs id.next comma a → ReadsName bs a source → Passed bs source.next comma b
-      → ReadsName bs b target → Passed bs target.next comma d → ReadsLabel bs d l → Passed bs l.next right q
-      → ReadsEdge bs c
-      (record { next = q; from = id.from; source = source.from; target = target.from; mark = l.mark; gathered = l.gathered })
+  module _ {c : ℕ} (id : NameAt) (n : ReadsName bs c (Ok id)) where
+    pub node-2 : {b : BrokenAt} → ReadsByte bs id.next (optional left a_root 0) (Err b) → ReadsNode bs c (Err b)
+    unfolding node_body
+    node-2 x = then bs _ n.reads (breaks bs _ x)
+
+    module _ (r : ByteAt) (o : ReadsByte bs id.next (optional left a_root 0) (Ok r)) where
+      pub node-3 : {b : BrokenAt} → Passed bs r.next comma (Err b) → ReadsNode bs c (Err b)
+      unfolding node_body
+      node-3 x = then bs _ n.reads (then bs _ o (breaks bs _ x))
+
+      module _ {d : ℕ} (m : Passed bs r.next comma (Ok d)) where
+        pub node-4 : {b : BrokenAt} → ReadsLabel bs d (Err b) → ReadsNode bs c (Err b)
+        unfolding node_body
+        node-4 x = then bs _ n.reads (then bs _ o (then bs _ m.0 (breaks bs _ x)))
+
+        module _ (l : LabelAt) (k : ReadsLabel bs d (Ok l)) where
+          pub node-5 : {b : BrokenAt} → Passes bs l.next position (Err b) → ReadsNode bs c (Err b)
+          unfolding node_body
+          node-5 x = then bs _ n.reads (then bs _ o (then bs _ m.0 (then bs _ k.1 (breaks bs _ x))))
+
+          module _ {p : ℕ} (q : Passes bs l.next position (Ok p)) where
+            pub node-6 : {b : BrokenAt} → Passed bs p right (Err b) → ReadsNode bs c (Err b)
+            unfolding node_body
+            node-6 x = then bs _ n.reads (then bs _ o (then bs _ m.0 (then bs _ k.1 (then bs _ q.1 (breaks bs _ x)))))
+
+            module _ {e : ℕ} (s : Passed bs p right (Ok e)) where
+              pub node-7 : {b : BrokenAt} → Passes bs e position (Err b) → ReadsNode bs c (Err b)
+              unfolding node_body
+              node-7 x = then bs _ n.reads (then bs _ o (then bs _ m.0 (then bs _ k.1 (then bs _ q.1 (then bs _ s.0 (breaks bs _ x))))))
+
+              pub node-read : {t : ℕ} → Passes bs e position (Ok t)
+                  → ReadsNode bs c (Ok (record { next = t; from = id.from; root = r.byte; mark = l.mark; label = l.label }))
+              unfolding node_body
+              node-read {t} x = (
+                _,
+                then bs _ n.reads (then bs _ o (then bs _ m.0 (then bs _ k.1 (then bs _ q.1 (then bs _ s.0 (then bs _ x.1 (done bs t _))))))),
+                record { here = n.here; id = refl; root = refl; mark = refl; gathers = k.2 },
+              )
+
+  -- An edge, part by part.
+
+  pub edge-1 : {c : ℕ} {b : BrokenAt} → ReadsName bs c (Err b) → ReadsEdge bs c (Err b)
   unfolding edge_body
-  edge-read {q = q} n a s b t d l x = record {
-    item = _;
-    reads =
-        then bs _ n.reads
-        (then bs _ a.reads
-        (then bs _ s.reads
-        (then bs _ b.reads (then bs _ t.reads (then bs _ d.reads (then bs _ l.reads (then bs _ x.reads (done bs q _))))))));
-    is = λ e.
-        let k = was_ok bs x.reads e in
-        let m = was_ok bs s.reads (was_ok bs b.reads (was_ok bs t.reads (was_ok bs d.reads (was_ok bs l.reads k)))) in
-        record { here = n.here (was_ok bs a.reads m); id = refl; source = refl; target = refl; mark = refl; gathers = l.gathers k };
-  }
+  edge-1 x = breaks bs _ x
+
+  module _ {c : ℕ} (id : NameAt) (n : ReadsName bs c (Ok id)) where
+    pub edge-2 : {b : BrokenAt} → Passed bs id.next comma (Err b) → ReadsEdge bs c (Err b)
+    unfolding edge_body
+    edge-2 x = then bs _ n.reads (breaks bs _ x)
+
+    module _ {d : ℕ} (m : Passed bs id.next comma (Ok d)) where
+      pub edge-3 : {b : BrokenAt} → ReadsName bs d (Err b) → ReadsEdge bs c (Err b)
+      unfolding edge_body
+      edge-3 x = then bs _ n.reads (then bs _ m.0 (breaks bs _ x))
+
+      module _ (source : NameAt) (s : ReadsName bs d (Ok source)) where
+        pub edge-4 : {b : BrokenAt} → Passed bs source.next comma (Err b) → ReadsEdge bs c (Err b)
+        unfolding edge_body
+        edge-4 x = then bs _ n.reads (then bs _ m.0 (then bs _ s.reads (breaks bs _ x)))
+
+        module _ {e : ℕ} (o : Passed bs source.next comma (Ok e)) where
+          pub edge-5 : {b : BrokenAt} → ReadsName bs e (Err b) → ReadsEdge bs c (Err b)
+          unfolding edge_body
+          edge-5 x = then bs _ n.reads (then bs _ m.0 (then bs _ s.reads (then bs _ o.0 (breaks bs _ x))))
+
+          module _ (target : NameAt) (t : ReadsName bs e (Ok target)) where
+            pub edge-6 : {b : BrokenAt} → Passed bs target.next comma (Err b) → ReadsEdge bs c (Err b)
+            unfolding edge_body
+            edge-6 x = then bs _ n.reads (then bs _ m.0 (then bs _ s.reads (then bs _ o.0 (then bs _ t.reads (breaks bs _ x)))))
+
+            module _ {f : ℕ} (q : Passed bs target.next comma (Ok f)) where
+              pub edge-7 : {b : BrokenAt} → ReadsLabel bs f (Err b) → ReadsEdge bs c (Err b)
+              unfolding edge_body
+              edge-7 x = then bs _ n.reads (then bs _ m.0 (then bs _ s.reads (then bs _ o.0 (then bs _ t.reads (then bs _ q.0 (breaks bs _ x))))))
+
+              module _ (l : LabelAt) (k : ReadsLabel bs f (Ok l)) where
+                pub edge-8 : {b : BrokenAt} → Passed bs l.next right (Err b) → ReadsEdge bs c (Err b)
+                unfolding edge_body
+                edge-8 x =
+                    then bs _ n.reads (then bs _ m.0 (then bs _ s.reads (then bs _ o.0 (then bs _ t.reads (then bs _ q.0 (then bs _ k.1 (breaks bs _ x)))))))
+
+                pub edge-read : {g : ℕ} → Passed bs l.next right (Ok g)
+                    → ReadsEdge bs c
+                    (Ok (record { next = g; from = id.from; source = source.from; target = target.from; mark = l.mark; label = l.label }))
+                unfolding edge_body
+                edge-read {g} x = (
+                  _,
+                  then bs _ n.reads
+                  (then bs _ m.0 (then bs _ s.reads (then bs _ o.0 (then bs _ t.reads (then bs _ q.0 (then bs _ k.1 (then bs _ x.0 (done bs g _)))))))),
+                  record { here = n.here; id = refl; source = refl; target = refl; mark = refl; gathers = k.2 },
+                )
 
   -- Either, as an item of its table.
 
-  as_item : {t : Table} {c r : Cursor} {p most mark : ℕ} {g : Gathered} {fits : Bool} {a : ItemOf t} → Reads bs c (body_of t) r a
-      → (r.ok ≡ true
-      → (ahead bs c ≡ words (drop p bs)) × (id_of t a ≡ name_at bs p) × ((label_of t a).mark ≡ mark) × Gathers (label_of t a).atoms g)
-      → Fits t mark g most fits → ReadsItem bs t most c (record { next = r; from = p; fits = fits })
+  as_item : {t : Table} {c p r most mark : ℕ} {g : Option Label} {fits : Bool} {a : ItemOf t} → Reads bs c (body_of t) r a
+      → ahead bs c ≡ words (drop p bs) → id_of t a ≡ name_at bs p → (label_of t a).mark ≡ mark → Gathers (label_of t a).atoms g
+      → Fits t mark g most fits → ReadsItem bs t most c (Ok (record { next = r; from = p; fits = fits }))
   unfolding label_fits
-  as_item {t} {r = r} {a = a} x is f = record {
-    item = a;
-    reads = x;
-    is = λ e.
-        let i = is e in
-        record {
-          at = record { rest = ahead bs r; body = ap (body_of t) (sym i.0) ∙ read bs x e; id = i.1 };
-          fits = rw i.2 (f _ i.3);
-        };
-  }
+  as_item {t} {r = r} {a = a} x here id mark gathers f = (
+    a,
+    x,
+    record { at = record { rest = ahead bs r; body = ap (body_of t) (sym here) ∙ x.read; id = id }; fits = rw mark (f _ gathers) },
+  )
 
-  pub node-item : {t : Table} {c : Cursor} {r : NodeAt} {most : ℕ} {fits : Bool} → t ≡ Nodes → ReadsNode bs c r
-      → Fits t r.mark r.gathered most fits → ReadsItem bs t most c (record { next = r.next; from = r.from; fits = fits })
-  node-item k x f = rw k (as_item x.reads (λ e. let i = x.is e in (i.here, i.id, i.mark, i.gathers)) (rw k at f))
+  pub node-item : {t : Table} {c : ℕ} (r : NodeAt) {most : ℕ} {fits : Bool} → t ≡ Nodes → ReadsNode bs c (Ok r) → Fits t r.mark r.label most fits
+      → ReadsItem bs t most c (Ok (record { next = r.next; from = r.from; fits = fits }))
+  node-item r k x f = let i = x.2 in rw k (as_item x.1 i.here i.id i.mark i.gathers (rw k at f))
 
-  pub edge-item : {t : Table} {c : Cursor} {r : EdgeAt} {most : ℕ} {fits : Bool} → t ≡ Edges → ReadsEdge bs c r
-      → Fits t r.mark r.gathered most fits → ReadsItem bs t most c (record { next = r.next; from = r.from; fits = fits })
-  edge-item k x f = rw k (as_item x.reads (λ e. let i = x.is e in (i.here, i.id, i.mark, i.gathers)) (rw k at f))
+  pub node-broken : {t : Table} {c most : ℕ} {b : BrokenAt} → t ≡ Nodes → ReadsNode bs c (Err b) → ReadsItem bs t most c (Err b)
+  node-broken k x = rw k x
+
+  pub edge-item : {t : Table} {c : ℕ} (r : EdgeAt) {most : ℕ} {fits : Bool} → t ≡ Edges → ReadsEdge bs c (Ok r) → Fits t r.mark r.label most fits
+      → ReadsItem bs t most c (Ok (record { next = r.next; from = r.from; fits = fits }))
+  edge-item r k x f = let i = x.2 in rw k (as_item x.1 i.here i.id i.mark i.gathers (rw k at f))
+
+  pub edge-broken : {t : Table} {c most : ℕ} {b : BrokenAt} → t ≡ Edges → ReadsEdge bs c (Err b) → ReadsItem bs t most c (Err b)
+  edge-broken k x = rw k x

@@ -1,29 +1,25 @@
 -- What the code keeps of items, of rows of them and of the whole graph. The two kinds of items go by the table that they are of.
 -- Rests on parsing's Reading and Labels and on the text's Grammar and Text.
-use Rattle.std.specs.Prelude.{◌≡◌, Bool, true, List, ℕ, ◌<◌, length, get_or, drop}
+use Rattle.std.specs.Prelude.{◌≡◌, Bool, Option, Result, Ok, Err, List, ℕ, ◌<◌, length, get_or, drop}
 use Rattle.meaning.specs.Basics.{every}
 use Rattle.meaning.specs.Layout.{is_node_mark, is_edge_mark}
 use Rattle.meaning.specs.declared.Table.{Table}
 use Rattle.meaning.specs.declared.Table.TheVariants.{Nodes, Edges}
+use Rattle.labels.specs.declared.Label.{Label as Gathered}
 use Rattle.text.specs.Words.{Word, words, left}
 use Rattle.text.specs.Integers.{Integer}
-use Rattle.text.specs.Grammar.{Label, NodeItem, EdgeItem, Listed, Parsed, gives, node_body, edge_body, node, edge, graph}
+use Rattle.text.specs.Grammar.{Label, NodeItem, EdgeItem, Listed, Parsed, gives, node_body, edge_body, node, edge, graph, ended}
 use Rattle.text.specs.Text.{label_fits, labels_fit}
 use Rattle.lexing.specs.Lexing.{name_at}
-use Rattle.parsing.specs.Reading.{ahead, Reads}
+use Rattle.parsing.specs.Reading.{ahead, Reads, Breaks}
 use Rattle.parsing.specs.Rows.{row}
 use Rattle.parsing.specs.Labels.{Gathers}
-use Rattle.parsing.specs.declared.Cursor.{Cursor}
-use Rattle.parsing.specs.declared.labelling.Gathered.{Gathered}
+use Rattle.parsing.specs.declared.BrokenAt.{BrokenAt}
 use Rattle.items.specs.declared.NodeAt.{NodeAt}
 use Rattle.items.specs.declared.EdgeAt.{EdgeAt}
 use Rattle.items.specs.declared.ItemAt.{ItemAt}
 use Rattle.items.specs.declared.ItemsAt.{ItemsAt}
 use Rattle.items.specs.declared.GraphAt.{GraphAt}
-
--- the cursor at a place up to which all fits
-abbrev pub place : ℕ → Cursor
-place p = record { ok = true; at = p }
 
 -- The items of a table.
 
@@ -56,36 +52,34 @@ abbrev pub fits_in : (t : Table) → ℕ → ItemOf t → Bool
 fits_in t most a = label_fits (is_mark t) most (label_of t a)
 
 -- a label that was gathered can be held
-abbrev pub Fits : Table → ℕ → Gathered → ℕ → Bool → Type 0
+abbrev pub Fits : Table → ℕ → Option Gathered → ℕ → Bool → Type 0
 Fits t mark g most r = (l : List Integer) → Gathers l g → r ≡ label_fits (is_mark t) most (record { atoms = l; mark = mark })
 
 module _ (bs : List ℕ) where
-  -- Single items: what is kept holds where the item was read to its end.
+  -- Single items.
 
-  pub record IsNode (c : Cursor) (r : NodeAt) (n : NodeItem) : Type 0 where
-    pub here : ahead bs c ≡ words (drop r.from bs)
+  pub record IsNode (at : ℕ) (r : NodeAt) (n : NodeItem) : Type 0 where
+    pub here : ahead bs at ≡ words (drop r.from bs)
     pub id : n.id ≡ name_at bs r.from
     pub root : n.root ≡ r.root
     pub mark : n.label.mark ≡ r.mark
-    pub gathers : Gathers n.label.atoms r.gathered
+    pub gathers : Gathers n.label.atoms r.label
 
-  pub record ReadsNode (c : Cursor) (r : NodeAt) : Type 0 where
-    pub item : NodeItem
-    pub reads : Reads bs c node_body r.next item
-    pub is : r.next.ok ≡ true → IsNode c r item
+  abbrev pub ReadsNode : ℕ → Result NodeAt BrokenAt → Type 0
+  ReadsNode at (Ok r) = (item : NodeItem) × Reads bs at node_body r.next item × IsNode at r item
+  ReadsNode at (Err b) = Breaks bs at node_body b
 
-  pub record IsEdge (c : Cursor) (r : EdgeAt) (e : EdgeItem) : Type 0 where
-    pub here : ahead bs c ≡ words (drop r.from bs)
+  pub record IsEdge (at : ℕ) (r : EdgeAt) (e : EdgeItem) : Type 0 where
+    pub here : ahead bs at ≡ words (drop r.from bs)
     pub id : e.id ≡ name_at bs r.from
     pub source : e.source ≡ name_at bs r.source
     pub target : e.target ≡ name_at bs r.target
     pub mark : e.label.mark ≡ r.mark
-    pub gathers : Gathers e.label.atoms r.gathered
+    pub gathers : Gathers e.label.atoms r.label
 
-  pub record ReadsEdge (c : Cursor) (r : EdgeAt) : Type 0 where
-    pub item : EdgeItem
-    pub reads : Reads bs c edge_body r.next item
-    pub is : r.next.ok ≡ true → IsEdge c r item
+  abbrev pub ReadsEdge : ℕ → Result EdgeAt BrokenAt → Type 0
+  ReadsEdge at (Ok r) = (item : EdgeItem) × Reads bs at edge_body r.next item × IsEdge at r item
+  ReadsEdge at (Err b) = Breaks bs at edge_body b
 
   -- an item's identifier begins at a place, from which the item can be read
   pub record At (t : Table) (p : ℕ) (a : ItemOf t) : Type 0 where
@@ -102,10 +96,9 @@ module _ (bs : List ℕ) where
       pub at : At t r.from a
       pub fits : r.fits ≡ fits_in t most a
 
-    pub record ReadsItem (c : Cursor) (r : ItemAt) : Type 0 where
-      pub item : ItemOf t
-      pub reads : Reads bs c (body_of t) r.next item
-      pub is : r.next.ok ≡ true → IsItem r item
+    abbrev pub ReadsItem : ℕ → Result ItemAt BrokenAt → Type 0
+    ReadsItem at (Ok r) = (item : ItemOf t) × Reads bs at (body_of t) r.next item × IsItem r item
+    ReadsItem at (Err b) = Breaks bs at (body_of t) b
 
     -- Rows.
 
@@ -114,12 +107,15 @@ module _ (bs : List ℕ) where
       pub fits : r.fits ≡ every (fits_in t most) l
       pub places : Places t l ps
 
-    pub record ReadsItems (c : Cursor) (ps : List ℕ) (r : ItemsAt) : Type 0 where
-      pub items : List (ItemOf t)
-      pub reads : Reads bs c (row left (item_of t)) r.next items
-      pub are : r.next.ok ≡ true → AreItems ps r items
+    abbrev pub ReadsItems : ℕ → List ℕ → Result ItemsAt BrokenAt → Type 0
+    ReadsItems at ps (Ok r) = (items : List (ItemOf t)) × Reads bs at (row left (item_of t)) r.next items × AreItems ps r items
+    ReadsItems at ps (Err b) = Breaks bs at (row left (item_of t)) b
 
   -- The graph.
+
+  abbrev pub Ends : ℕ → Result (Unit {0}) BrokenAt → Type 0
+  Ends at (Ok r) = Reads bs at ended at tt
+  Ends at (Err b) = Breaks bs at ended b
 
   pub record IsGraph (most : ℕ) (node_places edge_places : List ℕ) (r : GraphAt) (g : Listed) : Type 0 where
     pub nodes : r.nodes ≡ length g.nodes
@@ -128,7 +124,7 @@ module _ (bs : List ℕ) where
     pub nodes_at : Places Nodes g.nodes node_places
     pub edges_at : Places Edges g.edges edge_places
 
-  pub record ReadsGraph (most : ℕ) (node_places edge_places : List ℕ) (r : GraphAt) : Type 0 where
-    pub listed : Listed
-    pub reads : Reads bs (place 0) graph r.next listed
-    pub is : r.next.ok ≡ true → IsGraph most node_places edge_places r listed
+  abbrev pub ReadsGraph : ℕ → (node_places edge_places : List ℕ) → Result GraphAt BrokenAt → Type 0
+  ReadsGraph most node_places edge_places (Ok r) =
+      (listed : Listed) × (end : ℕ) × Reads bs 0 graph end listed × IsGraph most node_places edge_places r listed
+  ReadsGraph most node_places edge_places (Err b) = Breaks bs 0 graph b

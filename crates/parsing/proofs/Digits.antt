@@ -1,7 +1,6 @@
 -- Digits one after the other: whether all are digits, and the number that they write as far as it is kept. Rests on specs/Integers.
 use mathlib.Core.Path.{◌≡◌, refl, ◌∙◌}
 use mathlib.Core.Bool.{true, false}
-use mathlib.Core.Logic.{◌⊎◌}
 use mathlib.Core.List.{List, [], ◌∷◌, ◌++◌}
 use Prim.Native.Nat.{ℕ, ◌+◌, ◌-◌, ◌*◌, ◌<◌, ◌≤◌}
 use native.Mathlib.Numerals.{add-one}
@@ -16,12 +15,7 @@ use Rattle.writing.specs.Words.{digit_zero}
 use Rattle.text.specs.Words.{is_digit, within}
 use Rattle.text.specs.Integers.{value, value_from}
 use Rattle.text.proofs.Decimals.{value_snoc}
-use Rattle.text.specs.Grammar.{broke, digits}
-use Rattle.parsing.specs.Reading.{ahead}
-use Rattle.parsing.specs.Integers.{Capped, ReadsDigits}
-use Rattle.parsing.specs.Laws.{stays}
-use Rattle.parsing.specs.declared.Cursor.{Cursor}
-use Rattle.parsing.proofs.Tokens.{unbroken}
+use Rattle.parsing.specs.Integers.{Capped}
 
 abbrev pub byte : List ℕ → ℕ → ℕ
 byte bs at = get_or bs at 0
@@ -73,8 +67,3 @@ module _ (bs : List ℕ) (from i v u : ℕ) (h : from ≤ i) (k : i < length bs)
       let o = c.over l in
       rw (slice-more bs from i h k, value_snoc (slice from i bs) (byte bs i), e)
       (record { exact = λ h. absurd (omega arith); over = λ h. omega arith })
-
--- no digits are taken
-pub no-digits : (bs : List ℕ) (c : Cursor) {r : Cursor} {n : ℕ} → (r.ok ≡ false) × (r.at ≡ c.at) → (c.ok ≡ false) ⊎ (digits (ahead bs c) ≡ broke (ahead bs c))
-    → ReadsDigits bs c (record { next = r; number = n })
-no-digits bs c b o = record { written = []; reads = stays bs b o; number = unbroken b.0 }

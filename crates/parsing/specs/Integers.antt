@@ -1,11 +1,11 @@
 -- What the code keeps of digits and integers. Rests on Reading and on the text's Integers.
-use Rattle.std.specs.Prelude.{◌≡◌, Bool, true, List, ℕ, ◌-◌, ◌%◌, ◌<◌, ◌≤◌, leb, ltb}
+use Rattle.std.specs.Prelude.{◌≡◌, Bool, true, false, Option, Some, None, Result, Ok, Err, List, ℕ, ◌-◌, ◌%◌, ◌<◌, ◌≤◌, leb, ltb}
 use Rattle.meaning.specs.Basics.{choose}
 use Rattle.meaning.specs.Numbers.{half, whole}
 use Rattle.text.specs.Integers.{Integer, value, is_atom, atom}
 use Rattle.text.specs.Grammar.{digits, integer}
-use Rattle.parsing.specs.Reading.{Reads}
-use Rattle.parsing.specs.declared.Cursor.{Cursor}
+use Rattle.parsing.specs.Reading.{Reads, Breaks}
+use Rattle.parsing.specs.declared.BrokenAt.{BrokenAt}
 use Rattle.parsing.specs.declared.integers.DigitsAt.{DigitsAt}
 use Rattle.parsing.specs.declared.integers.IntegerAt.{IntegerAt}
 
@@ -14,23 +14,24 @@ pub record Capped (n r : ℕ) : Type 0 where
   pub exact : r ≤ whole → n ≡ r
   pub over : whole < r → whole < n
 
-pub record ReadsDigits (bs : List ℕ) (c : Cursor) (r : DigitsAt) : Type 0 where
-  pub written : List ℕ
-  pub reads : Reads bs c digits r.next written
-  pub number : r.next.ok ≡ true → Capped (value written) r.number
+abbrev pub ReadsDigits : List ℕ → ℕ → Result DigitsAt BrokenAt → Type 0
+ReadsDigits bs at (Ok r) = (written : List ℕ) × Reads bs at digits r.next written × Capped (value written) r.number
+ReadsDigits bs at (Err b) = Breaks bs at digits b
+
+-- a number is an atom behind a sign
+abbrev pub fits : Bool → ℕ → Bool
+fits negative n = choose negative (leb n half) (ltb n half)
 
 -- the atom that a number is behind a sign, where it is one
-pub record Held (next : Cursor) (n : ℕ) (negative : Bool) (r : IntegerAt) : Type 0 where
-  pub place : r.next ≡ next
-  pub fits : r.fits ≡ choose negative (leb n half) (ltb n half)
-  pub word : r.fits ≡ true → choose negative ((whole - n) % whole) n ≡ r.word
+abbrev pub Held : ℕ → Bool → Option ℕ → Type 0
+Held n negative (Some w) = (fits negative n ≡ true) × (choose negative ((whole - n) % whole) n ≡ w)
+Held n negative None = fits negative n ≡ false
 
--- the integer is an atom, and this is its word
-pub record Atom (x : Integer) (fits : Bool) (w : ℕ) : Type 0 where
-  pub is : is_atom x ≡ fits
-  pub word : fits ≡ true → atom x ≡ w
+-- the integer is an atom, and this is its word; or it is none
+abbrev pub Atom : Integer → Option ℕ → Type 0
+Atom x (Some w) = (is_atom x ≡ true) × (atom x ≡ w)
+Atom x None = is_atom x ≡ false
 
-pub record ReadsInteger (bs : List ℕ) (c : Cursor) (r : IntegerAt) : Type 0 where
-  pub written : Integer
-  pub reads : Reads bs c integer r.next written
-  pub held : r.next.ok ≡ true → Atom written r.fits r.word
+abbrev pub ReadsInteger : List ℕ → ℕ → Result IntegerAt BrokenAt → Type 0
+ReadsInteger bs at (Ok r) = (written : Integer) × Reads bs at integer r.next written × Atom written r.word
+ReadsInteger bs at (Err b) = Breaks bs at integer b

@@ -1,42 +1,50 @@
--- What a reader in code comes to at a cursor, beside what the grammar's reader comes to there. Rests on the text's Words and Grammar and
+-- What a reader in code comes to at a place, beside what the grammar's reader comes to there. Rests on the text's Words and Grammar and
 -- on lexing's Lexing.
-use Rattle.std.specs.Prelude.{◌≡◌, true, List, ℕ, ◌<◌, ◌≤◌, length, drop}
-use Rattle.meaning.specs.Basics.{choose}
+use Rattle.std.specs.Prelude.{◌≡◌, Result, Ok, Err, List, ℕ, ◌<◌, ◌≤◌, length, drop}
+use Rattle.std.proofs.Math.Seq.{slice}
 use Rattle.text.specs.Words.{Word, words}
 use Rattle.text.specs.Grammar.{Parsed, broke, gives, expect, a_name}
 use Rattle.lexing.specs.Lexing.{name_at}
-use Rattle.parsing.specs.declared.Cursor.{Cursor}
+use Rattle.parsing.specs.declared.BrokenAt.{BrokenAt}
 use Rattle.parsing.specs.declared.NameAt.{NameAt}
 
 module _ (bs : List ℕ) where
-  -- the words from a cursor on
-  abbrev pub ahead : Cursor → List Word
-  ahead c = words (drop c.at bs)
+  -- the words from a place on
+  abbrev pub ahead : ℕ → List Word
+  ahead at = words (drop at bs)
 
-  -- what a reader of the grammar comes to at a cursor; behind a break it reads nothing
-  unfoldable pub from : {A : Type 0} → Cursor → (List Word → Parsed A) → Parsed A
-  from c item = choose c.ok (item (ahead c)) (broke (ahead c))
+  -- at a place the grammar's reader comes to this, and the code to another place
+  pub record Comes {A : Type 0} (at : ℕ) (item : List Word → Parsed A) (o : Parsed A) (to : ℕ) : Type 0 where
+    pub read : item (ahead at) ≡ o
+    pub onward : at ≤ to
 
-  -- what the code has come to at a cursor, with a value
-  abbrev pub up_to : {A : Type 0} → Cursor → A → Parsed A
-  up_to r a = from r (gives a)
+  -- from one place to another the code reads what the grammar's reader reads, with this value
+  abbrev pub Reads : {A : Type 0} → ℕ → (List Word → Parsed A) → ℕ → A → Type 0
+  Reads at item to a = Comes at item (gives a (ahead to)) to
 
-  -- from one cursor to another the code reads what the grammar's reader reads, with this value
-  pub record Reads {A : Type 0} (c : Cursor) (item : List Word → Parsed A) (r : Cursor) (a : A) : Type 0 where
-    pub read : from c item ≡ up_to r a
-    pub onward : c.at ≤ r.at
+  -- the grammar's reader breaks at the words from a place on
+  abbrev pub Breaks : {A : Type 0} → ℕ → (List Word → Parsed A) → BrokenAt → Type 0
+  Breaks at item b = Comes at item (broke (ahead b.place)) b.place
 
-  -- a word is passed, and then the cursor has moved on
-  pub record Passed (c : Cursor) (w : Word) (r : Cursor) : Type 0 where
-    pub reads : Reads c (expect w) r tt
-    pub further : r.ok ≡ true → (c.at < r.at) × (r.at ≤ length bs)
+  -- a word is passed, and then the code has moved on
+  abbrev pub Passed : ℕ → Word → Result ℕ BrokenAt → Type 0
+  Passed at w (Ok next) = Reads at (expect w) next tt × (at < next) × (next ≤ length bs)
+  Passed at w (Err b) = Breaks at (expect w) b
 
-  -- a name is read, and the same words are read from its first byte on
-  pub record ReadsName (c : Cursor) (r : NameAt) : Type 0 where
-    pub reads : Reads c a_name r.next (name_at bs r.from)
-    pub here : r.next.ok ≡ true → ahead c ≡ words (drop r.from bs)
+  -- a name is read, and the same words are read from its first byte on; it lies between its two places
+  pub record NameRead (at : ℕ) (r : NameAt) : Type 0 where
+    pub reads : Reads at a_name r.next (name_at bs r.from)
+    pub here : ahead at ≡ ahead r.from
+    pub same : name_at bs r.from ≡ slice r.from r.next bs
+    pub behind : at ≤ r.from
+    pub onward : r.from < r.next
+    pub within : r.next ≤ length bs
+
+  abbrev pub ReadsName : ℕ → Result NameAt BrokenAt → Type 0
+  ReadsName at (Ok r) = NameRead at r
+  ReadsName at (Err b) = Breaks at a_name b
 
   -- something is read and dropped
-  pub record Passes {A : Type 0} (c : Cursor) (item : List Word → Parsed A) (r : Cursor) : Type 0 where
-    pub value : A
-    pub reads : Reads c item r value
+  abbrev pub Passes : {A : Type 0} → ℕ → (List Word → Parsed A) → Result ℕ BrokenAt → Type 0
+  Passes {A} at item (Ok next) = (a : A) × Reads at item next a
+  Passes at item (Err b) = Breaks at item b

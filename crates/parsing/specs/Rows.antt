@@ -1,4 +1,4 @@
--- A row of items, as a loop reads it: the items read so far, and what is read from the cursor on. Rests on Laws.
+-- A row of items, as a loop reads it: the items read so far, and what is read from the place on. Rests on Laws.
 use Rattle.std.proofs.Math.Path.{◌≡◌, refl}
 use Rattle.std.proofs.Common.{sym, ◌∙◌, ap, arith}
 use Rattle.std.specs.Prelude.{Bool, true, false}
@@ -8,9 +8,9 @@ use Rattle.std.proofs.Math.ListN.{length}
 use Rattle.meaning.specs.Basics.{choose}
 use Rattle.text.specs.Words.{Word}
 use Rattle.text.specs.Grammar.{Read, Parsed, got, broke, gives, ◌>>=◌, begins, expect, many}
-use Rattle.parsing.specs.Reading.{ahead, from, up_to, Reads}
-use Rattle.parsing.specs.Laws.{from_ok, from-broken, expect-got, expect-broke}
-use Rattle.parsing.specs.declared.Cursor.{Cursor}
+use Rattle.parsing.specs.Reading.{ahead, Reads, Breaks}
+use Rattle.parsing.specs.Laws.{expect-got, expect-broke}
+use Rattle.parsing.specs.declared.BrokenAt.{BrokenAt}
 
 -- a row behind items that were read before it
 unfoldable pub behind : {A : Type 0} → List A → Parsed (List A) → Parsed (List A)
@@ -21,12 +21,12 @@ behind l (broke ws) = broke ws
 abbrev pub row : {A : Type 0} → Word → (List Word → Parsed A) → List Word → Parsed (List A)
 row w item ws = many w item (length ws) ws
 
--- items that were read between two cursors
-pub record Rows {A : Type 0} (bs : List ℕ) (w : Word) (item : List Word → Parsed A) (c r : Cursor) (l : List A) : Type 0 where
+-- items that were read between two places
+pub record Rows {A : Type 0} (bs : List ℕ) (w : Word) (item : List Word → Parsed A) (c r : ℕ) (l : List A) : Type 0 where
   pub most : ℕ
-  pub whole : from bs c (row w item) ≡ behind l (from bs r (many w item most))
+  pub whole : row w item (ahead bs c) ≡ behind l (many w item most (ahead bs r))
   pub enough : length (ahead bs r) ≤ most
-  pub onward : c.at ≤ r.at
+  pub onward : c ≤ r
 
 -- what is read has words
 abbrev pub Shortens : {A : Type 0} → (List Word → Parsed A) → Type 0
@@ -38,18 +38,8 @@ module _ {A : Type 0} (bs : List ℕ) (w : Word) (item : List Word → Parsed A)
   behind-none (got r) = refl
   behind-none (broke ws) = refl
 
-  behind-broke : (l m : List A) (ws : List Word) → behind l (broke ws) ≡ behind m (broke ws)
-  unfolding behind
-  behind-broke l m ws = refl
-
-  pub row-begins : (c : Cursor) → Rows bs w item c c []
-  unfolding from
-  row-begins c = record {
-    most = length (ahead bs c);
-    whole = behind-none (from bs c (many w item (length (ahead bs c))));
-    enough = omega arith;
-    onward = omega arith;
-  }
+  pub row-begins : (c : ℕ) → Rows bs w item c c []
+  row-begins c = record { most = length (ahead bs c); whole = behind-none (row w item (ahead bs c)); enough = omega arith; onward = omega arith }
 
   -- no item begins where the row ends
   many-none : (most : ℕ) (ws : List Word) → begins w ws ≡ false → many w item most ws ≡ gives [] ws
@@ -76,52 +66,25 @@ module _ {A : Type 0} (bs : List ℕ) (w : Word) (item : List Word → Parsed A)
   many-broke zero (v ∷ ws) vs h e f = absurd (omega arith)
   many-broke (suc most) ws vs h e f = rw (e, f)
 
-  module _ {c r : Cursor} {l : List A} (x : Rows bs w item c r l) where
-    -- the loop ends where the text broke, or where no item begins
+  module _ {c r : ℕ} {l : List A} (x : Rows bs w item c r l) where
+    -- the row ends where no item begins
+    pub row_ends : {b : BrokenAt} → Breaks bs r (expect w) b → Reads bs c (row w item) r l
+    unfolding behind
+    row_ends y = record {
+      read = rw (many-none x.most (ahead bs r) (expect-broke bs w y), append-nil l) at x.whole;
+      onward = x.onward;
+    }
 
-    pub row-broken : r.ok ≡ false → Reads bs c (row w item) r l
-    unfolding from choose behind
-    row-broken e = record { read = rw e (rw e at x.whole); onward = x.onward }
-
-    pub row_ends : {s : Cursor} → Reads bs r (expect w) s tt → s.ok ≡ false → Reads bs c (row w item) r l
-    row_ends {s} y e = at r.ok refl
-      where
-        at : (k : Bool) → r.ok ≡ k → Reads bs c (row w item) r l
-        at false k = row-broken k
-        at true k = record {
-          read = unfold from choose behind in rw k (rw (k, many-none x.most (ahead bs r) (expect-broke bs r w s y e k), append-nil l) at x.whole);
-          onward = x.onward;
-        }
+    -- it breaks where an item does
+    pub row_breaks : {s : ℕ} {b : BrokenAt} → Reads bs r (expect w) s tt → Breaks bs r item b → Breaks bs c (row w item) b
+    unfolding behind
+    row_breaks {b = b} y z = record {
+      read = rw (many-broke x.most (ahead bs r) (ahead bs b.place) x.enough (expect-got bs w y).0 z.read) at x.whole;
+      onward = omega (arith, x.onward, z.onward);
+    }
 
     -- one item more
-    pub row_goes : {s q : Cursor} {a : A} → Shortens item → Reads bs r (expect w) s tt → s.ok ≡ true → Reads bs r item q a
-        → Rows bs w item c q (l ++ a ∷ [])
-    row_goes {s} {q} {a} f y e z = at q.ok refl
-      where
-        begun : begins w (ahead bs r) ≡ true
-        begun = (expect-got bs r w s y e).1
-
-        whole : from bs c (row w item) ≡ behind l (many w item x.most (ahead bs r))
-        whole = x.whole ∙ ap (behind l) (from_ok bs r (many w item x.most) (expect-got bs r w s y e).0)
-
-        it : item (ahead bs r) ≡ up_to bs q a
-        it = sym (from_ok bs r item (expect-got bs r w s y e).0) ∙ z.read
-
-        at : (k : Bool) → q.ok ≡ k → Rows bs w item c q (l ++ a ∷ [])
-        at false k =
-            let b = many-broke x.most (ahead bs r) (ahead bs q) x.enough begun (it ∙ from-broken bs q (gives a) k) in
-            record {
-              most = length (ahead bs q);
-              whole = whole ∙ ap (behind l) b ∙ behind-broke l (l ++ a ∷ []) (ahead bs q) ∙ ap (behind (l ++ a ∷ [])) (sym (from-broken bs q (many w item (length (ahead bs q))) k));
-              enough = omega arith;
-              onward = omega (arith, x.onward, z.onward);
-            }
-        at true k =
-            let g = it ∙ from_ok bs q (gives a) k in
-            let t = many_more x.most (ahead bs r) l _ x.enough begun g (f (ahead bs r) _ g) in
-            record {
-              most = t.0;
-              whole = whole ∙ t.1 ∙ ap (behind (l ++ a ∷ [])) (sym (from_ok bs q (many w item t.0) k));
-              enough = t.2;
-              onward = omega (arith, x.onward, z.onward);
-            }
+    pub row_goes : {s q : ℕ} {a : A} → Shortens item → Reads bs r (expect w) s tt → Reads bs r item q a → Rows bs w item c q (l ++ a ∷ [])
+    row_goes f y z =
+        let t = many_more x.most (ahead bs r) l _ x.enough (expect-got bs w y).0 z.read (f (ahead bs r) _ z.read) in
+        record { most = t.0; whole = x.whole ∙ t.1; enough = t.2; onward = omega (arith, x.onward, z.onward) }

@@ -6,30 +6,19 @@ ghost use Rattle.text.specs.Words.{is_digit};
 ghost use Rattle.text.specs.Integers.{value};
 ghost use Rattle.parsing.specs.Integers.{Capped, ReadsDigits, Held, ReadsInteger};
 
-use crate::Cursor;
-use lexing::Token;
+use crate::{BrokenAt, NameAt};
 use writing::AtomWord;
 
 fn all_digits(text: &[u8], from: usize, to: usize) -> bool
     requires { from ≤ to × to ≤ length text.now }
     ensures { result ≡ every is_digit (slice from to text.now) }
 {
-    let mut i = from;
-    while i < to {
-        let b = text[i];
-        if lexing::is_digit(b) {
-            i += 1;
-        } else {
+    for i in from..to {
+        if !lexing::is_digit(text[i]) {
             return false;
         }
     }
     true
-}
-
-fn wide(x: u8) -> usize
-    ensures { result ≡ x }
-{
-    x as usize
 }
 
 // The number that the digits write, or some number over 2^32 where it is over 2^32.
@@ -39,92 +28,71 @@ fn digits_value(text: &[u8], from: usize, to: usize) -> usize
     ensures { Capped (value (slice from to text.now)) result }
 {
     let mut v: usize = 0;
-    let mut i = from;
-    while i < to {
+    for i in from..to {
         let b = text[i];
         if v <= AtomWord::WHOLE {
-            v = v * 10 + (wide(b) - 48);
+            v = v * 10 + usize::from(b - b'0');
         }
-        i += 1;
     }
     v
 }
 
-// Digits that were read, and their number as far as an atom asks for it.
-#[derive(Drop)]
+// Digits that were read: their number as far as an atom asks for it, and the place behind them.
+#[derive(Clone, Copy)]
 pub struct DigitsAt {
-    pub next: Cursor,
+    pub next: usize,
     pub number: usize,
 }
 
 // A name of digits alone.
-pub fn read_digits(text: &[u8], c: Cursor) -> DigitsAt
-    ensures { ReadsDigits text.now c result }
+pub fn read_digits(text: &[u8], at: usize) -> Result<DigitsAt, BrokenAt>
+    ensures { ReadsDigits text.now at result }
 {
-    if c.ok {
-        let t = lexing::next_word(text, c.at);
-        if let Token::Name(from, to) = t {
-            if all_digits(text, from, to) {
-                return DigitsAt {
-                    next: Cursor { ok: true, at: to },
-                    number: digits_value(text, from, to),
-                };
-            }
-        }
+    let NameAt { next, from } = crate::read_name(text, at)?;
+    if all_digits(text, from, next) {
+        let number = digits_value(text, from, next);
+        return Ok(DigitsAt { next, number });
     }
-    DigitsAt {
-        next: c.broken(),
-        number: 0,
-    }
+    Err(BrokenAt { place: at })
 }
 
-// An integer that was read, whether it is an atom, and its word where it is.
-#[derive(Drop)]
+// An integer that was read: its word where it is an atom, and the place behind it.
+#[derive(Clone, Copy)]
 pub struct IntegerAt {
-    pub next: Cursor,
-    pub fits: bool,
-    pub word: u32,
+    pub next: usize,
+    pub word: Option<u32>,
 }
 
-// The atom of a number behind a sign.
-fn held(next: Cursor, n: usize, negative: bool) -> IntegerAt
-    ensures { Held next n negative result }
+// The atom of a number behind a sign, where it is one.
+fn held(n: usize, negative: bool) -> Option<u32>
+    ensures { Held n negative result }
 {
     if negative {
         if n <= AtomWord::HALF {
-            return IntegerAt {
-                next: next,
-                fits: true,
-                word: ((AtomWord::WHOLE - n) % AtomWord::WHOLE) as u32,
-            };
+            return Some(((AtomWord::WHOLE - n) % AtomWord::WHOLE) as u32);
         }
     } else {
         if n < AtomWord::HALF {
-            return IntegerAt {
-                next: next,
-                fits: true,
-                word: n as u32,
-            };
+            return Some(n as u32);
         }
     }
-    IntegerAt {
-        next: next,
-        fits: false,
-        word: 0,
-    }
+    None
 }
 
 // An integer.
-pub fn read_integer(text: &[u8], c: Cursor) -> IntegerAt
-    ensures { ReadsInteger text.now c result }
+pub fn read_integer(text: &[u8], at: usize) -> Result<IntegerAt, BrokenAt>
+    ensures { ReadsInteger text.now at result }
 {
-    let minus = crate::expect(text, c, b'-');
-    if minus.ok {
-        let d = read_digits(text, minus);
-        let next = d.next;
-        return held(next, d.number, true);
+    if let Ok(minus) = crate::expect(text, at, b'-') {
+        let d = read_digits(text, minus)?;
+        return Ok(IntegerAt {
+            next: d.next,
+            word: held(d.number, true),
+        });
     }
-    let d = read_digits(text, c);
-    let next = d.next;
-    held(next, d.number, false)
+    let d = read_digits(text, at)?;
+    Ok(IntegerAt {
+        next: d.next,
+        word: held(d.number, false),
+    })
 }

@@ -1,8 +1,7 @@
 // The parts of an item of a text graph, read where they lie: signs and names here, integers, labels and positions in files of their own.
-// Each reader takes a cursor and answers with the cursor behind what it read; behind a break nothing more is read, and the cursor stays.
+// Each reader takes a place and answers with what it read and the place behind it, or with the place at which the text broke.
 #![tactic(auto)]
 
-ghost use Rattle.std.specs.Prelude.{◌≡◌, false};
 ghost use Rattle.text.specs.Words.{name, sign};
 ghost use Rattle.parsing.specs.Reading.{Passed, ReadsName};
 
@@ -12,76 +11,52 @@ pub mod integers;
 pub mod labelling;
 pub mod positions;
 
-// A place in a text up to which all fits, or the place at which it broke.
+// The place of the first word that does not go on as the grammar does, or the end of the text.
 #[derive(Clone, Copy)]
-pub struct Cursor {
-    pub ok: bool,
-    pub at: usize,
+pub struct BrokenAt {
+    pub place: usize,
 }
 
-impl Cursor {
-    pub fn broken(self) -> Cursor
-        ensures { (result.ok ≡ false) × (result.at ≡ self.at) }
-    {
-        Cursor {
-            ok: false,
-            at: self.at,
-        }
-    }
-}
-
-// A sign.
-pub fn expect(text: &[u8], c: Cursor, s: u8) -> Cursor
-    ensures { Passed text.now c (sign s) result }
-{
-    if c.ok {
-        let t = lexing::next_word(text, c.at);
-        if let Token::Sign(b, next) = t {
-            if b == s {
-                return Cursor { ok: true, at: next };
-            }
-        }
-    }
-    c.broken()
-}
-
-// A name that is this word.
-pub fn expect_name(text: &[u8], c: Cursor, word: &[u8]) -> Cursor
-    ensures { Passed text.now c (name word.now) result }
-{
-    if c.ok {
-        let t = lexing::next_word(text, c.at);
-        if let Token::Name(from, to) = t {
-            if lexing::is_word(text, from, to, word) {
-                return Cursor { ok: true, at: to };
-            }
-        }
-    }
-    c.broken()
-}
-
-// A name that was read: where it begins, and the cursor behind it.
-#[derive(Drop)]
+// A name that was read: where it begins, and the place behind it.
+#[derive(Clone, Copy)]
 pub struct NameAt {
-    pub next: Cursor,
+    pub next: usize,
     pub from: usize,
 }
 
-// A name.
-pub fn read_name(text: &[u8], c: Cursor) -> NameAt
-    ensures { ReadsName text.now c result }
+// A sign; the place behind it.
+pub fn expect(text: &[u8], at: usize, s: u8) -> Result<usize, BrokenAt>
+    ensures { Passed text.now at (sign s) result }
 {
-    if c.ok {
-        let t = lexing::next_word(text, c.at);
-        if let Token::Name(from, to) = t {
-            return NameAt {
-                next: Cursor { ok: true, at: to },
-                from: from,
-            };
-        }
+    let Some(token) = lexing::next_word(text, at) else {
+        return Err(BrokenAt { place: at });
+    };
+    match token {
+        Token::Sign(b, next) if b == s => Ok(next),
+        _ => Err(BrokenAt { place: at }),
     }
-    NameAt {
-        next: c.broken(),
-        from: c.at,
+}
+
+// A name.
+pub fn read_name(text: &[u8], at: usize) -> Result<NameAt, BrokenAt>
+    ensures { ReadsName text.now at result }
+{
+    let Some(token) = lexing::next_word(text, at) else {
+        return Err(BrokenAt { place: at });
+    };
+    match token {
+        Token::Name(from, to) => Ok(NameAt { next: to, from }),
+        Token::Sign(_, _) => Err(BrokenAt { place: at }),
     }
+}
+
+// A name that is this word; the place behind it.
+pub fn expect_name(text: &[u8], at: usize, word: &[u8]) -> Result<usize, BrokenAt>
+    ensures { Passed text.now at (name word.now) result }
+{
+    let found = read_name(text, at)?;
+    if lexing::is_word(text, found.from, found.next, word) {
+        return Ok(found.next);
+    }
+    Err(BrokenAt { place: at })
 }

@@ -1,19 +1,15 @@
 -- `expect` meets its contract.
-use Rattle.std.proofs.Common.{inl, inr}
-use Rattle.parsing.proofs.Tokens.{sign-met, sign-other, sign-none, not-passed}
+use Rattle.parsing.proofs.Tokens.{sign-met, sign-other, sign-name, sign-none}
 use Rattle.parsing.proofs.expect.Goals as goal
-use Rattle.parsing.proofs.expect.Goals.{then-c+in-Sign+else-b-s, then-c+in_default, else-c}
 
-pub returns-then-b-s : goal.returns-then-b-s
-returns-then-b-s c =
-    sign-met c.args.text.now c.args.c _ c.next_word-t.ensures
-    c.if-c.true c.in-Sign.is c.if-b-s.true
+pub returns-in_default : goal.returns-in_default
+returns-in_default c = sign-none c.args.text.now c.args.at c.args.s c.in_default.ensures
 
-pub returns : goal.returns
-returns c =
-    not-passed c.args.text.now c.args.c c.broken.ensures
-    (elim c.if-c.branch [
-      | then-c+in-Sign+else-b-s w ↦ inr (sign-other c.args.text.now c.args.c _ w.next_word-t.ensures w.in-Sign.is w.if-b-s.false)
-      | then-c+in_default w ↦ inr (sign-none c.args.text.now c.args.c w.next_word-t.result w.next_word-t.ensures c.args.s w.in_default.not-Sign)
-      | else-c w ↦ inl w.if-c.false
-    ])
+pub returns-in-Sign : goal.returns-in-Sign
+returns-in-Sign c = sign-met c.args.text.now c.args.at (rw c.in-Sign.is at c.in-Some.ensures) c.if-b-s.true
+
+pub returns-in_default-token : goal.returns-in_default-token
+returns-in_default-token c = sign-other c.args.text.now c.args.at (rw c.in-Sign.is at c.in-Some.ensures) c.if-b-s.false
+
+pub returns-in_default-token-2 : goal.returns-in_default-token-2
+returns-in_default-token-2 c = sign-name c.args.text.now c.args.at c.args.s (rw c.in_default-token.is at c.in-Some.ensures)

@@ -1,19 +1,12 @@
 -- `read_name` meets its contract.
-use Rattle.std.proofs.Common.{true, inl, inr}
-use Rattle.parsing.proofs.Tokens.{name-read, named_none, no-name-read}
+use Rattle.parsing.proofs.Tokens.{name-met, name-sign, name-none}
 use Rattle.parsing.proofs.read_name.Goals as goal
-use Rattle.parsing.proofs.read_name.Goals.{then-c+in_default, else-c}
+
+pub returns-in_default : goal.returns-in_default
+returns-in_default c = name-none c.args.text.now c.args.at c.in_default.ensures
 
 pub returns-in-Name : goal.returns-in-Name
-returns-in-Name c =
-    name-read c.args.text.now c.args.c _ c.next_word-t.ensures c.in-Name.is
-    c.if-c.true
+returns-in-Name c = name-met c.args.text.now c.args.at (rw c.in-Name.is at c.in-Some.ensures)
 
-pub returns : goal.returns
-returns c =
-    no-name-read c.args.text.now c.args.c c.broken.ensures
-    (elim c.if-c.branch [
-      | then-c+in_default w ↦
-          inr (named_none c.args.text.now c.args.c w.next_word-t.result w.next_word-t.ensures (λ _. true) w.in_default.not-Name)
-      | else-c w ↦ inl w.if-c.false
-    ])
+pub returns-in-Sign : goal.returns-in-Sign
+returns-in-Sign c = name-sign c.args.text.now c.args.at (rw c.in-Sign.is at c.in-Some.ensures)

@@ -3,8 +3,8 @@ use Rattle.std.proofs.Common.{◌-◌, length}
 use Rattle.parsing.proofs.Lists.{Gathering}
 use Rattle.parsing.proofs.labelling.read_integers.Given as goal
 
-abbrev pub invariant-loop-next : goal.invariant-loop-next
-invariant-loop-next l = Gathering l.text l.initial.next l.initial.gathered l.next l.gathered
+abbrev pub invariant-loop-colon : goal.invariant-loop-colon
+invariant-loop-colon l = Gathering l.text l.initial.next l.initial.label l.next l.label
 
-abbrev pub decreases-loop-next : goal.decreases-loop-next
-decreases-loop-next l = length l.text - l.next.at
+abbrev pub decreases-loop-colon : goal.decreases-loop-colon
+decreases-loop-colon l = length l.text - l.next

@@ -1,19 +1,14 @@
 -- `read_list` meets its contract.
 use Rattle.std.proofs.Common.{[]}
 use Rattle.writing.specs.Words.{letters}
-use Rattle.parsing.proofs.Parts.{list-empty, list-more}
+use Rattle.parsing.proofs.Atoms.{gathers-none}
+use Rattle.parsing.proofs.Parts.{list-empty, integers-there}
 use Rattle.parsing.proofs.labelling.read_list.Goals as goal
 
-pub returns-then-empty : goal.returns-then-empty
+pub returns-in-Ok : goal.returns-in-Ok
 unfolding letters
-returns-then-empty c = record {
-  written = [];
-  reads = list-empty _ c.expect_name-empty.ensures.reads c.if-empty.true;
-  gathers = λ _. c.nothing.ensures;
-}
+returns-in-Ok c = ([], list-empty _ c.in-Ok.ensures.0, gathers-none c.none.ensures)
 
-pub returns : goal.returns
+pub returns-in-Err : goal.returns-in-Err
 unfolding letters
-returns c =
-    let l = c.read_integers.ensures in
-    record { written = l.written; reads = list-more _ c.expect_name-empty.ensures.reads c.if-empty.false l.reads; gathers = l.gathers }
+returns-in-Err c = integers-there _ c.in-Err.ensures _ c.read_integers.ensures

@@ -1,11 +1,12 @@
 -- `read_mark` meets its contract.
 use Rattle.text.specs.Grammar.{a_mark}
 use Rattle.text.specs.Words.{hash}
-use Rattle.parsing.specs.Laws.{optional-yes, optional-no}
+use Rattle.parsing.specs.Laws.{optional-no}
+use Rattle.parsing.proofs.Parts.{mark-there}
 use Rattle.parsing.proofs.labelling.read_mark.Goals as goal
 
-pub returns-then-sign : goal.returns-then-sign
-returns-then-sign c = optional-yes _ hash a_mark 0 c.expect-sign.ensures.reads c.if-sign.true c.read_mark_name.ensures
+pub returns-in-Ok : goal.returns-in-Ok
+returns-in-Ok c = mark-there _ c.in-Ok.ensures.0 _ c.read_mark_name.ensures
 
-pub returns : goal.returns
-returns c = optional-no _ hash a_mark 0 c.expect-sign.ensures.reads c.if-sign.false
+pub returns-in-Err : goal.returns-in-Err
+returns-in-Err c = optional-no _ hash a_mark 0 c.in-Err.ensures
