@@ -1,6 +1,6 @@
 -- Single items: from what was read of each part to what was read of a node, of an edge, and of an item of either table; and where a part
 -- breaks. Rests on Items and on parsing's Laws.
-use mathlib.Core.Path.{◌≡◌, refl, ◌∙◌, ap, sym}
+use mathlib.Core.Path.{◌≡◌, refl, ◌∙◌, ap, sym, subst}
 use mathlib.Core.List.{List}
 use mathlib.Core.Bool.{Bool}
 use Prim.Native.Nat.{ℕ}
@@ -125,11 +125,11 @@ module _ (bs : List ℕ) where
 
   -- Either, as an item of its table.
 
-  as_item : {t : Table} {c p r most mark : ℕ} {g : Option Label} {fits : Bool} {a : ItemOf t} → Reads bs c (body_of t) r a
+  as_item : (t : Table) (a : ItemOf t) {c p r most mark : ℕ} (g : Option Label) {fits : Bool} → Reads bs c (body_of t) r a
       → ahead bs c ≡ words (drop p bs) → id_of t a ≡ name_at bs p → (label_of t a).mark ≡ mark → Gathers (label_of t a).atoms g
       → Fits t mark g most fits → ReadsItem bs t most c (Ok (record { next = r; from = p; fits = fits }))
   unfolding label_fits
-  as_item {t} {r = r} {a = a} x here id mark gathers f = (
+  as_item t a {r = r} g x here id mark gathers f = (
     a,
     x,
     record { at = record { rest = ahead bs r; body = ap (body_of t) (sym here) ∙ x.read; id = id }; fits = rw mark (f _ gathers) },
@@ -137,14 +137,20 @@ module _ (bs : List ℕ) where
 
   pub node-item : {t : Table} {c : ℕ} (r : NodeAt) {most : ℕ} {fits : Bool} → t ≡ Nodes → ReadsNode bs c (Ok r) → Fits t r.mark r.label most fits
       → ReadsItem bs t most c (Ok (record { next = r.next; from = r.from; fits = fits }))
-  node-item r k x f = let i = x.2 in rw k (as_item x.1 i.here i.id i.mark i.gathers (rw k at f))
+  node-item {c = c} r {most} {fits} k x f =
+      let i = x.2 in
+      let y : ReadsItem bs Nodes most c (Ok (record { next = r.next; from = r.from; fits = fits })) = as_item Nodes x.0 r.label x.1 i.here i.id i.mark i.gathers (rw k at f) in
+      subst (λ t. ReadsItem bs t most c (Ok (record { next = r.next; from = r.from; fits = fits }))) (sym k) y
 
-  pub node-broken : {t : Table} {c most : ℕ} {b : BrokenAt} → t ≡ Nodes → ReadsNode bs c (Err b) → ReadsItem bs t most c (Err b)
-  node-broken k x = rw k x
+  pub node-broken : {t : Table} {c : ℕ} (most : ℕ) {b : BrokenAt} → t ≡ Nodes → ReadsNode bs c (Err b) → ReadsItem bs t most c (Err b)
+  node-broken most k x = rw k x
 
   pub edge-item : {t : Table} {c : ℕ} (r : EdgeAt) {most : ℕ} {fits : Bool} → t ≡ Edges → ReadsEdge bs c (Ok r) → Fits t r.mark r.label most fits
       → ReadsItem bs t most c (Ok (record { next = r.next; from = r.from; fits = fits }))
-  edge-item r k x f = let i = x.2 in rw k (as_item x.1 i.here i.id i.mark i.gathers (rw k at f))
+  edge-item {c = c} r {most} {fits} k x f =
+      let i = x.2 in
+      let y : ReadsItem bs Edges most c (Ok (record { next = r.next; from = r.from; fits = fits })) = as_item Edges x.0 r.label x.1 i.here i.id i.mark i.gathers (rw k at f) in
+      subst (λ t. ReadsItem bs t most c (Ok (record { next = r.next; from = r.from; fits = fits }))) (sym k) y
 
-  pub edge-broken : {t : Table} {c most : ℕ} {b : BrokenAt} → t ≡ Edges → ReadsEdge bs c (Err b) → ReadsItem bs t most c (Err b)
-  edge-broken k x = rw k x
+  pub edge-broken : {t : Table} {c : ℕ} (most : ℕ) {b : BrokenAt} → t ≡ Edges → ReadsEdge bs c (Err b) → ReadsItem bs t most c (Err b)
+  edge-broken most k x = rw k x
