@@ -21,12 +21,13 @@ use Rattle.meaning.specs.declared.Table.{Table}
 use Rattle.meaning.specs.declared.Table.TheVariants.{Nodes, Edges}
 use Rattle.laws.specs.Pieces.{fits-length, fits_whole}
 use Rattle.host.specs.Tables.{slot_length}
-use Rattle.text.specs.Grammar.{gives, graph}
+use Rattle.std.specs.Prelude.{Ok}
+use Rattle.text.specs.Grammar.{Listed, graph}
 use Rattle.text.specs.Text.{to_node, to_edge, filled, found, graph_of, labels_fit, fits, text_checks, import_refusal, tables_of, import_on, import_text}
 use Rattle.text.proofs.Names.{at_most_exact}
-use Rattle.parsing.specs.Laws.{from_ok, from-broken}
-use Rattle.items.specs.Items.{place, ItemOf, fits_in, Places, ReadsGraph}
-use Rattle.items.specs.Again.{read}
+use Rattle.parsing.specs.Reading.{Reads, Breaks}
+use Rattle.parsing.specs.declared.BrokenAt.{BrokenAt}
+use Rattle.items.specs.Items.{ItemOf, fits_in, Places, ReadsGraph}
 use Rattle.items.specs.declared.GraphAt.{GraphAt}
 use Rattle.importing.specs.Names.{ListedAt}
 use Rattle.importing.specs.Tables.{Items, StoresTable}
@@ -60,14 +61,13 @@ ready L bs t l ps count w most table e fit kept places c room fits =
 
 -- Whether the text is a graph.
 
-module _ (bs : List ℕ) (most : ℕ) (node_places edge_places : List ℕ) (g : GraphAt) (x : ReadsGraph bs most node_places edge_places g) where
-  graph-broken : g.next.ok ≡ false → graph_of bs ≡ none
-  unfolding found
-  graph-broken e = ap found (sym (from_ok bs (place 0) graph refl) ∙ x.reads.read ∙ from-broken bs g.next (gives x.listed) e)
+graph-broken : (bs : List ℕ) {b : BrokenAt} → Breaks bs 0 graph b → graph_of bs ≡ none
+unfolding found
+graph-broken bs x = ap found x.read
 
-  graph-found : g.next.ok ≡ true → graph_of bs ≡ some x.listed
-  unfolding found
-  graph-found e = ap found (read bs x.reads e)
+graph-found : (bs : List ℕ) {l : Listed} {end : ℕ} → Reads bs 0 graph end l → graph_of bs ≡ some l
+unfolding found
+graph-found bs x = ap found x.read
 
 module _ (L : Layout) (bs nodes edges : List ℕ) where
   refused-by : (w : Refusal) → import_refusal L nodes edges (graph_of bs) ≡ some w
@@ -112,22 +112,16 @@ module _ (L : Layout) (bs nodes edges : List ℕ) where
         → Carries (import_text L bs nodes edges) (answer_number (Refused w)) nodes edges
     graph-refused w e = refused-by w (refusal ∙ sym e)
 
-    module _ (node_places edge_places : List ℕ) (g : GraphAt) where
-      module _ (x : ReadsGraph bs L.atoms node_places edge_places g) where
-        pub no-graph : g.next.ok ≡ false → Carries (import_text L bs nodes edges) (answer_number (Refused BadText)) nodes edges
-        unfolding text_checks
-        no-graph e =
-            graph-refused BadText
-            (sym (ap (λ o. first_failing (text_checks L m n o)) (graph-broken bs L.atoms node_places edge_places g x e) ∙ first-no _ _ _ refl))
+    pub no-graph : {b : BrokenAt} → Breaks bs 0 graph b → Carries (import_text L bs nodes edges) (answer_number (Refused BadText)) nodes edges
+    unfolding text_checks
+    no-graph x =
+        graph-refused BadText
+        (sym (ap (λ o. first_failing (text_checks L m n o)) (graph-broken bs x) ∙ first-no _ _ _ refl))
 
-        pub is-graph : g.next.ok ≡ true → (L.nodes ≤ length node_places) × (L.edges ≤ length edge_places) → Graph L bs node_places edge_places g
-        is-graph e h = record {
-          listed = x.listed;
-          found = graph-found bs L.atoms node_places edge_places g x e;
-          is = x.is e;
-          nodes_kept = h.0;
-          edges_kept = h.1;
-        }
+    module _ (node_places edge_places : List ℕ) (g : GraphAt) where
+      pub is-graph : ReadsGraph bs L.atoms node_places edge_places (Ok g) → (L.nodes ≤ length node_places) × (L.edges ≤ length edge_places)
+          → Graph L bs node_places edge_places g
+      is-graph x h = record { listed = x.0; found = graph-found bs x.2; is = x.3; nodes_kept = h.0; edges_kept = h.1 }
 
       -- A graph of which nothing is refused.
 

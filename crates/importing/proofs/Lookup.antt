@@ -6,6 +6,7 @@ use Prim.Native.Nat.{ℕ, ◌+◌, ◌-◌, ◌<◌, ◌≤◌}
 use native.Mathlib.Numerals.{add-one}
 use native.Mathlib.Omega.{arith}
 use borrow.Author.Tests.{lt-ltb, le-ltb}
+use Rattle.std.specs.Prelude.{Option, Some, None, is_some}
 use lib.ListN.{length, get_or, take, drop, length-drop, length-map, drop_of_length-le}
 use lib.Seq.{drop-cons, take_all}
 use Rattle.meaning.specs.Basics.{both, same}
@@ -13,7 +14,7 @@ use Rattle.meaning.specs.Laws.Tests.{choose_true, choose_false}
 use Rattle.text.specs.Grammar.{index, known}
 use Rattle.text.specs.Text.{apart}
 use Rattle.lexing.specs.Lexing.{name_at}
-use Rattle.importing.specs.Names.{names_at}
+use Rattle.importing.specs.Names.{names_at, Found}
 
 module _ (bs ps : List ℕ) where
   names_cons : (i : ℕ) → i < length ps → names_at bs (drop i ps) ≡ name_at bs (get_or ps i 0) ∷ names_at bs (drop (i + 1) ps)
@@ -36,17 +37,17 @@ module _ (bs ps : List ℕ) where
             let n = ap (index id) (names_cons i h) ∙ choose_false _ _ _ e in
             omega arith
 
-        pub others-found : same (name_at bs (get_or ps i 0)) id ≡ true → i ≡ index id (names_at bs ps)
+        pub others-found : same (name_at bs (get_or ps i 0)) id ≡ true → Found id (names_at bs ps) (Some i)
         unfolding index
         others-found e =
             let n = ap (index id) (names_cons i h) ∙ choose_true _ _ _ e in
-            omega arith
+            (omega arith, omega (arith, length-map ps (name_at bs)))
 
-      pub others-all : length ps ≤ i → i ≡ index id (names_at bs ps)
+      pub others-all : length ps ≤ i → i ≤ length ps → Found id (names_at bs ps) None
       unfolding index
-      others-all h =
+      others-all h k =
           let n = ap (λ l. index id (names_at bs l)) (drop_of_length-le ps h) in
-          omega arith
+          omega (arith, length-map ps (name_at bs))
 
   -- Whether no two are the same: none of the first i is behind itself again.
 
@@ -54,33 +55,37 @@ module _ (bs ps : List ℕ) where
   Apart i = apart (names_at bs ps) ≡ apart (names_at bs (drop i ps))
 
   -- one that is looked up in the places behind its own
-  module _ (i : ℕ) (so : Apart i) (h : i < length ps) (r : ℕ)
-      (found : r ≡ index (name_at bs (get_or ps i 0)) (names_at bs (take (length ps - (i + 1)) (drop (i + 1) ps)))) where
+  module _ (i : ℕ) (so : Apart i) (h : i < length ps) where
     abbrev id : List ℕ
     id = name_at bs (get_or ps i 0)
 
     abbrev behind : List (List ℕ)
     behind = names_at bs (drop (i + 1) ps)
 
-    there : r ≡ index id behind
-    there =
-        let n = length-drop (i + 1) ps in
-        found ∙ ap (λ l. index id (names_at bs l)) (take_all (length ps - (i + 1)) (drop (i + 1) ps) (omega arith))
+    -- looked up in all places behind its own
+    abbrev pub Behind : Option ℕ → Type 0
+    Behind r = Found id (names_at bs (take (length ps - (i + 1)) (drop (i + 1) ps))) r
 
-    count : length behind ≡ length ps - (i + 1)
-    count = length-map (drop (i + 1) ps) (name_at bs) ∙ length-drop (i + 1) ps
+    there : (r : Option ℕ) → Behind r → Found id behind r
+    there r f =
+        let e = take_all (length ps - (i + 1)) (drop (i + 1) ps) (omega (arith, length-drop (i + 1) ps)) in
+        rw e at f
 
     turn : (b : Bool) → known id behind ≡ b → apart (names_at bs ps) ≡ both (not b) (apart behind)
     unfolding apart
     turn b e = so ∙ ap apart (names_cons i h) ∙ ap (λ b. both (not b) (apart behind)) e
 
-    pub apart_more : length ps - (i + 1) ≤ r → Apart (i + 1)
+    pub apart_more : (r : Option ℕ) → Behind r → is_some r ≡ false → Apart (i + 1)
     unfolding known both
-    apart_more k = turn false (le-ltb (index id behind) (length behind) (omega (arith, count, there)))
+    apart_more None f e = turn false (le-ltb (index id behind) (length behind) (omega (arith, there None f)))
+    apart_more (Some j) f e = let z : ◌≡◌ {A = ℕ} 0 1 = cc in absurd (omega arith)
 
-    pub apart-found : r < length ps - (i + 1) → false ≡ apart (names_at bs ps)
+    pub apart-found : (r : Option ℕ) → Behind r → is_some r ≡ true → false ≡ apart (names_at bs ps)
     unfolding known both
-    apart-found k = sym (turn true (lt-ltb (index id behind) (length behind) (omega (arith, count, there))))
+    apart-found None f e = let z : ◌≡◌ {A = ℕ} 0 1 = cc in absurd (omega arith)
+    apart-found (Some j) f e =
+        let k = there (Some j) f in
+        sym (turn true (lt-ltb (index id behind) (length behind) (omega (arith, k.0, k.1))))
 
   pub apart-all : (i : ℕ) → Apart i → length ps ≤ i → true ≡ apart (names_at bs ps)
   unfolding apart

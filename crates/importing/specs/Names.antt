@@ -1,13 +1,18 @@
 -- Names by the places where they begin, and what is asked of the names of items that are listed at places. Rests on lexing's Lexing, on
 -- items' Items and on the text's Text.
-use Rattle.std.specs.Prelude.{◌≡◌, Bool, List, map, ℕ, length}
+use Rattle.std.specs.Prelude.{◌≡◌, Bool, Option, Some, None, List, map, ℕ, ◌<◌, length}
 use Rattle.meaning.specs.Basics.{every}
 use Rattle.meaning.specs.declared.Table.{Table}
 use Rattle.meaning.specs.declared.Table.TheVariants.{Nodes, Edges}
-use Rattle.text.specs.Grammar.{EdgeItem, Listed}
+use Rattle.text.specs.Grammar.{EdgeItem, Listed, index}
 use Rattle.text.specs.Text.{ends_known, names_hold}
 use Rattle.lexing.specs.Lexing.{name_at}
 use Rattle.items.specs.Items.{ItemOf, At, Places}
+
+-- the number of the first of these names that is this one, where there is one
+abbrev pub Found : List ℕ → List (List ℕ) → Option ℕ → Type 0
+Found id l (Some i) = (index id l ≡ i) × (i < length l)
+Found id l None = index id l ≡ length l
 
 module _ (bs : List ℕ) where
   abbrev pub names_at : List ℕ → List (List ℕ)

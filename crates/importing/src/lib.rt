@@ -11,7 +11,6 @@ ghost use Rattle.answers.specs.Answers.{refusal_of};
 ghost use Rattle.text.specs.Text.{graph_of, text_checks, import_text};
 ghost use Rattle.importing.specs.Graphs.{Graph, NamesPass, Fitting};
 
-use answers::Checked;
 use items::GraphAt;
 use meaning::{Answer, Layout, Refusal, Table};
 
@@ -39,26 +38,18 @@ fn names_pass(
     requires { Graph l text.now node_places.now edge_places.now g }
     ensures { NamesPass l text.now node_places.now edge_places.now g result }
 {
-    let n = g.nodes;
-    let m = g.edges;
-    if n <= l.nodes {
-        if m <= l.edges {
-            return names::names_hold(text, &node_places[..n], &edge_places[..m]);
-        }
+    if g.nodes > l.nodes || g.edges > l.edges {
+        return true;
     }
-    true
+    names::names_hold(text, &node_places[..g.nodes], &edge_places[..g.edges])
 }
 
 // Whether labels can be held, and there are slots for all.
+#[tactic(auto, unfolding(meaning::specs::Basics::both))]
 fn has_room(g: GraphAt, node_slots: usize, edge_slots: usize) -> bool
     ensures { result ≡ both g.fits (both (leb g.nodes node_slots) (leb g.edges edge_slots)) }
 {
-    if g.fits {
-        if g.nodes <= node_slots {
-            return g.edges <= edge_slots;
-        }
-    }
-    false
+    g.fits && g.nodes <= node_slots && g.edges <= edge_slots
 }
 
 // What is refused of a text that is a graph: 23 and 24.
@@ -70,17 +61,17 @@ fn check_graph(
     edge_places: &[usize],
     node_slots: usize,
     edge_slots: usize,
-) -> Checked
+) -> Result<(), Refusal>
     requires { Graph l text.now node_places.now edge_places.now g }
     ensures { refusal_of result ≡ first_failing (text_checks l node_slots edge_slots (graph_of text.now)) }
 {
     if !names_pass(l, text, g, node_places, edge_places) {
-        return Checked::Refused(Refusal::BadNames);
+        return Err(Refusal::BadNames);
     }
     if !has_room(g, node_slots, edge_slots) {
-        return Checked::Refused(Refusal::TextDoesNotFit);
+        return Err(Refusal::TextDoesNotFit);
     }
-    Checked::Fine
+    Ok(())
 }
 
 // Imports a text that is a graph.
@@ -100,27 +91,14 @@ fn import_graph(
     let node_slots = nodes.len() / l.node;
     let edge_slots = edges.len() / l.edge;
     let checked = check_graph(l, text, g, node_places, edge_places, node_slots, edge_slots);
-    match checked {
-        Checked::Refused(why) => {
-            return Answer::Refused(why);
-        }
-        Checked::Fine => {
-            let n = g.nodes;
-            let m = g.edges;
-            let named = &node_places[..n];
-            storing::store_table(l, text, Table::Nodes, named, named, node_slots, nodes);
-            storing::store_table(
-                l,
-                text,
-                Table::Edges,
-                named,
-                &edge_places[..m],
-                edge_slots,
-                edges,
-            );
-            return Answer::Result;
-        }
+    if let Err(why) = checked {
+        return Answer::Refused(why);
     }
+    let named = &node_places[..g.nodes];
+    let places = &edge_places[..g.edges];
+    storing::store_table(l, text, Table::Nodes, named, named, node_slots, nodes);
+    storing::store_table(l, text, Table::Edges, named, places, edge_slots, edges);
+    Answer::Result
 }
 
 // Imports a text into tables whose lengths are in order, with room for the places of identifiers.
@@ -136,11 +114,9 @@ fn import_into(
     requires nodes_in_bounds { (l.nodes ≤ length node_places.old) × (l.edges ≤ length edge_places.old) }
     ensures { Carries (import_text l text.now nodes.old edges.old) (answer_number result) nodes.new edges.new }
 {
-    let g = items::read_graph(text, l.atoms, node_places, edge_places);
-    let end = g.next;
-    if !end.ok {
+    let Ok(g) = items::read_graph(text, l.atoms, node_places, edge_places) else {
         return Answer::Refused(Refusal::BadText);
-    }
+    };
     import_graph(l, text, g, &node_places[..], &edge_places[..], nodes, edges)
 }
 

@@ -1,38 +1,29 @@
 // Identifiers, by the places where they begin: each is looked up among the others of its kind, and each end among the nodes'.
 ghost use Rattle.std.specs.Prelude.{◌≡◌};
-ghost use Rattle.text.specs.Grammar.{index};
 ghost use Rattle.text.specs.Text.{apart};
 ghost use Rattle.lexing.specs.Lexing.{name_at};
-ghost use Rattle.importing.specs.Names.{names_at, EndsKnown, AllEndsKnown, NamesHold};
+ghost use Rattle.importing.specs.Names.{names_at, Found, EndsKnown, AllEndsKnown, NamesHold};
 
-use parsing::Cursor;
-
-// The number of the first of these names that is the one at a place; how many they are if there is none.
-pub fn find(text: &[u8], places: &[usize], at: usize) -> usize
-    ensures { result ≡ index (name_at text.now at) (names_at text.now places.now) }
+// The number of the first of these names that is the one at a place.
+pub fn find(text: &[u8], places: &[usize], at: usize) -> Option<usize>
+    ensures { Found (name_at text.now at) (names_at text.now places.now) result }
 {
-    let mut i: usize = 0;
-    while i < places.len() {
+    for i in 0..places.len() {
         if lexing::same_name(text, places[i], at) {
-            return i;
+            return Some(i);
         }
-        i += 1;
     }
-    i
+    None
 }
 
 // Whether no two of these names are the same.
 fn apart(text: &[u8], places: &[usize]) -> bool
     ensures { result ≡ apart (names_at text.now places.now) }
 {
-    let n = places.len();
-    let mut i: usize = 0;
-    while i < n {
-        let behind = i + 1;
-        if find(text, &places[behind..], places[i]) < n - behind {
+    for i in 0..places.len() {
+        if find(text, &places[i + 1..], places[i]).is_some() {
             return false;
         }
-        i = behind;
     }
     true
 }
@@ -41,24 +32,20 @@ fn apart(text: &[u8], places: &[usize]) -> bool
 fn ends_known(text: &[u8], node_places: &[usize], at: usize) -> bool
     ensures { EndsKnown text.now node_places.now at result }
 {
-    let e = items::read_edge(text, Cursor { ok: true, at: at });
-    let n = node_places.len();
-    if find(text, node_places, e.source) < n {
-        return find(text, node_places, e.target) < n;
-    }
-    false
+    let Ok(e) = items::read_edge(text, at) else {
+        return false;
+    };
+    find(text, node_places, e.source).is_some() && find(text, node_places, e.target).is_some()
 }
 
 // Whether both ends of each edge are.
 fn all_ends_known(text: &[u8], node_places: &[usize], edge_places: &[usize]) -> bool
     ensures { AllEndsKnown text.now node_places.now edge_places.now result }
 {
-    let mut i: usize = 0;
-    while i < edge_places.len() {
-        if !ends_known(text, node_places, edge_places[i]) {
+    for at in edge_places {
+        if !ends_known(text, node_places, *at) {
             return false;
         }
-        i += 1;
     }
     true
 }
@@ -67,10 +54,7 @@ fn all_ends_known(text: &[u8], node_places: &[usize], edge_places: &[usize]) -> 
 pub fn names_hold(text: &[u8], node_places: &[usize], edge_places: &[usize]) -> bool
     ensures { NamesHold text.now node_places.now edge_places.now result }
 {
-    if apart(text, node_places) {
-        if apart(text, edge_places) {
-            return all_ends_known(text, node_places, edge_places);
-        }
-    }
-    false
+    apart(text, node_places)
+        && apart(text, edge_places)
+        && all_ends_known(text, node_places, edge_places)
 }

@@ -5,8 +5,9 @@ ghost use Rattle.meaning.specs.declared.Table.{Table};
 ghost use Rattle.host.specs.Tables.{slot_length};
 ghost use Rattle.importing.specs.Tables.{Item, Items, StoresItem, StoresSlot, StoresTable};
 
+use crate::names::find;
+use host::slot_length;
 use meaning::{Layout, Table};
-use parsing::Cursor;
 
 // Stores the node whose identifier is at a place in slot x.
 fn store_node(l: Layout, text: &[u8], at: usize, x: usize, out: &mut [u8])
@@ -15,12 +16,13 @@ fn store_node(l: Layout, text: &[u8], at: usize, x: usize, out: &mut [u8])
     requires item { Item l text.now Table.Nodes at }
     ensures { StoresItem l text.now [] Table.Nodes at x out.old out.new }
 {
-    let n = items::read_node(text, Cursor { ok: true, at: at });
-    let gathered = n.gathered;
-    let label = gathered.label;
-    let len = label.len;
-    let atoms = label.atoms;
-    slots::store_node(l, out, x, n.mark, n.root, &atoms[..len]);
+    let Ok(n) = items::read_node(text, at) else {
+        return;
+    };
+    let Some(label) = n.label else {
+        return;
+    };
+    slots::store_node(l, out, x, n.mark, n.root, &label.atoms[..label.len]);
 }
 
 // Stores the edge whose identifier is at a place in slot x, its ends by the numbers of their names.
@@ -30,25 +32,16 @@ fn store_edge(l: Layout, text: &[u8], node_places: &[usize], at: usize, x: usize
     requires item { Item l text.now Table.Edges at }
     ensures { StoresItem l text.now node_places.now Table.Edges at x out.old out.new }
 {
-    let e = items::read_edge(text, Cursor { ok: true, at: at });
-    let source = crate::names::find(text, node_places, e.source);
-    let target = crate::names::find(text, node_places, e.target);
-    let gathered = e.gathered;
-    let label = gathered.label;
-    let len = label.len;
-    let atoms = label.atoms;
-    slots::store_edge(l, out, x, e.mark, source, target, &atoms[..len]);
-}
-
-// How many bytes a slot of a table has.
-fn slot_length(l: Layout, which: Table) -> usize
-    requires { Sized l }
-    ensures { result ≡ slot_length l which }
-{
-    match which {
-        Table::Nodes => l.node,
-        Table::Edges => l.edge,
-    }
+    let Ok(e) = items::read_edge(text, at) else {
+        return;
+    };
+    let Some(label) = e.label else {
+        return;
+    };
+    let n = node_places.len();
+    let source = find(text, node_places, e.source).unwrap_or(n);
+    let target = find(text, node_places, e.target).unwrap_or(n);
+    slots::store_edge(l, out, x, e.mark, source, target, &label.atoms[..label.len]);
 }
 
 // Stores the item of number x of a table in slot x, or frees it where there is none.
@@ -92,9 +85,7 @@ pub fn store_table(
     requires items { Items l text.now which places.now }
     ensures { StoresTable l text.now node_places.now which places.now n out.new }
 {
-    let mut x: usize = 0;
-    while x < n {
+    for x in 0..n {
         store_slot(l, text, which, node_places, places, x, out);
-        x += 1;
     }
 }

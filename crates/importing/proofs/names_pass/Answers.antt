@@ -2,24 +2,18 @@
 use Rattle.std.proofs.Common.{sym, arith, length-take-le}
 use Rattle.importing.proofs.Checks.{many-nodes, many-edges, names-asked}
 use Rattle.importing.proofs.names_pass.Goals as goal
+use Rattle.importing.proofs.names_pass.Goals.{then-g-l-via-then-g-l, then-g-l-via-else-g-l+then-g-l-2}
 
-pub slice_bounds-names_hold-end : goal.slice_bounds-names_hold-end
-slice_bounds-names_hold-end c = sym (length-take-le c.args.g.nodes c.args.node_places.now (omega (arith, c.requires.nodes_kept, c.if-n-l.true)))
-
-pub slice_bounds-names_hold-end-then-m-l : goal.slice_bounds-names_hold-end-then-m-l
-slice_bounds-names_hold-end-then-m-l c = sym (length-take-le c.args.g.edges c.args.edge_places.now (omega (arith, c.requires.edges_kept, c.if-m-l.true)))
-
-pub returns-then-m-l : goal.returns-then-m-l
-returns-then-m-l c =
+pub returns-then-g-l : goal.returns-then-g-l
+returns-then-g-l c =
     let a = c.args in
-    λ w. names-asked a.l a.text.now a.node_places.now a.edge_places.now a.g w c.if-n-l.true c.if-m-l.true c.names_hold.result c.names_hold.ensures
+    λ w.
+    elim c.then-g-l.branch [
+      | then-g-l-via-then-g-l v ↦ many-nodes a.l a.text.now a.node_places.now a.edge_places.now a.g w v.if-g-l.true
+      | then-g-l-via-else-g-l+then-g-l-2 v ↦ many-edges a.l a.text.now a.node_places.now a.edge_places.now a.g w v.if-g-l.false v.if-g-l-2.true
+    ]
 
-pub returns-else-m-l : goal.returns-else-m-l
-returns-else-m-l c =
+pub returns : goal.returns
+returns c =
     let a = c.args in
-    λ w. many-edges a.l a.text.now a.node_places.now a.edge_places.now a.g w c.if-n-l.true c.if-m-l.false
-
-pub returns-else-n-l : goal.returns-else-n-l
-returns-else-n-l c =
-    let a = c.args in
-    λ w. many-nodes a.l a.text.now a.node_places.now a.edge_places.now a.g w c.if-n-l.false
+    λ w. names-asked a.l a.text.now a.node_places.now a.edge_places.now a.g w c.if-g-l.false c.if-g-l-2.false c.names_hold.result c.names_hold.ensures

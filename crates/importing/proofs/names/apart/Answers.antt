@@ -1,21 +1,21 @@
-use Rattle.std.proofs.Common.{refl, arith}
+use Rattle.std.proofs.Common.{refl, sym, ◌∙◌}
 use Rattle.importing.proofs.Lookup.{apart_more, apart-found, apart-all}
 use Rattle.importing.proofs.names.apart.Goals as goal
 
 pub loop-i-init : goal.loop-i-init
-loop-i-init c = (refl, (omega arith, refl))
+loop-i-init c = refl
 
-pub returns-then-find-n : goal.returns-then-find-n
-returns-then-find-n c =
+pub returns-then-is_some : goal.returns-then-is_some
+returns-then-is_some c =
     let a = c.args in
-    apart-found a.text.now a.places.now c.loop-i.i c.loop-i.invariant.1.1 c.loop-i-test.true c.find.result c.find.ensures c.if-find-n.true
+    apart-found a.text.now a.places.now c.loop-i.i c.loop-i.invariant c.loop-i-test.true c.find.result c.find.ensures (sym c.is_some.ensures ∙ c.if-is_some.true)
 
 pub loop-i-preserved : goal.loop-i-preserved
 loop-i-preserved c =
     let a = c.args in
-    (refl, (omega arith, apart_more a.text.now a.places.now c.loop-i.i c.loop-i.invariant.1.1 c.loop-i-test.true c.find.result c.find.ensures c.if-find-n.false))
+    apart_more a.text.now a.places.now c.loop-i.i c.loop-i.invariant c.loop-i-test.true c.find.result c.find.ensures (sym c.is_some.ensures ∙ c.if-is_some.false)
 
 pub returns : goal.returns
 returns c =
     let a = c.args in
-    apart-all a.text.now a.places.now c.loop-i.i c.loop-i.invariant.1.1 c.loop-i-test.false
+    apart-all a.text.now a.places.now c.loop-i.i c.loop-i.invariant c.loop-i-test.false

@@ -4,29 +4,31 @@ use Rattle.meaning.specs.Layout.{live, edge_length, write_edge}
 use Rattle.laws.specs.Pieces.{stored}
 use Rattle.labels.specs.Laws.{held-length}
 use Rattle.importing.specs.Names.{names_at}
-use Rattle.importing.proofs.Held.{edge-label, edge-held}
+use Rattle.importing.proofs.Ends.{numbered}
+use Rattle.importing.proofs.Held.{edge-reads, edge-there, edge-label, edge-held}
 use Rattle.importing.proofs.storing.store_edge.Goals as goal
 
-pub slice_bounds-atoms-end : goal.slice_bounds-atoms-end
-slice_bounds-atoms-end c =
-    let a = c.args in
-    let h = (edge-label a.l c.requires.sized.1 a.text.now a.at c.read_edge-e.result c.read_edge-e.ensures c.requires.item).holds.held in
-    omega (arith, h.few, h.room)
+pub returns-in_default : goal.returns-in_default
+returns-in_default c = let a = c.args in absurd (edge-reads a.l c.requires.sized.1 a.text.now a.at c.requires.item c.in_default.ensures)
 
-pub slice_bounds-store_edge-end : goal.slice_bounds-store_edge-end
-slice_bounds-store_edge-end c =
+pub returns-in_default-label : goal.returns-in_default-label
+returns-in_default-label c =
     let a = c.args in
-    sym (held-length _ (edge-label a.l c.requires.sized.1 a.text.now a.at c.read_edge-e.result c.read_edge-e.ensures c.requires.item).holds.held)
+    absurd (edge-there a.l c.requires.sized.1 a.text.now a.at c.in-Ok.e c.in-Ok.ensures c.requires.item c.in_default-label.is)
 
 pub store_edge-requires : goal.store_edge-requires
 store_edge-requires c =
     let a = c.args in
     record {
       sized = c.requires.sized.0;
-      i_in_bounds = (c.requires.x_in_bounds, (edge-label a.l c.requires.sized.1 a.text.now a.at c.read_edge-e.result c.read_edge-e.ensures c.requires.item).size);
+      i_in_bounds = (c.requires.x_in_bounds, (edge-label a.l c.requires.sized.1 a.text.now a.at c.in-Ok.e c.in-Ok.ensures c.requires.item c.in-Some.label c.in-Some.is).size);
     }
 
 pub returns : goal.returns
 returns c =
     let a = c.args in
-    λ w. c.store_edge.ensures ∙ ap (λ e. stored (edge_length a.l) a.x (write_edge a.l (live e)) a.out.now) (edge-held a.l c.requires.sized.1 a.text.now a.at c.read_edge-e.result c.read_edge-e.ensures w (names_at a.text.now a.node_places.now) _ _ c.find-source.ensures c.find-target.ensures)
+    let bs = a.text.now in
+    let ps = a.node_places.now in
+    let s = c.unwrap_or-source.ensures ∙ numbered bs ps _ c.find.result c.find.ensures in
+    let t = c.unwrap_or-target.ensures ∙ numbered bs ps _ c.find-2.result c.find-2.ensures in
+    λ w. c.store_edge.ensures ∙ ap (λ e. stored (edge_length a.l) a.x (write_edge a.l (live e)) a.out.now) (edge-held a.l c.requires.sized.1 bs a.at c.in-Ok.e c.in-Ok.ensures w c.in-Some.label c.in-Some.is (names_at bs ps) _ _ s t)

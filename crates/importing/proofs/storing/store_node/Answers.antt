@@ -3,29 +3,26 @@ use Rattle.std.proofs.Common.{sym, ◌∙◌, ap, arith}
 use Rattle.meaning.specs.Layout.{live, node_length, write_node}
 use Rattle.laws.specs.Pieces.{stored}
 use Rattle.labels.specs.Laws.{held-length}
-use Rattle.importing.proofs.Held.{node-label, node-held}
+use Rattle.importing.proofs.Held.{node-reads, node-there, node-label, node-held}
 use Rattle.importing.proofs.storing.store_node.Goals as goal
 
-pub slice_bounds-atoms-end : goal.slice_bounds-atoms-end
-slice_bounds-atoms-end c =
-    let a = c.args in
-    let h = (node-label a.l c.requires.sized.1 a.text.now a.at c.read_node-n.result c.read_node-n.ensures c.requires.item).holds.held in
-    omega (arith, h.few, h.room)
+pub returns-in_default : goal.returns-in_default
+returns-in_default c = let a = c.args in absurd (node-reads a.l c.requires.sized.1 a.text.now a.at c.requires.item c.in_default.ensures)
 
-pub slice_bounds-store_node-end : goal.slice_bounds-store_node-end
-slice_bounds-store_node-end c =
+pub returns-in_default-label : goal.returns-in_default-label
+returns-in_default-label c =
     let a = c.args in
-    sym (held-length _ (node-label a.l c.requires.sized.1 a.text.now a.at c.read_node-n.result c.read_node-n.ensures c.requires.item).holds.held)
+    absurd (node-there a.l c.requires.sized.1 a.text.now a.at c.in-Ok.n c.in-Ok.ensures c.requires.item c.in_default-label.is)
 
 pub store_node-requires : goal.store_node-requires
 store_node-requires c =
     let a = c.args in
     record {
       sized = c.requires.sized.0;
-      i_in_bounds = (c.requires.x_in_bounds, (node-label a.l c.requires.sized.1 a.text.now a.at c.read_node-n.result c.read_node-n.ensures c.requires.item).size);
+      i_in_bounds = (c.requires.x_in_bounds, (node-label a.l c.requires.sized.1 a.text.now a.at c.in-Ok.n c.in-Ok.ensures c.requires.item c.in-Some.label c.in-Some.is).size);
     }
 
 pub returns : goal.returns
 returns c =
     let a = c.args in
-    λ w. c.store_node.ensures ∙ ap (λ n. stored (node_length a.l) a.x (write_node a.l (live n)) a.out.now) (node-held a.l c.requires.sized.1 a.text.now a.at c.read_node-n.result c.read_node-n.ensures w)
+    λ w. c.store_node.ensures ∙ ap (λ n. stored (node_length a.l) a.x (write_node a.l (live n)) a.out.now) (node-held a.l c.requires.sized.1 a.text.now a.at c.in-Ok.n c.in-Ok.ensures w c.in-Some.label c.in-Some.is)

@@ -1,28 +1,28 @@
-use Rattle.std.proofs.Common.{◌≡◌, refl, ◌∙◌, ap, arith}
+use Rattle.std.proofs.Common.{◌≡◌, ◌∙◌, ap, arith}
 use Rattle.importing.proofs.Filling.{has-slot, so_far, so_far-none, so_far-all, so_far_more}
 use Rattle.importing.proofs.storing.store_table.Goals as goal
 
 pub loop-x-init : goal.loop-x-init
 loop-x-init c =
     let a = c.args in
-    (omega arith, (refl, λ w. so_far-none a.l a.text.now a.node_places.now a.which a.places.now a.n a.out.now w))
+    λ w. so_far-none a.l a.text.now a.node_places.now a.which a.places.now a.n a.out.now w
 
 pub store_slot-requires : goal.store_slot-requires
 store_slot-requires c =
     let a = c.args in
     record {
       sized = c.requires.sized;
-      x_in_bounds = has-slot a.l a.which a.n _ (c.loop-x.invariant.1.0 ∙ c.requires.places_len_bound.1) c.loop-x.x c.loop-x-test.true;
+      x_in_bounds = has-slot a.l a.which a.n _ (c.loop-x.auto.out ∙ c.requires.places_len_bound.1) c.loop-x.x c.loop-x-test.true;
       items = c.requires.items;
     }
 
 pub loop-x-preserved : goal.loop-x-preserved
 loop-x-preserved c =
     let a = c.args in
-    (omega arith, (c.store_slot.auto.out ∙ c.loop-x.invariant.1.0, λ w. so_far_more a.l a.text.now a.node_places.now a.which a.places.now a.n a.out.now w c.requires.places_len_bound.0 c.loop-x.x c.loop-x-test.true _ _ (c.loop-x.invariant.1.1 w) (c.store_slot.ensures w)))
+    λ w. so_far_more a.l a.text.now a.node_places.now a.which a.places.now a.n a.out.now w c.requires.places_len_bound.0 c.loop-x.x c.loop-x-test.true _ _ (c.loop-x.invariant w) (c.store_slot.ensures w)
 
 pub returns : goal.returns
 returns c =
     let a = c.args in
-    let e : c.loop-x.x ≡ a.n = omega (arith, c.loop-x-test.false, c.loop-x.invariant.0) in
-    λ w. c.loop-x.invariant.1.1 w ∙ ap (so_far a.l a.text.now a.node_places.now a.which a.places.now a.n a.out.now w) e ∙ so_far-all a.l a.text.now a.node_places.now a.which a.places.now a.n a.out.now w c.requires.places_len_bound.0 c.requires.places_len_bound.1
+    let e : c.loop-x.x ≡ a.n = omega arith in
+    λ w. c.loop-x.invariant w ∙ ap (so_far a.l a.text.now a.node_places.now a.which a.places.now a.n a.out.now w) e ∙ so_far-all a.l a.text.now a.node_places.now a.which a.places.now a.n a.out.now w c.requires.places_len_bound.0 c.requires.places_len_bound.1

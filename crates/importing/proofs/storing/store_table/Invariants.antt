@@ -1,13 +1,8 @@
 -- `store_table` meets its contract. The loop's invariant: x slots are written, the others are as they were lent.
-use Rattle.std.proofs.Common.{◌≡◌, ◌≤◌, ◌-◌, length}
+use Rattle.std.proofs.Common.{◌≡◌}
 use Rattle.importing.specs.Tables.{Items}
 use Rattle.importing.proofs.Filling.{so_far}
 use Rattle.importing.proofs.storing.store_table.Given as goal
 
 abbrev pub invariant-loop-x : goal.invariant-loop-x
-invariant-loop-x l =
-    (l.x ≤ l.n)
-    × ((length l.out ≡ length l.initial.out) × ((w : Items l.l l.text l.which l.places) → l.out ≡ so_far l.l l.text l.node_places l.which l.places l.n l.initial.out w l.x))
-
-abbrev pub decreases-loop-x : goal.decreases-loop-x
-decreases-loop-x l = l.n - l.x
+invariant-loop-x l = (w : Items l.l l.text l.which l.places) → l.out ≡ so_far l.l l.text l.node_places l.which l.places l.n l.initial.out w l.x
