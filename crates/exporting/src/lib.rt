@@ -14,7 +14,6 @@ ghost use Rattle.text.specs.Text.{Exports, text_of, export_refusal, export_on, e
 ghost use Rattle.exporting.specs.Lines.{atoms_text, mark_text, root_text, id_text, end_text, label_text, node_text, edge_text, slot_text};
 ghost use Rattle.exporting.specs.Putting.{Puts, most_text, digits_size, integer_size, atoms_size, mark_size, root_size, id_size, end_size, label_size, node_size, edge_size, item_size, item_text, items_from, Few};
 
-use answers::Checked;
 use meaning::tags::Mark;
 use meaning::{Answer, Layout, Refusal, Table};
 use slots::laid;
@@ -25,15 +24,13 @@ fn put(out: &mut [u8], at: usize, text: &[u8]) -> usize
     requires { at + length text.now ≤ most_text }
     ensures { Puts (length text.now) text.now out.old at out.new result }
 {
-    let mut k: usize = 0;
-    while k < text.len() {
+    for k in 0..text.len() {
         let place = at + k;
         if place < out.len() {
             out[place] = text[k];
         }
-        k += 1;
     }
-    at + k
+    at + text.len()
 }
 
 // The digits of a number.
@@ -70,11 +67,9 @@ fn put_atoms(out: &mut [u8], start: usize, label: &[u8]) -> usize
         return put(out, start, b"empty");
     }
     let mut at = put_integer(out, start, laid::atom(label, 0));
-    let mut j: usize = 1;
-    while j < n {
+    for j in 1..n {
         let next = put(out, at, b":");
         at = put_integer(out, next, laid::atom(label, j));
-        j += 1;
     }
     at
 }
@@ -210,10 +205,8 @@ fn put_table(
 {
     let n = graph::slots_in(l, nodes, edges, table);
     let mut at = start;
-    let mut x: usize = 0;
-    while x < n {
+    for x in 0..n {
         at = put_slot(l, nodes, edges, table, x, out, at);
-        x += 1;
     }
     at
 }
@@ -232,20 +225,20 @@ fn put_graph(l: Layout, nodes: &[u8], edges: &[u8], out: &mut [u8]) -> usize
 }
 
 // The lowest applicable number of 10, 11 and 15.
-fn check(l: Layout, nodes: &[u8], edges: &[u8]) -> Checked
+fn check(l: Layout, nodes: &[u8], edges: &[u8]) -> Result<(), Refusal>
     requires { Sized l }
     ensures { refusal_of result ≡ export_refusal l nodes.now edges.now }
 {
     if !slots::fits_table(nodes, l.node, l.nodes) {
-        return Checked::Refused(Refusal::NodeTableLength);
+        return Err(Refusal::NodeTableLength);
     }
     if !slots::fits_table(edges, l.edge, l.edges) {
-        return Checked::Refused(Refusal::EdgeTableLength);
+        return Err(Refusal::EdgeTableLength);
     }
     if !host::keeps_layout(l, nodes, edges) {
-        return Checked::Refused(Refusal::BadHost);
+        return Err(Refusal::BadHost);
     }
-    Checked::Fine
+    Ok(())
 }
 
 // Writes the text of a host that is in order to a buffer that has room for it.
@@ -276,14 +269,9 @@ pub fn export_tables(
     requires few { Few l }
     ensures { Exports (export_text l nodes.now edges.now buffer.old) (answer_number result) length.new buffer.new }
 {
-    let checked = check(l, nodes, edges);
-    match checked {
-        Checked::Refused(why) => {
-            *length = 0;
-            return Answer::Refused(why);
-        }
-        Checked::Fine => {
-            return export_host(l, nodes, edges, buffer, length);
-        }
+    if let Err(why) = check(l, nodes, edges) {
+        *length = 0;
+        return Answer::Refused(why);
     }
+    export_host(l, nodes, edges, buffer, length)
 }

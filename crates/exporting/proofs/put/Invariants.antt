@@ -1,10 +1,7 @@
 -- `put` meets its contract. The loop's invariant: the buffer has the first k bytes of the text at the place, as far as it goes.
-use Rattle.std.proofs.Common.{◌+◌, ◌-◌, ◌≤◌, length, take}
+use Rattle.std.proofs.Common.{◌+◌, take}
 use Rattle.exporting.specs.Putting.{Puts}
 use Rattle.exporting.proofs.put.Given as goal
 
 abbrev pub invariant-loop-k : goal.invariant-loop-k
-invariant-loop-k l = (l.k ≤ length l.text) × Puts l.k (take l.k l.text) l.initial.out l.at l.out (l.at + l.k)
-
-abbrev pub decreases-loop-k : goal.decreases-loop-k
-decreases-loop-k l = length l.text - l.k
+invariant-loop-k l = Puts l.k (take l.k l.text) l.initial.out l.at l.out (l.at + l.k)

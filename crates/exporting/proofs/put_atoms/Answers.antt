@@ -14,27 +14,27 @@ unfolding letters
 returns-then-n-eq0 c = saying _ _ (sym (atoms-none (laid c.args.label.now) (omega (arith, c.count-n.ensures)))) (within 5 atoms_size (omega arith) c.put.ensures)
 
 pub loop-j-init : goal.loop-j-init
-loop-j-init c = (omega arith, coming-start _ _ _ _)
+loop-j-init c = coming-start _ _ _ _
 
 pub put-next-requires : goal.put-next-requires
-put-next-requires c = omega (arith, c.loop-j.invariant.1.puts.short, c.put_integer-at.ensures.short, c.count-n.ensures, c.requires.atoms_size_bound)
+put-next-requires c = omega (arith, c.loop-j.invariant.puts.short, c.put_integer-at.ensures.short, c.count-n.ensures, c.requires.atoms_size_bound)
 
 pub put_integer-at-requires-in-loop-j : goal.put_integer-at-requires-in-loop-j
-put_integer-at-requires-in-loop-j c = omega (arith, c.put-next.ensures.short, c.loop-j.invariant.1.puts.short, c.put_integer-at.ensures.short, c.count-n.ensures, c.requires.atoms_size_bound)
+put_integer-at-requires-in-loop-j c = omega (arith, c.put-next.ensures.short, c.loop-j.invariant.puts.short, c.put_integer-at.ensures.short, c.count-n.ensures, c.requires.atoms_size_bound)
 
 pub loop-j-preserved : goal.loop-j-preserved
 unfolding letters
 loop-j-preserved c =
     let loop = c.loop-j in
     let l = laid c.args.label.now in
-    (omega arith, coming-more loop.invariant.1 _ (atoms_behind (drop (loop.j + 1) l)) ((1 + integer_size) * (loop.j + 1)) (atoms-next l loop.j _ (omega (arith, c.count-n.ensures)) c.atom-in-loop-j.ensures) (then c.put-next.ensures c.put_integer-at-in-loop-j.ensures) (omega arith))
+    coming-more loop.invariant _ (atoms_behind (drop (loop.j + 1) l)) ((1 + integer_size) * (loop.j + 1)) (atoms-next l loop.j _ (omega (arith, c.count-n.ensures)) c.atom-in-loop-j.ensures) (then c.put-next.ensures c.put_integer-at-in-loop-j.ensures) (omega arith)
 
 pub shape_of-out : goal.shape_of-out
-shape_of-out c = same-room c.loop-j.invariant.1.puts ∙ same-room c.put_integer-at.ensures
+shape_of-out c = same-room c.loop-j.invariant.puts ∙ same-room c.put_integer-at.ensures
 
 pub returns : goal.returns
 returns c =
     let loop = c.loop-j in
     let l = laid c.args.label.now in
-    let behind = coming-end loop.invariant.1 ((1 + integer_size) * most_atoms) (atoms-end l loop.j (omega (arith, c.count-n.ensures))) (omega (arith, c.count-n.ensures, c.requires.label_len_bound)) in
+    let behind = coming-end loop.invariant ((1 + integer_size) * most_atoms) (atoms-end l loop.j (omega (arith, c.count-n.ensures))) (omega (arith, c.count-n.ensures, c.requires.label_len_bound)) in
     saying _ _ (sym (atoms-first l _ (omega (arith, c.count-n.ensures)) c.atom.ensures)) (then c.put_integer-at.ensures behind)

@@ -1,12 +1,9 @@
 -- `put_table` meets its contract. The loop's invariant: what is put, and the lines from slot x on, are the whole.
-use Rattle.std.proofs.Common.{◌-◌, ◌*◌, ◌≤◌}
+use Rattle.std.proofs.Common.{◌*◌}
 use Rattle.exporting.proofs.Walks.{Coming}
 use Rattle.exporting.specs.Putting.{item_size, items_from}
 use Rattle.exporting.proofs.put_table.Given as goal
 
 abbrev pub invariant-loop-x : goal.invariant-loop-x
 invariant-loop-x l =
-    (l.x ≤ l.n) × Coming (items_from l.l l.nodes l.edges l.table 0) (items_from l.l l.nodes l.edges l.table l.x) l.initial.out l.start l.out l.at (item_size l.table * l.x)
-
-abbrev pub decreases-loop-x : goal.decreases-loop-x
-decreases-loop-x l = l.n - l.x
+    Coming (items_from l.l l.nodes l.edges l.table 0) (items_from l.l l.nodes l.edges l.table l.x) l.initial.out l.start l.out l.at (item_size l.table * l.x)
