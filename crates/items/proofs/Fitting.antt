@@ -1,7 +1,6 @@
 -- Whether a label that was gathered can be held: by its mark, by its integers, and by their number. Rests on Items and on labels' Laws.
 use mathlib.Core.Path.{◌≡◌, refl, sym, ◌∙◌, ap}
 use mathlib.Core.Bool.{Bool, true, false}
-use mathlib.Core.List.{List}
 use Prim.Native.Nat.{ℕ, ◌≤◌}
 use native.Mathlib.Omega.{arith}
 use borrow.Author.Tests.{leb-false, lt-leb}
@@ -13,9 +12,8 @@ use Rattle.meaning.specs.Layout.{most_atoms}
 use Rattle.meaning.specs.Laws.Tests.{both_true, both-no, both_false}
 use Rattle.meaning.specs.declared.Table.{Table}
 use Rattle.labels.specs.Laws.{held-length}
-use Rattle.text.specs.Integers.{Integer, is_atom, atom}
+use Rattle.text.specs.Integers.{is_atom, atom}
 use Rattle.text.specs.Text.{label_fits}
-use Rattle.parsing.specs.Labels.{Gathers}
 use Rattle.labels.specs.declared.Label.{Label}
 use Rattle.items.specs.Items.{is_mark, Fits}
 

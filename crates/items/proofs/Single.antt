@@ -5,7 +5,7 @@ use mathlib.Core.List.{List}
 use mathlib.Core.Bool.{Bool}
 use Prim.Native.Nat.{ℕ}
 use lib.ListN.{drop}
-use Rattle.std.specs.Prelude.{Option, Ok, Err, Result}
+use Rattle.std.specs.Prelude.{Option, Ok, Err}
 use Rattle.labels.specs.declared.Label.{Label}
 use Rattle.meaning.specs.declared.Table.{Table}
 use Rattle.meaning.specs.declared.Table.TheVariants.{Nodes, Edges}
@@ -13,14 +13,14 @@ use Rattle.text.specs.Words.{words, left, right, comma}
 use Rattle.text.specs.Grammar.{optional, position, a_root, node_body, edge_body}
 use Rattle.text.specs.Text.{label_fits}
 use Rattle.lexing.specs.Lexing.{name_at}
-use Rattle.parsing.specs.Reading.{ahead, Reads, Breaks, Passed, ReadsName, Passes}
+use Rattle.parsing.specs.Reading.{ahead, Reads, Passed, ReadsName, Passes}
 use Rattle.parsing.specs.Labels.{Gathers, ReadsByte, ReadsLabel}
 use Rattle.parsing.specs.Laws.{then, breaks, done}
 use Rattle.parsing.specs.declared.BrokenAt.{BrokenAt}
 use Rattle.parsing.specs.declared.NameAt.{NameAt}
 use Rattle.parsing.specs.declared.labelling.ByteAt.{ByteAt}
 use Rattle.parsing.specs.declared.labelling.LabelAt.{LabelAt}
-use Rattle.items.specs.Items.{ItemOf, body_of, id_of, label_of, Fits, IsNode, ReadsNode, IsEdge, ReadsEdge, IsItem, ReadsItem}
+use Rattle.items.specs.Items.{ItemOf, body_of, id_of, label_of, Fits, ReadsNode, ReadsEdge, ReadsItem}
 use Rattle.items.specs.declared.NodeAt.{NodeAt}
 use Rattle.items.specs.declared.EdgeAt.{EdgeAt}
 
@@ -119,7 +119,7 @@ module _ (bs : List ℕ) where
                 edge-read {g} x = (
                   _,
                   then bs _ n.reads
-                  (then bs _ m.0 (then bs _ s.reads (then bs _ o.0 (then bs _ t.reads (then bs _ q.0 (then bs _ k.1 (then bs _ x.0 (done bs g _)))))))),
+                      (then bs _ m.0 (then bs _ s.reads (then bs _ o.0 (then bs _ t.reads (then bs _ q.0 (then bs _ k.1 (then bs _ x.0 (done bs g _)))))))),
                   record { here = n.here; id = refl; source = refl; target = refl; mark = refl; gathers = k.2 },
                 )
 

@@ -1,10 +1,10 @@
 -- The end of the text, and the whole graph, part by part. Rests on Items and on parsing's Laws.
-use mathlib.Core.Path.{◌≡◌, refl, ◌∙◌}
+use mathlib.Core.Path.{◌≡◌, ◌∙◌}
 use mathlib.Core.Bool.{Bool}
 use mathlib.Core.List.{List}
 use Prim.Native.Nat.{ℕ}
 use native.Mathlib.Omega.{arith}
-use Rattle.std.specs.Prelude.{Option, Some, None, Ok, Err}
+use Rattle.std.specs.Prelude.{Some, None, Ok, Err}
 use Rattle.meaning.specs.Basics.{choose, is_empty, both}
 use Rattle.meaning.specs.declared.Table.TheVariants.{Nodes, Edges}
 use Rattle.text.specs.Words.{opening, closing, bar}
@@ -13,7 +13,7 @@ use Rattle.text.specs.Text.{labels_fit}
 use Rattle.lexing.specs.Lexing.{Next}
 use Rattle.lexing.specs.declared.Token.{Token}
 use Rattle.lexing.specs.declared.Token.TheVariants.{Sign, Name}
-use Rattle.parsing.specs.Reading.{Reads, Passed}
+use Rattle.parsing.specs.Reading.{Passed}
 use Rattle.parsing.specs.Laws.{then, breaks, done}
 use Rattle.parsing.specs.declared.BrokenAt.{BrokenAt}
 use Rattle.items.specs.Items.{Ends, ReadsItems, ReadsGraph}

@@ -1,9 +1,9 @@
 -- An item that is read again at its place. Rests on Items and on parsing's Laws.
-use Rattle.std.specs.Prelude.{◌≡◌, Result, Ok, Err, List, ℕ}
+use Rattle.std.specs.Prelude.{◌≡◌, Ok, Err, List, ℕ}
 use Rattle.std.proofs.Common.{sym, ◌∙◌, ap}
 use Rattle.meaning.specs.declared.Table.{Table}
 use Rattle.meaning.specs.declared.Table.TheVariants.{Nodes, Edges}
-use Rattle.text.specs.Grammar.{NodeItem, EdgeItem, Read, Parsed, got}
+use Rattle.text.specs.Grammar.{NodeItem, EdgeItem, Read, got}
 use Rattle.parsing.specs.Reading.{Reads, Breaks}
 use Rattle.parsing.specs.Laws.{got-broke}
 use Rattle.parsing.specs.declared.BrokenAt.{BrokenAt}

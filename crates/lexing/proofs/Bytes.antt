@@ -1,5 +1,5 @@
 -- Classes of bytes and equal bytes, as std tests them, by the names of the text. Rests on the text's Words.
-use Rattle.std.proofs.Common.{◌≡◌, refl, sym, ◌∙◌, ap, Bool, true, false, ℕ, List, [], ◌∷◌, ◌&&◌, ◌||◌, nat_eq}
+use Rattle.std.proofs.Common.{◌≡◌, refl, ◌∙◌, ap, Bool, true, false, ℕ, List, [], ◌∷◌, ◌&&◌, ◌||◌, nat_eq}
 use Rattle.std.specs.Char.{is_ascii_digit, is_ascii_alphanumeric}
 use lib.Pointwise.{pointwise}
 use Rattle.meaning.specs.Basics.{both, either, same}

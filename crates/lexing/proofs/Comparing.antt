@@ -1,16 +1,13 @@
 -- Names compared, letter by letter. Rests on Names and on specs/Lexing.
-use mathlib.Core.Path.{◌≡◌, refl, sym, ◌∙◌, ap}
+use mathlib.Core.Path.{◌≡◌, refl, sym, ◌∙◌}
 use mathlib.Core.Bool.{Bool, true, false}
 use mathlib.Core.List.{List, [], ◌∷◌}
-use Prim.Native.Nat.{ℕ, suc, ◌+◌, ◌-◌, ◌<◌, ◌≤◌}
+use Prim.Native.Nat.{ℕ, ◌+◌, ◌<◌, ◌≤◌}
 use native.Mathlib.Decide.{dec_lt}
-use native.Mathlib.Numerals.{add-one}
 use native.Mathlib.Omega.{arith}
 use borrow.Author.Tests.{eq-eqb, ne_eqb}
-use lib.ListN.{length, get_or, drop, drop_of_length-le}
-use lib.Seq.{slice, slice_empty, slice-cons, length-slice, drop-cons}
+use lib.ListN.{length, get_or}
 use Rattle.meaning.specs.Basics.{both, either, same}
-use Rattle.meaning.specs.Laws.Tests.{not_so, same_true}
 use Rattle.text.specs.Words.{is_letter, is_digit, within}
 use Rattle.lexing.specs.Lexing.{name_at}
 use Rattle.lexing.proofs.Places.{byte}

@@ -8,7 +8,6 @@ use Prim.Native.Nat.{ℕ, ◌+◌, ◌<◌, ◌≤◌}
 use native.Mathlib.Decide.{dec_lt}
 use native.Mathlib.Omega.{arith}
 use borrow.Author.Tests.{leb-true, ltb-true, le-leb, lt-leb, le-ltb}
-use lib.Dec.{leb, ltb}
 use lib.ListN.{length, set, length-append, length-map}
 use lib.Seq.{take_at, get_or_at}
 use Rattle.meaning.specs.Basics.{choose, both, every}

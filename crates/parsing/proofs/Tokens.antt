@@ -3,20 +3,19 @@
 use mathlib.Core.Path.{◌≡◌, refl, sym, ◌∙◌, ap}
 use mathlib.Core.Bool.{Bool, true, false}
 use mathlib.Core.List.{List, [], ◌∷◌}
-use Prim.Native.Nat.{ℕ, ◌<◌, ◌≤◌}
+use Prim.Native.Nat.{ℕ, ◌≤◌}
 use native.Mathlib.Omega.{arith}
 use borrow.Author.Tests.{eq-eqb, ne_eqb}
 use lib.ListN.{length}
 use lib.Seq.{slice}
-use Rattle.std.specs.Prelude.{Option, Some, None, Ok, Err}
+use Rattle.std.specs.Prelude.{Some, None, Ok, Err}
 use Rattle.meaning.specs.Basics.{choose, same}
 use Rattle.meaning.specs.Laws.Tests.{not_so, same_true, same_of}
 use Rattle.text.specs.Words.{Word, name, sign, same_word}
-use Rattle.text.specs.Grammar.{Parsed, got, broke, gives, begins, expect, named, a_name}
-use Rattle.lexing.specs.Lexing.{Next, name_at}
-use Rattle.lexing.specs.declared.Token.{Token}
+use Rattle.text.specs.Grammar.{Parsed, got, broke, begins, expect, named, a_name}
+use Rattle.lexing.specs.Lexing.{Next}
 use Rattle.lexing.specs.declared.Token.TheVariants.{Sign, Name}
-use Rattle.parsing.specs.Reading.{ahead, Reads, Breaks, Passed, NameRead, ReadsName}
+use Rattle.parsing.specs.Reading.{ahead, Reads, Breaks, Passed, ReadsName}
 use Rattle.parsing.specs.Laws.{got-broke}
 use Rattle.parsing.specs.declared.BrokenAt.{BrokenAt}
 use Rattle.parsing.specs.declared.NameAt.{NameAt}

@@ -1,5 +1,4 @@
 -- `names_pass` meets its contract: names are asked by the front of the places, or not at all.
-use Rattle.std.proofs.Common.{sym, arith, length-take-le}
 use Rattle.importing.proofs.Checks.{many-nodes, many-edges, names-asked}
 use Rattle.importing.proofs.names_pass.Goals as goal
 use Rattle.importing.proofs.names_pass.Goals.{then-g-l-via-then-g-l, then-g-l-via-else-g-l+then-g-l-2}

@@ -1,5 +1,5 @@
 -- `is_letter` meets its contract: a letter or a digit of ASCII, or the underscore.
-use Rattle.std.proofs.Common.{sym, ◌∙◌}
+use Rattle.std.proofs.Common.{sym}
 use Rattle.lexing.proofs.Bytes.{letter-ascii}
 use Rattle.lexing.proofs.is_letter.Goals as goal
 

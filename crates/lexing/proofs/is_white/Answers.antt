@@ -1,5 +1,5 @@
 -- `is_white` meets its contract.
-use Rattle.std.proofs.Common.{arith, rules}
+use Rattle.std.proofs.Common.{arith}
 use Rattle.std.proofs.lemmas.Bool.Decides.{nat_tests}
 use Rattle.meaning.specs.Basics.{either}
 use Rattle.text.specs.Words.{is_white}

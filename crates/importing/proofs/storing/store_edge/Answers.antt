@@ -1,8 +1,7 @@
 -- `store_edge` meets its contract: the edge is the one that is read again, and its label has room.
-use Rattle.std.proofs.Common.{sym, ◌∙◌, ap, arith}
+use Rattle.std.proofs.Common.{◌∙◌, ap}
 use Rattle.meaning.specs.Layout.{live, edge_length, write_edge}
 use Rattle.laws.specs.Pieces.{stored}
-use Rattle.labels.specs.Laws.{held-length}
 use Rattle.importing.specs.Names.{names_at}
 use Rattle.importing.proofs.Ends.{numbered}
 use Rattle.importing.proofs.Held.{edge-reads, edge-there, edge-label, edge-held}

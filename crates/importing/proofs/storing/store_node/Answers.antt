@@ -1,8 +1,7 @@
 -- `store_node` meets its contract: the node is the one that is read again, and its label has room.
-use Rattle.std.proofs.Common.{sym, ◌∙◌, ap, arith}
+use Rattle.std.proofs.Common.{◌∙◌, ap}
 use Rattle.meaning.specs.Layout.{live, node_length, write_node}
 use Rattle.laws.specs.Pieces.{stored}
-use Rattle.labels.specs.Laws.{held-length}
 use Rattle.importing.proofs.Held.{node-reads, node-there, node-label, node-held}
 use Rattle.importing.proofs.storing.store_node.Goals as goal
 

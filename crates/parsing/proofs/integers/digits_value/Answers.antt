@@ -1,5 +1,4 @@
-use Rattle.std.proofs.Common.{◌≡◌, ◌∙◌, ap, ℕ, ◌+◌, ◌*◌, ◌-◌, arith}
-use Rattle.writing.specs.Words.{digit_zero}
+use Rattle.std.proofs.Common.{◌≡◌, ◌∙◌, ap, ℕ, ◌+◌, ◌*◌, arith}
 use Rattle.parsing.proofs.Digits.{digit_range, capped_none, capped_more, capped_stay}
 use Rattle.parsing.proofs.integers.digits_value.Goals as goal
 use Rattle.parsing.proofs.integers.digits_value.Goals.{then-v-le-WHOLE, else-v-le-WHOLE}

@@ -2,7 +2,7 @@ use Rattle.std.specs.Prelude.{Some}
 use Rattle.std.proofs.lemmas.Result.{err_from_is_err_and}
 use Rattle.parsing.proofs.Atoms.{gathers-none}
 use Rattle.parsing.proofs.Parts.{first-breaks}
-use Rattle.parsing.proofs.Lists.{gathering_begins, gathering_more, nearer, list-ends, list-broken}
+use Rattle.parsing.proofs.Lists.{gathering_begins, gathering_more, list-ends, list-broken}
 use Rattle.parsing.proofs.labelling.read_integers.Goals as goal
 
 pub returns-in_err-first : goal.returns-in_err-first
