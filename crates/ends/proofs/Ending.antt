@@ -1,32 +1,20 @@
 -- Undoing after a guard and after a loop's last round, by how each ended. Rests on Ends and on undoing's Undone.
-use mathlib.Core.Path.{◌≡◌, sym, ◌∙◌, ap, subst}
+use mathlib.Core.Path.{◌≡◌, ◌∙◌, ap}
 use mathlib.Core.Bool.{Bool, true, false}
 use mathlib.Core.List.{List}
 use Prim.Native.Nat.{ℕ}
 use Rattle.meaning.specs.Basics.{choose}
-use Rattle.meaning.specs.Applying.{Ledger}
-use Rattle.meaning.specs.Commands.{State, ends, back, state_at}
+use Rattle.meaning.specs.Commands.{State, ends, back}
 use Rattle.meaning.specs.declared.Layout.{Layout}
 use Rattle.meaning.specs.declared.Stop.{Stop}
 use Rattle.meaning.specs.declared.Tally.{Tally}
 use Rattle.meaning.specs.declared.End.{End}
 use Rattle.meaning.specs.declared.End.TheVariants.{Done, Failed, Broke, Stopped}
 use Rattle.ledger.specs.Running.{state_of, Running}
-use Rattle.undoing.specs.Undone.{Undone}
 use Rattle.meaning.specs.declared.Ran.{Ran}
 use Rattle.ends.specs.Ends.{settled, closed, Restored, Settled, Closed}
 
 module _ (L : Layout) {nodes edges journal : List ℕ} {mark : ℕ} {nodes' edges' journal' : List ℕ} where
-  pub restored : {t r : Tally} → r ≡ record { fuel = t.fuel; steps = t.steps; records = mark } → Undone L nodes edges journal t.records mark nodes' edges' journal'
-      → Restored L nodes edges journal t mark r nodes' edges' journal'
-  restored {t} p u =
-      subst (λ (r : Tally). Restored L nodes edges journal t mark r nodes' edges' journal') (sym p)
-      (record {
-        again = λ s w.
-            let a = u.again s.ledger w.legal w.from w.count in
-            (ap (λ (g : Ledger). state_at g t.fuel t.steps) a.0, a.1);
-      })
-
   -- what was undone, for an end after which it is
   module _ {ran : Ran} {r : Tally} (u : Restored L nodes edges journal ran.tally mark r nodes' edges' journal') where
     settled_back : {keep : Bool} → ((s : State) → back s (state_of L nodes edges journal ran.tally) ≡ settled ran.end keep s (state_of L nodes edges journal ran.tally))

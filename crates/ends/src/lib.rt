@@ -84,10 +84,15 @@ pub fn settle(
     requires mark_le_records { mark ≤ ran.tally.records }
     ensures { Settled l keep nodes.old edges.old journal.old ran mark result nodes.new edges.new journal.new }
 {
-    match ran.end {
-        End::Done if keep => ran.tally,
-        End::Done | End::Failed => back(l, nodes, edges, journal, ran.tally, mark),
-        End::Broke | End::Stopped(_) => ran.tally,
+    let kept = match ran.end {
+        End::Done => keep,
+        End::Failed => false,
+        End::Broke | End::Stopped(_) => true,
+    };
+    if kept {
+        ran.tally
+    } else {
+        back(l, nodes, edges, journal, ran.tally, mark)
     }
 }
 

@@ -1,5 +1,5 @@
 -- `part_after` meets its contract.
-use Rattle.std.proofs.Common.{sym, ap}
+use Rattle.std.proofs.Common.{sym, ap, inl, inr}
 use Rattle.ends.specs.Ends.{part_after}
 use Rattle.ends.proofs.part_after.Goals as goal
 
@@ -13,8 +13,8 @@ returns-in-Failed c = sym (ap part_after c.in-Failed.is)
 
 pub returns-in-Broke : goal.returns-in-Broke
 unfolding part_after
-returns-in-Broke c = sym (ap part_after c.in-Broke.is)
-
-pub returns-in-Stopped : goal.returns-in-Stopped
-unfolding part_after
-returns-in-Stopped c = sym (ap part_after c.in-Stopped.is)
+returns-in-Broke c =
+    elim c.in-Broke.is [
+      | inl e ↦ sym (ap part_after e)
+      | inr e ↦ sym (ap part_after e.1)
+    ]
