@@ -11,16 +11,16 @@ use native.Mathlib.Decide.{ℕ_discrete}
 use lib.ListN.{length, get_or, take, drop, length-drop}
 use lib.Seq.{get_or-drop}
 use Rattle.meaning.specs.Numbers.{number}
-use Rattle.meaning.specs.Layout.{Slot, free, is_live, Node, Edge, Sized, state_place, mark_place, root_place, length_place, head_length, atom_length, most_atoms, source_place, target_place, edge_atoms, node_length, edge_length, pieces, cut, read_atoms, read_node, read_edge, read_nodes, read_edges, keeps_node, keeps_edge}
+use Rattle.meaning.specs.Layout.{Slot, free, is_live, Node, Sized, state_place, mark_place, root_place, length_place, head_length, atom_length, most_atoms, source_place, target_place, edge_atoms, node_length, edge_length, pieces, cut, read_atoms, read_node, read_edge, read_nodes, read_edges, keeps_node, keeps_edge}
 use Rattle.meaning.specs.Matching.{node_in, edge_in}
 use Rattle.laws.specs.Pieces.{get_or-map_in, length-pieces, length-read}
 use Rattle.laws.specs.Layout.{get_or-zeros, length-atoms, read_node_free, read_node_live, keeps_node-free, keeps_node-live, read_edge-free, read_edge-live, keeps_edge-free, keeps_edge-live, kept-node, kept-edge}
 use Rattle.meaning.specs.declared.Layout.{Layout}
 use Rattle.slots.specs.Laid.{laid}
 use Rattle.slots.specs.Comparing.{laid-front}
-use Rattle.slots.specs.Slots.{state_of, label_end}
+use Rattle.slots.specs.Slots.{label_end}
 use Rattle.slots.specs.States.{state-node, state-edge}
-use Rattle.graph.specs.Graph.{Legal}
+use Rattle.graph.specs.Graph.{Legal, NodeBytes, EdgeBytes}
 
 -- A table's slots, by the length of one that the layout holds.
 
@@ -60,14 +60,6 @@ label-zero n l e = rw e
 
 -- Nodes.
 
--- the bytes say what the slot has
-pub record NodeBytes (L : Layout) (b : List ℕ) (s : Slot Node) : Type 0 where
-  pub state : is_live (state_of b) ≡ is_live s
-  pub mark : get_or b mark_place 0 ≡ (node_in s).mark
-  pub root : get_or b root_place 0 ≡ (node_in s).root
-  pub size : get_or b length_place 0 ≤ L.atoms
-  pub label : read_atoms (get_or b length_place 0) (drop head_length b) ≡ (node_in s).label
-
 kept-node-bytes : (L : Layout) (b : List ℕ) → keeps_node L b ≡ true → NodeBytes L b (read_node b)
 unfolding node_in
 kept-node-bytes L b k = at (ℕ_discrete (get_or b state_place 0) 0)
@@ -96,14 +88,6 @@ kept-node-bytes L b k = at (ℕ_discrete (get_or b state_place 0) 0)
         })
 
 -- Edges.
-
-pub record EdgeBytes (L : Layout) (b : List ℕ) (s : Slot Edge) : Type 0 where
-  pub state : is_live (state_of b) ≡ is_live s
-  pub mark : get_or b mark_place 0 ≡ (edge_in s).mark
-  pub source : number (take L.width (drop (source_place L) b)) ≡ (edge_in s).source
-  pub target : number (take L.width (drop (target_place L) b)) ≡ (edge_in s).target
-  pub size : get_or b length_place 0 ≤ L.atoms
-  pub label : read_atoms (get_or b length_place 0) (drop (edge_atoms L) b) ≡ (edge_in s).label
 
 kept-edge-bytes : (L : Layout) (nodes : List (Slot Node)) (b : List ℕ) → keeps_edge L nodes b ≡ true → EdgeBytes L b (read_edge L b)
 unfolding edge_in

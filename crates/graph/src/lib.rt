@@ -1,12 +1,12 @@
 // The host graph in lent tables, by slot number: marks, roots, labels, ends, and the counts of edges that tests ask for.
 #![tactic(auto)]
 
-ghost use Rattle.std.specs.Prelude.{◌≡◌, ◌<◌, ◌≤◌, length};
+ghost use Rattle.std.specs.Prelude.{◌≡◌, ◌<◌, ◌≤◌, length, get_or};
 ghost use Rattle.meaning.specs.Basics.{exists, count};
-ghost use Rattle.meaning.specs.Layout.{Sized, most_atoms, live_at, read_nodes, read_edges, host_of};
+ghost use Rattle.meaning.specs.Layout.{Sized, free, node_length, edge_length, most_atoms, live_at, read_nodes, read_edges, host_of};
 ghost use Rattle.meaning.specs.Matching.{node_at, edge_at, edge_runs, edge_leaves, edge_arrives, in_degree, out_degree, edge_touches};
 ghost use Rattle.slots.specs.Laid.{laid};
-ghost use Rattle.graph.specs.Graph.{Legal, slots_in};
+ghost use Rattle.graph.specs.Graph.{Legal, slots_in, NodeBytes, EdgeBytes};
 
 use meaning::{Layout, Table};
 use slots::held;
@@ -22,12 +22,22 @@ pub fn node_slots(l: Layout, nodes: &[u8]) -> usize
     nodes.len() / l.node
 }
 
+// The bytes of a node slot.
+fn node_bytes<'a>(l: Layout, nodes: &'a [u8], edges: &[u8], x: usize) -> &'a [u8]
+    requires legal { Legal l nodes.now edges.now }
+    requires x_in_bounds { x < length (host_of l nodes.now edges.now).nodes }
+    ensures said { NodeBytes l result.now (get_or (host_of l nodes.now edges.now).nodes x free) }
+    ensures len { length result.now ≡ node_length l }
+{
+    slots::slot(nodes, l.node, x)
+}
+
 pub fn node_live(l: Layout, nodes: &[u8], edges: &[u8], x: usize) -> bool
     requires legal { Legal l nodes.now edges.now }
     requires x_in_bounds { x < length (host_of l nodes.now edges.now).nodes }
     ensures { result ≡ live_at (host_of l nodes.now edges.now).nodes x }
 {
-    held::is_live(slots::slot(nodes, l.node, x))
+    held::is_live(node_bytes(l, nodes, edges, x))
 }
 
 pub fn node_mark(l: Layout, nodes: &[u8], edges: &[u8], x: usize) -> u8
@@ -35,7 +45,7 @@ pub fn node_mark(l: Layout, nodes: &[u8], edges: &[u8], x: usize) -> u8
     requires x_in_bounds { x < length (host_of l nodes.now edges.now).nodes }
     ensures { result ≡ (node_at (host_of l nodes.now edges.now) x).mark }
 {
-    held::mark(slots::slot(nodes, l.node, x))
+    held::mark(node_bytes(l, nodes, edges, x))
 }
 
 pub fn node_root(l: Layout, nodes: &[u8], edges: &[u8], x: usize) -> u8
@@ -43,7 +53,7 @@ pub fn node_root(l: Layout, nodes: &[u8], edges: &[u8], x: usize) -> u8
     requires x_in_bounds { x < length (host_of l nodes.now edges.now).nodes }
     ensures { result ≡ (node_at (host_of l nodes.now edges.now) x).root }
 {
-    held::root(slots::slot(nodes, l.node, x))
+    held::root(node_bytes(l, nodes, edges, x))
 }
 
 // Its label, where it lies.
@@ -52,7 +62,7 @@ pub fn node_label<'a>(l: Layout, nodes: &'a [u8], edges: &[u8], x: usize) -> &'a
     requires x_in_bounds { x < length (host_of l nodes.now edges.now).nodes }
     ensures { (laid result.now ≡ (node_at (host_of l nodes.now edges.now) x).label) × (length (laid result.now) ≤ most_atoms) }
 {
-    held::label(slots::slot(nodes, l.node, x), Place::NODE_ATOMS)
+    held::label(node_bytes(l, nodes, edges, x), Place::NODE_ATOMS)
 }
 
 // Edges.
@@ -65,12 +75,22 @@ pub fn edge_slots(l: Layout, edges: &[u8]) -> usize
     edges.len() / l.edge
 }
 
+// The bytes of an edge slot.
+fn edge_bytes<'a>(l: Layout, nodes: &[u8], edges: &'a [u8], x: usize) -> &'a [u8]
+    requires legal { Legal l nodes.now edges.now }
+    requires x_in_bounds { x < length (host_of l nodes.now edges.now).edges }
+    ensures said { EdgeBytes l result.now (get_or (host_of l nodes.now edges.now).edges x free) }
+    ensures len { length result.now ≡ edge_length l }
+{
+    slots::slot(edges, l.edge, x)
+}
+
 pub fn edge_live(l: Layout, nodes: &[u8], edges: &[u8], x: usize) -> bool
     requires legal { Legal l nodes.now edges.now }
     requires x_in_bounds { x < length (host_of l nodes.now edges.now).edges }
     ensures { result ≡ live_at (host_of l nodes.now edges.now).edges x }
 {
-    held::is_live(slots::slot(edges, l.edge, x))
+    held::is_live(edge_bytes(l, nodes, edges, x))
 }
 
 pub fn edge_mark(l: Layout, nodes: &[u8], edges: &[u8], x: usize) -> u8
@@ -78,7 +98,7 @@ pub fn edge_mark(l: Layout, nodes: &[u8], edges: &[u8], x: usize) -> u8
     requires x_in_bounds { x < length (host_of l nodes.now edges.now).edges }
     ensures { result ≡ (edge_at (host_of l nodes.now edges.now) x).mark }
 {
-    held::mark(slots::slot(edges, l.edge, x))
+    held::mark(edge_bytes(l, nodes, edges, x))
 }
 
 pub fn edge_source(l: Layout, nodes: &[u8], edges: &[u8], x: usize) -> usize
@@ -86,7 +106,7 @@ pub fn edge_source(l: Layout, nodes: &[u8], edges: &[u8], x: usize) -> usize
     requires x_in_bounds { x < length (host_of l nodes.now edges.now).edges }
     ensures { result ≡ (edge_at (host_of l nodes.now edges.now) x).source }
 {
-    held::source(l, slots::slot(edges, l.edge, x))
+    held::source(l, edge_bytes(l, nodes, edges, x))
 }
 
 pub fn edge_target(l: Layout, nodes: &[u8], edges: &[u8], x: usize) -> usize
@@ -94,7 +114,7 @@ pub fn edge_target(l: Layout, nodes: &[u8], edges: &[u8], x: usize) -> usize
     requires x_in_bounds { x < length (host_of l nodes.now edges.now).edges }
     ensures { result ≡ (edge_at (host_of l nodes.now edges.now) x).target }
 {
-    held::target(l, slots::slot(edges, l.edge, x))
+    held::target(l, edge_bytes(l, nodes, edges, x))
 }
 
 // Its label, where it lies.
@@ -103,7 +123,7 @@ pub fn edge_label<'a>(l: Layout, nodes: &[u8], edges: &'a [u8], x: usize) -> &'a
     requires x_in_bounds { x < length (host_of l nodes.now edges.now).edges }
     ensures { (laid result.now ≡ (edge_at (host_of l nodes.now edges.now) x).label) × (length (laid result.now) ≤ most_atoms) }
 {
-    held::label(slots::slot(edges, l.edge, x), held::edge_atoms(l))
+    held::label(edge_bytes(l, nodes, edges, x), held::edge_atoms(l))
 }
 
 // Of either table.
