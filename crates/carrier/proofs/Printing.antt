@@ -1,9 +1,8 @@
 -- What is printed, one writer after the other; and the lengths of the tables that are carried to. Rests on Carried, Rooms and
 -- writing's Laws/Rows.
-use mathlib.Core.Path.{◌≡◌, refl, ap}
+use mathlib.Core.Path.{◌≡◌, ap}
 use mathlib.Core.List.{List, [], ◌∷◌}
-use Prim.Native.Nat.{ℕ, ◌+◌, ◌*◌, ◌<◌, ◌≤◌, min}
-use native.Mathlib.Nat.{mul-le-mul_right}
+use Prim.Native.Nat.{ℕ, ◌+◌, ◌≤◌}
 use native.Mathlib.Omega.{arith}
 use lib.ListN.{length, replicate}
 use Rattle.meaning.specs.Numbers.{bytes}
@@ -20,15 +19,6 @@ use Rattle.writing.specs.Text.{Adds, Lists}
 use Rattle.writing.specs.Laws.Rows.{within, saying, then, lists}
 use Rattle.carrier.specs.Carried.{table_fields, length_for, carried_text, carried_tables}
 use Rattle.carrier.specs.Rooms.{field_size, InputOf, Between}
-
--- Lengths.
-
-module _ (n v most : ℕ) where
-  pub fewer : n < most → (n * v ≡ min n most * v) × (n * v ≤ most * v)
-  fewer h = let e : min n most ≡ n = omega arith in (rw e refl, mul-le-mul_right v (omega arith))
-
-  pub most-of : most ≤ n → (most * v ≡ min n most * v) × (most * v ≤ most * v)
-  most-of h = let e : min n most ≡ most = omega arith in (rw e refl, omega arith)
 
 -- Texts.
 

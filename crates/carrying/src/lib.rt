@@ -112,6 +112,7 @@ fn unfit(manner: Manner) -> Refusal
 }
 
 // The lowest applicable number of 10, 11, 15, and 26 or 29.
+#[tactic(auto, unfolding(answers::specs::Answers::refusal_of, meaning::specs::Basics::first_failing, meaning::specs::Basics::choose, meaning::specs::Basics::both, meaning::specs::Carrying::carry_refusal, meaning::specs::Carrying::host_fits, meaning::specs::Carrying::slots_fit))]
 fn check(
     manner: Manner,
     from: Layout,
