@@ -22,6 +22,7 @@ pub enum Kind {
 }
 
 // The kind of such a command, from its tag and payload; a tag that is no command's, or a rule set's, counts as a break's.
+#[tactic(auto, unfolding(crate::specs::Ends::kind_of, meaning::specs::Basics::choose))]
 pub fn kind_of(tag: u8, p: &[u8]) -> Kind
     ensures { result ≡ kind_of tag p.now }
 {
@@ -36,6 +37,7 @@ pub fn kind_of(tag: u8, p: &[u8]) -> Kind
 }
 
 // Whether a row goes on with its next command, and a loop with its next round.
+#[tactic(auto, unfolding(crate::specs::Ends::is_done))]
 pub fn goes_on(end: End) -> bool
     ensures { result ≡ is_done end }
 {
@@ -43,6 +45,7 @@ pub fn goes_on(end: End) -> bool
 }
 
 // The part of a guarded command that follows its guard, by the guard's end: the second, the third, or none.
+#[tactic(auto, unfolding(crate::specs::Ends::part_after))]
 pub fn part_after(end: End) -> Option<usize>
     ensures { result ≡ part_after end }
 {

@@ -29,6 +29,7 @@ fn give_back(
 }
 
 // What a run leaves, by its end.
+#[tactic(auto, unfolding(crate::specs::Finished::Finishes))]
 pub fn finish(
     l: Layout,
     nodes: &mut [u8],
