@@ -4,3 +4,4 @@ pub mod Agreeing
 pub mod Candidates
 pub mod Trials
 pub mod Assigned
+pub mod Lent

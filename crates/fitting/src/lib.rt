@@ -4,20 +4,23 @@
 
 ghost use Rattle.std.specs.Prelude.{◌≡◌, true, ◌+◌, ◌-◌, ◌<◌, ◌≤◌, length, get_or, take, drop};
 ghost use Rattle.meaning.specs.Basics.{exists, all, count, absent};
-ghost use Rattle.meaning.specs.Layout.{Host, host_of};
+ghost use Rattle.meaning.specs.Layout.{Host};
 ghost use Rattle.meaning.specs.Image.{Rule, most_items};
 ghost use Rattle.meaning.specs.Matching.{left_nodes, left_edges, left_node, left_edge, node_slot, total, roots_agree};
 ghost use Rattle.meaning.specs.FirstMatch.{marks_agree, linked as isLinked, left_touches, can_go, dangles as isDangling};
-ghost use Rattle.graph.specs.Graph.{Legal};
+ghost use Rattle.graph.specs.Hosts.{host_in};
 ghost use Rattle.plan.specs.Plan.{For, IsLaid, HasEdge, edges_at, interface_at, nodes_at, sort_at};
-ghost use Rattle.agreeing.specs.Placed.{Known, Inside, Tried};
+ghost use Rattle.agreeing.specs.Placed.{Inside};
 ghost use Rattle.agreeing.specs.Candidates.{Likely};
-ghost use Rattle.fitting.specs.Fitting.{TriedEdge, Numbers, HasRoom, joins_at, gone_at, NodeLike, NextLike};
+ghost use Rattle.agreeing.specs.Lent.{KnownIn, TriedIn};
+ghost use Rattle.fitting.specs.Fitting.{Numbers, HasRoom, joins_at, gone_at, NodeLike, NextLike};
+ghost use Rattle.fitting.specs.Lent.{EdgeIn};
 
-use agreeing::slot_of;
+use agreeing::Trial;
+use graph::Graph;
+use meaning::Room;
 use meaning::tags::{Mark, Mode};
-use meaning::{Layout, Room};
-use plan::{At, Side};
+use plan::{At, PlannedRule, Side};
 
 // Marks, roots, slots and edges.
 
@@ -46,227 +49,126 @@ fn absent(at: &[usize; Room::ITEMS], from: usize, to: usize, c: usize) -> bool
 
 // Whether host edge x can stand for left edge k, whose ends are at slots s and t, as far as its mark and ends go.
 #[tactic(auto, unfolding(meaning::specs::Basics::both))]
-fn joins(
-    l: Layout,
-    nodes: &[u8],
-    edges: &[u8],
-    rule: &[u8],
-    plan: &[usize; At::LENGTH],
-    k: usize,
-    s: usize,
-    t: usize,
-    x: usize,
-) -> bool
-    requires legal { Legal l nodes.now edges.now }
-    requires has_edge { HasEdge rule.now plan.now k }
-    requires x_in_bounds { x < length (host_of l nodes.now edges.now).edges }
-    ensures { For rule.now plan.now (λ r. result ≡ joins_at (host_of l nodes.now edges.now) r k s t x) }
+fn joins(host: &Graph, rule: &PlannedRule, k: usize, s: usize, t: usize, x: usize) -> bool
+    requires has_edge { HasEdge rule.now.bytes.now rule.now.plan.now k }
+    requires x_in_bounds { x < length (host_in host.now).edges }
+    ensures { For rule.now.bytes.now rule.now.plan.now (λ r. result ≡ joins_at (host_in host.now) r k s t x) }
 {
-    graph::edge_runs(l, nodes, edges, s, t, x)
-        && marks_agree(
-            plan::mark(rule, plan, plan[At::NODES] + k),
-            graph::edge_mark(l, nodes, edges, x),
-        )
+    host.edge_runs(s, t, x) && marks_agree(rule.mark(rule.plan[At::NODES] + k), host.edge_mark(x))
 }
 
-fn any_joins(
-    l: Layout,
-    nodes: &[u8],
-    edges: &[u8],
-    rule: &[u8],
-    plan: &[usize; At::LENGTH],
-    k: usize,
-    s: usize,
-    t: usize,
-) -> bool
-    requires legal { Legal l nodes.now edges.now }
-    requires has_edge { HasEdge rule.now plan.now k }
-    ensures { For rule.now plan.now (λ r. result ≡ exists (joins_at (host_of l nodes.now edges.now) r k s t) (length (host_of l nodes.now edges.now).edges)) }
+fn any_joins(host: &Graph, rule: &PlannedRule, k: usize, s: usize, t: usize) -> bool
+    requires { HasEdge rule.now.bytes.now rule.now.plan.now k }
+    ensures { For rule.now.bytes.now rule.now.plan.now (λ r. result ≡ exists (joins_at (host_in host.now) r k s t) (length (host_in host.now).edges)) }
 {
-    (0..graph::edge_slots(l, edges)).any(|x| joins(l, nodes, edges, rule, plan, k, s, t, x))
+    (0..host.edge_slots()).any(|x| joins(host, rule, k, s, t, x))
 }
 
-// Whether left edge k has a host edge, if node i, tried at slot c, is the later of its ends.
-fn link_holds(
-    l: Layout,
-    nodes: &[u8],
-    edges: &[u8],
-    rule: &[u8],
-    plan: &[usize; At::LENGTH],
-    at: &[usize; Room::ITEMS],
-    i: usize,
-    c: usize,
-    k: usize,
-) -> bool
-    requires legal { Legal l nodes.now edges.now }
-    requires tried_edge { TriedEdge (host_of l nodes.now edges.now) rule.now plan.now at.now i c k }
-    ensures { (w : Tried (host_of l nodes.now edges.now) rule.now plan.now at.now i c) → result ≡ isLinked (host_of l nodes.now edges.now) w.trial.rule w.trial.placed i k }
+// Whether left edge k has a host edge, if the node tried is the later of its ends.
+fn link_holds(host: &Graph, rule: &PlannedRule, trial: &Trial, k: usize) -> bool
+    requires { EdgeIn host.now rule.now trial.now k }
+    ensures { (w : TriedIn host.now rule.now trial.now) → result ≡ isLinked (host_in host.now) w.trial.rule w.trial.placed trial.now.item k }
 {
-    let s = plan::end_of(rule, plan, k, Side::Source);
-    let t = plan::end_of(rule, plan, k, Side::Target);
-    plan::later(s, t) != i
-        || any_joins(
-            l,
-            nodes,
-            edges,
-            rule,
-            plan,
-            k,
-            slot_of(at, i, c, s),
-            slot_of(at, i, c, t),
-        )
+    let s = rule.end_of(k, Side::Source);
+    let t = rule.end_of(k, Side::Target);
+    plan::later(s, t) != trial.item || any_joins(host, rule, k, trial.slot_of(s), trial.slot_of(t))
 }
 
-fn linked(
-    l: Layout,
-    nodes: &[u8],
-    edges: &[u8],
-    rule: &[u8],
-    plan: &[usize; At::LENGTH],
-    at: &[usize; Room::ITEMS],
-    i: usize,
-    c: usize,
-) -> bool
-    requires legal { Legal l nodes.now edges.now }
-    requires tried { Tried (host_of l nodes.now edges.now) rule.now plan.now at.now i c }
-    ensures { (w : Tried (host_of l nodes.now edges.now) rule.now plan.now at.now i c) → result ≡ all (isLinked (host_of l nodes.now edges.now) w.trial.rule w.trial.placed i) (left_edges w.trial.rule) }
+fn linked(host: &Graph, rule: &PlannedRule, trial: &Trial) -> bool
+    requires { TriedIn host.now rule.now trial.now }
+    ensures { (w : TriedIn host.now rule.now trial.now) → result ≡ all (isLinked (host_in host.now) w.trial.rule w.trial.placed trial.now.item) (left_edges w.trial.rule) }
 {
-    (0..plan[At::EDGES]).all(|k| link_holds(l, nodes, edges, rule, plan, at, i, c, k))
+    (0..rule.plan[At::EDGES]).all(|k| link_holds(host, rule, trial, k))
 }
 
 #[tactic(auto, unfolding(meaning::specs::FirstMatch::left_touches, meaning::specs::Basics::either))]
-fn left_touches(rule: &[u8], plan: &[usize; At::LENGTH], i: usize, k: usize) -> bool
-    requires { HasEdge rule.now plan.now k }
-    ensures { For rule.now plan.now (λ r. (h : Host) → result ≡ left_touches h r i k) }
+fn left_touches(rule: &PlannedRule, i: usize, k: usize) -> bool
+    requires { HasEdge rule.now.bytes.now rule.now.plan.now k }
+    ensures { For rule.now.bytes.now rule.now.plan.now (λ r. (h : Host) → result ≡ left_touches h r i k) }
 {
-    plan::end_of(rule, plan, k, Side::Source) == i || plan::end_of(rule, plan, k, Side::Target) == i
+    rule.end_of(k, Side::Source) == i || rule.end_of(k, Side::Target) == i
 }
 
-fn left_degree(rule: &[u8], plan: &[usize; At::LENGTH], i: usize) -> usize
-    requires { IsLaid rule.now plan.now }
-    ensures { For rule.now plan.now (λ r. (h : Host) → result ≡ count (left_touches h r i) (left_edges r)) }
+fn left_degree(rule: &PlannedRule, i: usize) -> usize
+    requires { IsLaid rule.now.bytes.now rule.now.plan.now }
+    ensures { For rule.now.bytes.now rule.now.plan.now (λ r. (h : Host) → result ≡ count (left_touches h r i) (left_edges r)) }
 {
-    (0..plan[At::EDGES])
-        .filter(|k| left_touches(rule, plan, i, *k))
+    (0..rule.plan[At::EDGES])
+        .filter(|k| left_touches(rule, i, *k))
         .count()
 }
 
 // Whether left node i stays, or slot c has no more edges than left node i.
 #[tactic(auto, unfolding(meaning::specs::FirstMatch::can_go, meaning::specs::Basics::either))]
-fn can_go(
-    l: Layout,
-    nodes: &[u8],
-    edges: &[u8],
-    rule: &[u8],
-    plan: &[usize; At::LENGTH],
-    i: usize,
-    c: usize,
-) -> bool
-    requires legal { Legal l nodes.now edges.now }
-    requires laid { IsLaid rule.now plan.now }
-    ensures { For rule.now plan.now (λ r. result ≡ can_go (host_of l nodes.now edges.now) r i c) }
+fn can_go(host: &Graph, rule: &PlannedRule, i: usize, c: usize) -> bool
+    requires { IsLaid rule.now.bytes.now rule.now.plan.now }
+    ensures { For rule.now.bytes.now rule.now.plan.now (λ r. result ≡ can_go (host_in host.now) r i c) }
 {
-    i < plan[At::INTERFACE] || graph::degree(l, nodes, edges, c) <= left_degree(rule, plan, i)
+    i < rule.plan[At::INTERFACE] || host.degree(c) <= left_degree(rule, i)
 }
 
 // Candidates.
 
 // Whether slot c can stand for left node i, of this mark and root flag and in a rule of this mode, as far as the slot alone tells.
 fn node_like(
-    l: Layout,
-    nodes: &[u8],
-    edges: &[u8],
-    rule: &[u8],
-    plan: &[usize; At::LENGTH],
+    host: &Graph,
+    rule: &PlannedRule,
     mark: u8,
     root: u8,
     preserving: bool,
     i: usize,
     c: usize,
 ) -> bool
-    requires legal { Legal l nodes.now edges.now }
-    requires known { Known rule.now plan.now }
-    requires i_bound { (i < get_or plan.now nodes_at 0) × (c < length (host_of l nodes.now edges.now).nodes) }
-    requires mark_value { (w : Known rule.now plan.now) → (mark ≡ (left_node w.rule i).mark) × (root ≡ (left_node w.rule i).root) × (preserving ≡ w.rule.preserving) }
-    ensures { (w : Known rule.now plan.now) → NodeLike (host_of l nodes.now edges.now) w.rule (get_or plan.now (sort_at + i) 0) i c result }
+    requires known { KnownIn rule.now }
+    requires i_bound { (i < get_or rule.now.plan.now nodes_at 0) × (c < length (host_in host.now).nodes) }
+    requires mark_value { (w : KnownIn rule.now) → (mark ≡ (left_node w.rule i).mark) × (root ≡ (left_node w.rule i).root) × (preserving ≡ w.rule.preserving) }
+    ensures { (w : KnownIn rule.now) → NodeLike (host_in host.now) w.rule (get_or rule.now.plan.now (sort_at + i) 0) i c result }
 {
-    graph::node_live(l, nodes, edges, c)
-        && marks_agree(mark, graph::node_mark(l, nodes, edges, c))
-        && roots_agree(preserving, root, graph::node_root(l, nodes, edges, c))
-        && agreeing::label_likely(l, nodes, edges, rule, plan, i, c)
+    host.node_live(c)
+        && marks_agree(mark, host.node_mark(c))
+        && roots_agree(preserving, root, host.node_root(c))
+        && agreeing::label_likely(host, rule, i, c)
 }
 
 // The first slot from c to n that can, n if there is none.
-pub fn next_like(
-    l: Layout,
-    nodes: &[u8],
-    edges: &[u8],
-    rule: &[u8],
-    plan: &[usize; At::LENGTH],
-    i: usize,
-    c: usize,
-    n: usize,
-) -> usize
-    requires legal { Legal l nodes.now edges.now }
-    requires known { Known rule.now plan.now }
-    requires i_bound { (i < get_or plan.now nodes_at 0) × (n ≤ length (host_of l nodes.now edges.now).nodes) }
-    ensures { (w : Known rule.now plan.now) → NextLike (host_of l nodes.now edges.now) w.rule (get_or plan.now (sort_at + i) 0) i c n result }
+pub fn next_like(host: &Graph, rule: &PlannedRule, i: usize, c: usize, n: usize) -> usize
+    requires known { KnownIn rule.now }
+    requires i_bound { (i < get_or rule.now.plan.now nodes_at 0) × (n ≤ length (host_in host.now).nodes) }
+    ensures { (w : KnownIn rule.now) → NextLike (host_in host.now) w.rule (get_or rule.now.plan.now (sort_at + i) 0) i c n result }
 {
-    let mark = plan::mark(rule, plan, i);
-    let root = plan::root(rule, plan, i);
-    let preserving = plan[At::MODE] == Mode::PRESERVING;
+    let mark = rule.mark(i);
+    let root = rule.root(i);
+    let preserving = rule.plan[At::MODE] == Mode::PRESERVING;
     (c..n)
-        .find(|&x| node_like(l, nodes, edges, rule, plan, mark, root, preserving, i, x))
+        .find(|&x| node_like(host, rule, mark, root, preserving, i, x))
         .unwrap_or(n)
 }
 
-// Whether slot c, which is like left node i, can stand for it beside the nodes placed, by all but label and tests.
-pub fn node_likely(
-    l: Layout,
-    nodes: &[u8],
-    edges: &[u8],
-    rule: &[u8],
-    plan: &[usize; At::LENGTH],
-    at: &[usize; Room::ITEMS],
-    i: usize,
-    c: usize,
-) -> bool
-    requires legal { Legal l nodes.now edges.now }
-    requires known { Known rule.now plan.now }
-    requires at_len { (length at.now ≡ most_items) × Inside (host_of l nodes.now edges.now) (get_or plan.now nodes_at 0) at.now i }
-    requires i_bound { (i < get_or plan.now nodes_at 0) × (c < length (host_of l nodes.now edges.now).nodes) }
-    requires node_like { (w : Known rule.now plan.now) → NodeLike (host_of l nodes.now edges.now) w.rule (get_or plan.now (sort_at + i) 0) i c true }
-    ensures { (w : Known rule.now plan.now) → Likely (host_of l nodes.now edges.now) w.rule (get_or plan.now (sort_at + i) 0) (take i at.now) i c result }
+// Whether the slot tried, which is like the left node, can stand for it beside the nodes placed, by all but label and tests.
+pub fn node_likely(host: &Graph, rule: &PlannedRule, trial: &Trial) -> bool
+    requires known { KnownIn rule.now }
+    requires at_len { (length trial.now.at.now ≡ most_items) × Inside (host_in host.now) (get_or rule.now.plan.now nodes_at 0) trial.now.at.now trial.now.item }
+    requires i_bound { (trial.now.item < get_or rule.now.plan.now nodes_at 0) × (trial.now.slot < length (host_in host.now).nodes) }
+    requires node_like { (w : KnownIn rule.now) → NodeLike (host_in host.now) w.rule (get_or rule.now.plan.now (sort_at + trial.now.item) 0) trial.now.item trial.now.slot true }
+    ensures { (w : KnownIn rule.now) → Likely (host_in host.now) w.rule (get_or rule.now.plan.now (sort_at + trial.now.item) 0) (take trial.now.item trial.now.at.now) trial.now.item trial.now.slot result }
 {
-    absent(at, 0, i, c)
-        && linked(l, nodes, edges, rule, plan, at, i, c)
-        && can_go(l, nodes, edges, rule, plan, i, c)
+    absent(trial.at, 0, trial.item, trial.slot)
+        && linked(host, rule, trial)
+        && can_go(host, rule, trial.item, trial.slot)
 }
 
-// Whether slot c can stand for the left edge that is item i, whose ends are at slots s and t, by all but label and tests.
-pub fn edge_likely(
-    l: Layout,
-    nodes: &[u8],
-    edges: &[u8],
-    rule: &[u8],
-    plan: &[usize; At::LENGTH],
-    at: &[usize; Room::ITEMS],
-    i: usize,
-    s: usize,
-    t: usize,
-    c: usize,
-) -> bool
-    requires legal { Legal l nodes.now edges.now }
-    requires known { Known rule.now plan.now }
-    requires at_len { (length at.now ≡ most_items) × Inside (host_of l nodes.now edges.now) (get_or plan.now nodes_at 0) at.now i }
-    requires nodes_at_bound { (get_or plan.now nodes_at 0 ≤ i) × (i < get_or plan.now nodes_at 0 + get_or plan.now edges_at 0) × (c < length (host_of l nodes.now edges.now).edges) }
-    requires s_value { (w : Known rule.now plan.now) → (s ≡ node_slot (take i at.now) (left_edge w.rule (i - left_nodes w.rule)).source) × (t ≡ node_slot (take i at.now) (left_edge w.rule (i - left_nodes w.rule)).target) }
-    ensures { (w : Known rule.now plan.now) → Likely (host_of l nodes.now edges.now) w.rule (get_or plan.now (sort_at + i) 0) (take i at.now) i c result }
+// Whether the slot tried can stand for the left edge, whose ends are at slots s and t, by all but label and tests.
+pub fn edge_likely(host: &Graph, rule: &PlannedRule, trial: &Trial, s: usize, t: usize) -> bool
+    requires known { KnownIn rule.now }
+    requires at_len { (length trial.now.at.now ≡ most_items) × Inside (host_in host.now) (get_or rule.now.plan.now nodes_at 0) trial.now.at.now trial.now.item }
+    requires nodes_at_bound { (get_or rule.now.plan.now nodes_at 0 ≤ trial.now.item) × (trial.now.item < get_or rule.now.plan.now nodes_at 0 + get_or rule.now.plan.now edges_at 0) × (trial.now.slot < length (host_in host.now).edges) }
+    requires s_value { (w : KnownIn rule.now) → (s ≡ node_slot (take trial.now.item trial.now.at.now) (left_edge w.rule (trial.now.item - left_nodes w.rule)).source) × (t ≡ node_slot (take trial.now.item trial.now.at.now) (left_edge w.rule (trial.now.item - left_nodes w.rule)).target) }
+    ensures { (w : KnownIn rule.now) → Likely (host_in host.now) w.rule (get_or rule.now.plan.now (sort_at + trial.now.item) 0) (take trial.now.item trial.now.at.now) trial.now.item trial.now.slot result }
 {
-    let n = plan[At::NODES];
-    joins(l, nodes, edges, rule, plan, i - n, s, t, c)
-        && absent(at, n, i, c)
-        && agreeing::label_likely(l, nodes, edges, rule, plan, i, c)
+    let n = rule.plan[At::NODES];
+    joins(host, rule, trial.item - n, s, t, trial.slot)
+        && absent(trial.at, n, trial.item, trial.slot)
+        && agreeing::label_likely(host, rule, trial.item, trial.slot)
 }
 
 // Edges that dangle.
@@ -280,39 +182,19 @@ fn touches_gone(plan: &[usize; At::LENGTH], at: &[usize; Room::ITEMS], s: usize,
 }
 
 // Whether edge x would be left without an end.
-fn dangles(
-    l: Layout,
-    nodes: &[u8],
-    edges: &[u8],
-    plan: &[usize; At::LENGTH],
-    at: &[usize; Room::ITEMS],
-    x: usize,
-) -> bool
-    requires legal { Legal l nodes.now edges.now }
+fn dangles(host: &Graph, plan: &[usize; At::LENGTH], at: &[usize; Room::ITEMS], x: usize) -> bool
     requires has_room { HasRoom plan.now at.now }
-    requires x_in_bounds { x < length (host_of l nodes.now edges.now).edges }
-    ensures { (r : Rule) → Numbers plan.now r → result ≡ isDangling (host_of l nodes.now edges.now) r (take (total r) at.now) x }
+    requires x_in_bounds { x < length (host_in host.now).edges }
+    ensures { (r : Rule) → Numbers plan.now r → result ≡ isDangling (host_in host.now) r (take (total r) at.now) x }
 {
-    graph::edge_live(l, nodes, edges, x)
-        && touches_gone(
-            plan,
-            at,
-            graph::edge_source(l, nodes, edges, x),
-            graph::edge_target(l, nodes, edges, x),
-        )
+    host.edge_live(x)
+        && touches_gone(plan, at, host.edge_source(x), host.edge_target(x))
         && absent(at, plan[At::NODES], plan[At::NODES] + plan[At::EDGES], x)
 }
 
-pub fn any_dangles(
-    l: Layout,
-    nodes: &[u8],
-    edges: &[u8],
-    plan: &[usize; At::LENGTH],
-    at: &[usize; Room::ITEMS],
-) -> bool
-    requires legal { Legal l nodes.now edges.now }
-    requires has_room { HasRoom plan.now at.now }
-    ensures { (r : Rule) → Numbers plan.now r → result ≡ exists (isDangling (host_of l nodes.now edges.now) r (take (total r) at.now)) (length (host_of l nodes.now edges.now).edges) }
+pub fn any_dangles(host: &Graph, plan: &[usize; At::LENGTH], at: &[usize; Room::ITEMS]) -> bool
+    requires { HasRoom plan.now at.now }
+    ensures { (r : Rule) → Numbers plan.now r → result ≡ exists (isDangling (host_in host.now) r (take (total r) at.now)) (length (host_in host.now).edges) }
 {
-    (0..graph::edge_slots(l, edges)).any(|x| dangles(l, nodes, edges, plan, at, x))
+    (0..host.edge_slots()).any(|x| dangles(host, plan, at, x))
 }

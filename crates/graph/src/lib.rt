@@ -12,209 +12,198 @@ use meaning::{Layout, Table};
 use slots::held;
 use slots::held::Place;
 
-// Nodes.
-
-// How many node slots there are.
-pub fn node_slots(l: Layout, nodes: &[u8]) -> usize
-    requires { Sized l }
-    ensures { result ≡ length (read_nodes l nodes.now) }
-{
-    nodes.len() / l.node
+// A host in lent tables that keep their layout.
+#[derive(Clone, Copy)]
+pub struct Graph<'a> {
+    pub layout: Layout,
+    pub nodes: &'a [u8],
+    pub edges: &'a [u8],
+    pub ghost legal: { Legal layout nodes.now edges.now },
 }
 
-// The bytes of a node slot.
-fn node_bytes<'a>(l: Layout, nodes: &'a [u8], edges: &[u8], x: usize) -> &'a [u8]
-    requires legal { Legal l nodes.now edges.now }
-    requires x_in_bounds { x < length (host_of l nodes.now edges.now).nodes }
-    ensures said { NodeBytes l result.now (get_or (host_of l nodes.now edges.now).nodes x free) }
-    ensures len { length result.now ≡ node_length l }
-{
-    slots::slot(nodes, l.node, x)
-}
+impl<'a> Graph<'a> {
+    ghost use Rattle.graph.specs.Hosts.{host_in};
 
-pub fn node_live(l: Layout, nodes: &[u8], edges: &[u8], x: usize) -> bool
-    requires legal { Legal l nodes.now edges.now }
-    requires x_in_bounds { x < length (host_of l nodes.now edges.now).nodes }
-    ensures { result ≡ live_at (host_of l nodes.now edges.now).nodes x }
-{
-    held::is_live(node_bytes(l, nodes, edges, x))
-}
+    // Nodes.
 
-pub fn node_mark(l: Layout, nodes: &[u8], edges: &[u8], x: usize) -> u8
-    requires legal { Legal l nodes.now edges.now }
-    requires x_in_bounds { x < length (host_of l nodes.now edges.now).nodes }
-    ensures { result ≡ (node_at (host_of l nodes.now edges.now) x).mark }
-{
-    held::mark(node_bytes(l, nodes, edges, x))
-}
-
-pub fn node_root(l: Layout, nodes: &[u8], edges: &[u8], x: usize) -> u8
-    requires legal { Legal l nodes.now edges.now }
-    requires x_in_bounds { x < length (host_of l nodes.now edges.now).nodes }
-    ensures { result ≡ (node_at (host_of l nodes.now edges.now) x).root }
-{
-    held::root(node_bytes(l, nodes, edges, x))
-}
-
-// Its label, where it lies.
-pub fn node_label<'a>(l: Layout, nodes: &'a [u8], edges: &[u8], x: usize) -> &'a [u8]
-    requires legal { Legal l nodes.now edges.now }
-    requires x_in_bounds { x < length (host_of l nodes.now edges.now).nodes }
-    ensures { (laid result.now ≡ (node_at (host_of l nodes.now edges.now) x).label) × (length (laid result.now) ≤ most_atoms) }
-{
-    held::label(node_bytes(l, nodes, edges, x), Place::NODE_ATOMS)
-}
-
-// Edges.
-
-// How many edge slots there are.
-pub fn edge_slots(l: Layout, edges: &[u8]) -> usize
-    requires { Sized l }
-    ensures { result ≡ length (read_edges l edges.now) }
-{
-    edges.len() / l.edge
-}
-
-// The bytes of an edge slot.
-fn edge_bytes<'a>(l: Layout, nodes: &[u8], edges: &'a [u8], x: usize) -> &'a [u8]
-    requires legal { Legal l nodes.now edges.now }
-    requires x_in_bounds { x < length (host_of l nodes.now edges.now).edges }
-    ensures said { EdgeBytes l result.now (get_or (host_of l nodes.now edges.now).edges x free) }
-    ensures len { length result.now ≡ edge_length l }
-{
-    slots::slot(edges, l.edge, x)
-}
-
-pub fn edge_live(l: Layout, nodes: &[u8], edges: &[u8], x: usize) -> bool
-    requires legal { Legal l nodes.now edges.now }
-    requires x_in_bounds { x < length (host_of l nodes.now edges.now).edges }
-    ensures { result ≡ live_at (host_of l nodes.now edges.now).edges x }
-{
-    held::is_live(edge_bytes(l, nodes, edges, x))
-}
-
-pub fn edge_mark(l: Layout, nodes: &[u8], edges: &[u8], x: usize) -> u8
-    requires legal { Legal l nodes.now edges.now }
-    requires x_in_bounds { x < length (host_of l nodes.now edges.now).edges }
-    ensures { result ≡ (edge_at (host_of l nodes.now edges.now) x).mark }
-{
-    held::mark(edge_bytes(l, nodes, edges, x))
-}
-
-pub fn edge_source(l: Layout, nodes: &[u8], edges: &[u8], x: usize) -> usize
-    requires legal { Legal l nodes.now edges.now }
-    requires x_in_bounds { x < length (host_of l nodes.now edges.now).edges }
-    ensures { result ≡ (edge_at (host_of l nodes.now edges.now) x).source }
-{
-    held::source(l, edge_bytes(l, nodes, edges, x))
-}
-
-pub fn edge_target(l: Layout, nodes: &[u8], edges: &[u8], x: usize) -> usize
-    requires legal { Legal l nodes.now edges.now }
-    requires x_in_bounds { x < length (host_of l nodes.now edges.now).edges }
-    ensures { result ≡ (edge_at (host_of l nodes.now edges.now) x).target }
-{
-    held::target(l, edge_bytes(l, nodes, edges, x))
-}
-
-// Its label, where it lies.
-pub fn edge_label<'a>(l: Layout, nodes: &[u8], edges: &'a [u8], x: usize) -> &'a [u8]
-    requires legal { Legal l nodes.now edges.now }
-    requires x_in_bounds { x < length (host_of l nodes.now edges.now).edges }
-    ensures { (laid result.now ≡ (edge_at (host_of l nodes.now edges.now) x).label) × (length (laid result.now) ≤ most_atoms) }
-{
-    held::label(edge_bytes(l, nodes, edges, x), held::edge_atoms(l))
-}
-
-// Of either table.
-
-// How many slots a table has.
-pub fn slots_in(l: Layout, nodes: &[u8], edges: &[u8], table: Table) -> usize
-    requires { Legal l nodes.now edges.now }
-    ensures { result ≡ slots_in l nodes.now edges.now table }
-{
-    match table {
-        Table::Nodes => node_slots(l, nodes),
-        Table::Edges => edge_slots(l, edges),
+    // How many node slots there are.
+    pub fn node_slots(&self) -> usize
+        ensures { result ≡ length (host_in self.now).nodes }
+    {
+        self.nodes.len() / self.layout.node
     }
-}
 
-// What an edge does.
+    // The bytes of a node slot.
+    fn node_bytes(&self, x: usize) -> &'a [u8]
+        requires { x < length (host_in self.now).nodes }
+        ensures said { NodeBytes self.now.layout result.now (get_or (host_in self.now).nodes x free) }
+        ensures len { length result.now ≡ node_length self.now.layout }
+    {
+        slots::slot(self.nodes, self.layout.node, x)
+    }
 
-// Whether edge x is live and runs from slot s to slot t.
-pub fn edge_runs(l: Layout, nodes: &[u8], edges: &[u8], s: usize, t: usize, x: usize) -> bool
-    requires legal { Legal l nodes.now edges.now }
-    requires x_in_bounds { x < length (host_of l nodes.now edges.now).edges }
-    ensures { result ≡ edge_runs (host_of l nodes.now edges.now) s t x }
-{
-    edge_live(l, nodes, edges, x)
-        && edge_source(l, nodes, edges, x) == s
-        && edge_target(l, nodes, edges, x) == t
-}
+    pub fn node_live(&self, x: usize) -> bool
+        requires { x < length (host_in self.now).nodes }
+        ensures { result ≡ live_at (host_in self.now).nodes x }
+    {
+        held::is_live(self.node_bytes(x))
+    }
 
-// Whether edge x is live and leaves slot s.
-fn edge_leaves(l: Layout, nodes: &[u8], edges: &[u8], s: usize, x: usize) -> bool
-    requires legal { Legal l nodes.now edges.now }
-    requires x_in_bounds { x < length (host_of l nodes.now edges.now).edges }
-    ensures { result ≡ edge_leaves (host_of l nodes.now edges.now) s x }
-{
-    edge_live(l, nodes, edges, x) && edge_source(l, nodes, edges, x) == s
-}
+    pub fn node_mark(&self, x: usize) -> u8
+        requires { x < length (host_in self.now).nodes }
+        ensures { result ≡ (node_at (host_in self.now) x).mark }
+    {
+        held::mark(self.node_bytes(x))
+    }
 
-// Whether edge x is live and arrives at slot t.
-fn edge_arrives(l: Layout, nodes: &[u8], edges: &[u8], t: usize, x: usize) -> bool
-    requires legal { Legal l nodes.now edges.now }
-    requires x_in_bounds { x < length (host_of l nodes.now edges.now).edges }
-    ensures { result ≡ edge_arrives (host_of l nodes.now edges.now) t x }
-{
-    edge_live(l, nodes, edges, x) && edge_target(l, nodes, edges, x) == t
-}
+    pub fn node_root(&self, x: usize) -> u8
+        requires { x < length (host_in self.now).nodes }
+        ensures { result ≡ (node_at (host_in self.now) x).root }
+    {
+        held::root(self.node_bytes(x))
+    }
 
-// Whether edge x is live and touches slot c: it leaves it or arrives at it.
-fn edge_touches(l: Layout, nodes: &[u8], edges: &[u8], c: usize, x: usize) -> bool
-    requires legal { Legal l nodes.now edges.now }
-    requires x_in_bounds { x < length (host_of l nodes.now edges.now).edges }
-    ensures { result ≡ edge_touches (host_of l nodes.now edges.now) c x }
-{
-    edge_leaves(l, nodes, edges, c, x) || edge_arrives(l, nodes, edges, c, x)
-}
+    // Its label, where it lies.
+    pub fn node_label(&self, x: usize) -> &'a [u8]
+        requires { x < length (host_in self.now).nodes }
+        ensures { (laid result.now ≡ (node_at (host_in self.now) x).label) × (length (laid result.now) ≤ most_atoms) }
+    {
+        held::label(self.node_bytes(x), Place::NODE_ATOMS)
+    }
 
-// What the edges do.
+    // Edges.
 
-// Whether some edge runs from slot s to slot t.
-pub fn any_runs(l: Layout, nodes: &[u8], edges: &[u8], s: usize, t: usize) -> bool
-    requires { Legal l nodes.now edges.now }
-    ensures { result ≡ exists (edge_runs (host_of l nodes.now edges.now) s t) (length (host_of l nodes.now edges.now).edges) }
-{
-    (0..edge_slots(l, edges)).any(|x| edge_runs(l, nodes, edges, s, t, x))
-}
+    // How many edge slots there are.
+    pub fn edge_slots(&self) -> usize
+        ensures { result ≡ length (host_in self.now).edges }
+    {
+        self.edges.len() / self.layout.edge
+    }
 
-// How many edges leave slot s.
-pub fn out_degree(l: Layout, nodes: &[u8], edges: &[u8], s: usize) -> usize
-    requires { Legal l nodes.now edges.now }
-    ensures { result ≡ out_degree (host_of l nodes.now edges.now) s }
-{
-    (0..edge_slots(l, edges))
-        .filter(|x| edge_leaves(l, nodes, edges, s, *x))
-        .count()
-}
+    // The bytes of an edge slot.
+    fn edge_bytes(&self, x: usize) -> &'a [u8]
+        requires { x < length (host_in self.now).edges }
+        ensures said { EdgeBytes self.now.layout result.now (get_or (host_in self.now).edges x free) }
+        ensures len { length result.now ≡ edge_length self.now.layout }
+    {
+        slots::slot(self.edges, self.layout.edge, x)
+    }
 
-// How many edges arrive at slot t.
-pub fn in_degree(l: Layout, nodes: &[u8], edges: &[u8], t: usize) -> usize
-    requires { Legal l nodes.now edges.now }
-    ensures { result ≡ in_degree (host_of l nodes.now edges.now) t }
-{
-    (0..edge_slots(l, edges))
-        .filter(|x| edge_arrives(l, nodes, edges, t, *x))
-        .count()
-}
+    pub fn edge_live(&self, x: usize) -> bool
+        requires { x < length (host_in self.now).edges }
+        ensures { result ≡ live_at (host_in self.now).edges x }
+    {
+        held::is_live(self.edge_bytes(x))
+    }
 
-// How many edges touch slot c, a loop counted once.
-pub fn degree(l: Layout, nodes: &[u8], edges: &[u8], c: usize) -> usize
-    requires { Legal l nodes.now edges.now }
-    ensures { result ≡ count (edge_touches (host_of l nodes.now edges.now) c) (length (host_of l nodes.now edges.now).edges) }
-{
-    (0..edge_slots(l, edges))
-        .filter(|x| edge_touches(l, nodes, edges, c, *x))
-        .count()
+    pub fn edge_mark(&self, x: usize) -> u8
+        requires { x < length (host_in self.now).edges }
+        ensures { result ≡ (edge_at (host_in self.now) x).mark }
+    {
+        held::mark(self.edge_bytes(x))
+    }
+
+    pub fn edge_source(&self, x: usize) -> usize
+        requires { x < length (host_in self.now).edges }
+        ensures { result ≡ (edge_at (host_in self.now) x).source }
+    {
+        held::source(self.layout, self.edge_bytes(x))
+    }
+
+    pub fn edge_target(&self, x: usize) -> usize
+        requires { x < length (host_in self.now).edges }
+        ensures { result ≡ (edge_at (host_in self.now) x).target }
+    {
+        held::target(self.layout, self.edge_bytes(x))
+    }
+
+    // Its label, where it lies.
+    pub fn edge_label(&self, x: usize) -> &'a [u8]
+        requires { x < length (host_in self.now).edges }
+        ensures { (laid result.now ≡ (edge_at (host_in self.now) x).label) × (length (laid result.now) ≤ most_atoms) }
+    {
+        held::label(self.edge_bytes(x), held::edge_atoms(self.layout))
+    }
+
+    // Of either table.
+
+    // How many slots a table has.
+    pub fn slots_in(&self, table: Table) -> usize
+        ensures { result ≡ slots_in self.now.layout self.now.nodes.now self.now.edges.now table }
+    {
+        match table {
+            Table::Nodes => self.node_slots(),
+            Table::Edges => self.edge_slots(),
+        }
+    }
+
+    // What an edge does.
+
+    // Whether edge x is live and runs from slot s to slot t.
+    pub fn edge_runs(&self, s: usize, t: usize, x: usize) -> bool
+        requires { x < length (host_in self.now).edges }
+        ensures { result ≡ edge_runs (host_in self.now) s t x }
+    {
+        self.edge_live(x) && self.edge_source(x) == s && self.edge_target(x) == t
+    }
+
+    // Whether edge x is live and leaves slot s.
+    fn edge_leaves(&self, s: usize, x: usize) -> bool
+        requires { x < length (host_in self.now).edges }
+        ensures { result ≡ edge_leaves (host_in self.now) s x }
+    {
+        self.edge_live(x) && self.edge_source(x) == s
+    }
+
+    // Whether edge x is live and arrives at slot t.
+    fn edge_arrives(&self, t: usize, x: usize) -> bool
+        requires { x < length (host_in self.now).edges }
+        ensures { result ≡ edge_arrives (host_in self.now) t x }
+    {
+        self.edge_live(x) && self.edge_target(x) == t
+    }
+
+    // Whether edge x is live and touches slot c: it leaves it or arrives at it.
+    fn edge_touches(&self, c: usize, x: usize) -> bool
+        requires { x < length (host_in self.now).edges }
+        ensures { result ≡ edge_touches (host_in self.now) c x }
+    {
+        self.edge_leaves(c, x) || self.edge_arrives(c, x)
+    }
+
+    // What the edges do.
+
+    // Whether some edge runs from slot s to slot t.
+    pub fn any_runs(&self, s: usize, t: usize) -> bool
+        ensures { result ≡ exists (edge_runs (host_in self.now) s t) (length (host_in self.now).edges) }
+    {
+        (0..self.edge_slots()).any(|x| self.edge_runs(s, t, x))
+    }
+
+    // How many edges leave slot s.
+    pub fn out_degree(&self, s: usize) -> usize
+        ensures { result ≡ out_degree (host_in self.now) s }
+    {
+        (0..self.edge_slots())
+            .filter(|x| self.edge_leaves(s, *x))
+            .count()
+    }
+
+    // How many edges arrive at slot t.
+    pub fn in_degree(&self, t: usize) -> usize
+        ensures { result ≡ in_degree (host_in self.now) t }
+    {
+        (0..self.edge_slots())
+            .filter(|x| self.edge_arrives(t, *x))
+            .count()
+    }
+
+    // How many edges touch slot c, a loop counted once.
+    pub fn degree(&self, c: usize) -> usize
+        ensures { result ≡ count (edge_touches (host_in self.now) c) (length (host_in self.now).edges) }
+    {
+        (0..self.edge_slots())
+            .filter(|x| self.edge_touches(c, *x))
+            .count()
+    }
 }

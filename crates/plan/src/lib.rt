@@ -98,56 +98,63 @@ impl Side {
     }
 }
 
-// Reading a plan.
-
-// The label of left item j.
-pub fn pattern<'a>(rule: &'a [u8], plan: &[usize; At::LENGTH], j: usize) -> &'a [u8]
-    requires { HasItem rule.now plan.now j }
-    ensures { For rule.now plan.now (λ r. label result.now ≡ some (get_or (labels r.left) j [])) }
-{
-    let head = if j < plan[At::NODES] { 2 } else { 3 };
-    &rule[plan[At::START + j] + head..plan[At::END + j]]
+// A rule of an image, and its plan.
+#[derive(Clone, Copy)]
+pub struct PlannedRule<'r, 'p> {
+    pub bytes: &'r [u8],
+    pub plan: &'p [usize; At::LENGTH],
 }
 
-// The mark of left item j.
-pub fn mark(rule: &[u8], plan: &[usize; At::LENGTH], j: usize) -> u8
-    requires { HasItem rule.now plan.now j }
-    ensures { For rule.now plan.now (λ r. Marked r j result) }
-{
-    rule[plan[At::START + j]]
-}
+impl<'r> PlannedRule<'r, '_> {
+    // The label of left item j.
+    pub fn pattern(&self, j: usize) -> &'r [u8]
+        requires { HasItem self.now.bytes.now self.now.plan.now j }
+        ensures { For self.now.bytes.now self.now.plan.now (λ r. label result.now ≡ some (get_or (labels r.left) j [])) }
+    {
+        let head = if j < self.plan[At::NODES] { 2 } else { 3 };
+        &self.bytes[self.plan[At::START + j] + head..self.plan[At::END + j]]
+    }
 
-// The root flag of left node i.
-pub fn root(rule: &[u8], plan: &[usize; At::LENGTH], i: usize) -> u8
-    requires { HasNode rule.now plan.now i }
-    ensures { For rule.now plan.now (λ r. result ≡ (left_node r i).root) }
-{
-    rule[plan[At::START + i] + 1]
-}
+    // The mark of left item j.
+    pub fn mark(&self, j: usize) -> u8
+        requires { HasItem self.now.bytes.now self.now.plan.now j }
+        ensures { For self.now.bytes.now self.now.plan.now (λ r. Marked r j result) }
+    {
+        self.bytes[self.plan[At::START + j]]
+    }
 
-// The left node at an end of left edge k.
-pub fn end_of(rule: &[u8], plan: &[usize; At::LENGTH], k: usize, side: Side) -> usize
-    requires { HasEdge rule.now plan.now k }
-    ensures { For rule.now plan.now (λ r. result ≡ edge_end side (left_edge r k)) }
-{
-    let start = plan[At::START + (plan[At::NODES] + k)];
-    usize::from(rule[start + side.place()])
-}
+    // The root flag of left node i.
+    pub fn root(&self, i: usize) -> u8
+        requires { HasNode self.now.bytes.now self.now.plan.now i }
+        ensures { For self.now.bytes.now self.now.plan.now (λ r. result ≡ (left_node r i).root) }
+    {
+        self.bytes[self.plan[At::START + i] + 1]
+    }
 
-// The types of the variables.
-pub fn types<'a>(rule: &'a [u8], plan: &[usize; At::LENGTH]) -> &'a [u8]
-    requires { IsLaid rule.now plan.now }
-    ensures { For rule.now plan.now (λ r. result.now ≡ r.variables) }
-{
-    &rule[plan[At::TYPES_START]..plan[At::TYPES_END]]
-}
+    // The left node at an end of left edge k.
+    pub fn end_of(&self, k: usize, side: Side) -> usize
+        requires { HasEdge self.now.bytes.now self.now.plan.now k }
+        ensures { For self.now.bytes.now self.now.plan.now (λ r. result ≡ edge_end side (left_edge r k)) }
+    {
+        let start = self.plan[At::START + (self.plan[At::NODES] + k)];
+        usize::from(self.bytes[start + side.place()])
+    }
 
-// The tests.
-pub fn tests<'a>(rule: &'a [u8], plan: &[usize; At::LENGTH]) -> &'a [u8]
-    requires { IsLaid rule.now plan.now }
-    ensures { For rule.now plan.now (λ r. only passes_all test limits.tests result.now ≡ some r.tests) }
-{
-    &rule[plan[At::TESTS_START]..plan[At::TESTS_END]]
+    // The types of the variables.
+    pub fn types(&self) -> &'r [u8]
+        requires { IsLaid self.now.bytes.now self.now.plan.now }
+        ensures { For self.now.bytes.now self.now.plan.now (λ r. result.now ≡ r.variables) }
+    {
+        &self.bytes[self.plan[At::TYPES_START]..self.plan[At::TYPES_END]]
+    }
+
+    // The tests.
+    pub fn tests(&self) -> &'r [u8]
+        requires { IsLaid self.now.bytes.now self.now.plan.now }
+        ensures { For self.now.bytes.now self.now.plan.now (λ r. only passes_all test limits.tests result.now ≡ some r.tests) }
+    {
+        &self.bytes[self.plan[At::TESTS_START]..self.plan[At::TESTS_END]]
+    }
 }
 
 // The counts of the label of item j.

@@ -12,7 +12,7 @@ ghost use Rattle.planning.specs.Planning.{LiesAt, ModeAt, PartsOf, Named, HasGra
 use fields::{Field, Fields};
 use meaning::tags::Tag;
 use meaning::{Condition, Element, Operand, Room};
-use plan::{At, Sorted};
+use plan::{At, PlannedRule, Sorted};
 
 // Whether an element is variable v.
 fn is_variable(e: Element, v: usize) -> bool
@@ -60,13 +60,13 @@ pub struct First {
     pub behind: Behind,
 }
 
-fn first_with(rule: &[u8], plan: &[usize; At::LENGTH], v: usize) -> Option<First>
-    requires { IsLaid rule.now plan.now }
-    ensures { For rule.now plan.now (λ r. FirstFound r v result) }
+fn first_with(rule: &PlannedRule, v: usize) -> Option<First>
+    requires { IsLaid rule.now.bytes.now rule.now.plan.now }
+    ensures { For rule.now.bytes.now rule.now.plan.now (λ r. FirstFound r v result) }
 {
-    let kinds = plan::types(rule, plan);
-    for item in 0..plan[At::NODES] + plan[At::EDGES] {
-        if let Some(behind) = occurrence(kinds, plan::pattern(rule, plan, item), v) {
+    let kinds = rule.types();
+    for item in 0..rule.plan[At::NODES] + rule.plan[At::EDGES] {
+        if let Some(behind) = occurrence(kinds, rule.pattern(item), v) {
             return Some(First { item, behind });
         }
     }
@@ -137,7 +137,7 @@ fn plan_variables(rule: &[u8], plan: &mut [usize; At::LENGTH])
         },
     };
     for v in 0..plan[At::TYPES_END] - plan[At::TYPES_START] {
-        let first = first_with(rule, plan, v).unwrap_or(none);
+        let first = first_with(&PlannedRule { bytes: rule, plan }, v).unwrap_or(none);
         plan[At::FIRST + v] = first.item;
         plan[At::SINGLES + v] = first.behind.singles;
         plan[At::BEFORE + v] = first.behind.lists;
@@ -175,8 +175,9 @@ fn plan_label(rule: &[u8], plan: &mut [usize; At::LENGTH], j: usize)
     requires j_bound { j < get_or plan.old nodes_at 0 + get_or plan.old edges_at 0 }
     ensures { (r : Rule) → Named rule.now r plan.old (length r.variables) → Labelled r plan.new j × OnlyLabel plan.old plan.new j }
 {
-    let kinds = plan::types(rule, plan);
-    let p = plan::pattern(rule, plan, j);
+    let planned = PlannedRule { bytes: rule, plan };
+    let kinds = planned.types();
+    let p = planned.pattern(j);
     let c = parts::elements::shape(kinds, p);
     plan[At::ELEMENTS + j] = c.elements;
     plan[At::LISTS + j] = c.lists;
@@ -208,7 +209,7 @@ fn plan_tests(rule: &[u8], plan: &mut [usize; At::LENGTH])
     requires { IsLabelled rule.now plan.old }
     ensures { (r : Rule) → AllLabelled rule.now r plan.old → Planned rule.now r plan.new }
 {
-    let tests = plan::tests(rule, plan);
+    let tests = PlannedRule { bytes: rule, plan }.tests();
     let mut t = 0;
     for field in Fields::of(tests) {
         let Ok(Field { tag, start, end }) = field else {

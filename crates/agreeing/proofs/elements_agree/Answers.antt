@@ -24,8 +24,7 @@ pub element_agrees-requires : goal.element_agrees-requires
 element_agrees-requires c =
     let s = gives-field c.loop-field.invariant.0 c.in-Some.ensures.steps c.in-Ok.is in
     record {
-      legal = c.requires.legal;
-      has_element = comparing_element (c.loop-field.invariant.2 c.requires.has_elements) s.inside s.lies refl;
+      has_element = comparing_element (c.loop-field.invariant.2 c.requires) s.inside s.lies refl;
       from_in_bounds = c.loop-field.invariant.1;
     }
 
@@ -33,7 +32,7 @@ pub loop-field-preserved : goal.loop-field-preserved
 loop-field-preserved c =
     let s = gives-field c.loop-field.invariant.0 c.in-Some.ensures.steps c.in-Ok.is in (
       s.same,
-      (c.in-Some-element_agrees.ensures (comparing_element (c.loop-field.invariant.2 c.requires.has_elements) s.inside s.lies refl)).1,
+      (c.in-Some-element_agrees.ensures (comparing_element (c.loop-field.invariant.2 c.requires) s.inside s.lies refl)).1,
       λ w.
           let t = c.loop-field.invariant.2 w in
           rw s.place (comparing_next t s.inside s.lies refl (c.in-Some-element_agrees.ensures (comparing_element t s.inside s.lies refl))),

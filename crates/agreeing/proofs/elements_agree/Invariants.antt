@@ -8,4 +8,4 @@ use Rattle.agreeing.proofs.Agreeing.{Comparing}
 use Rattle.agreeing.proofs.elements_agree.Given as goal
 
 abbrev pub invariant-loop-field : goal.invariant-loop-field
-invariant-loop-field l = (l.field-iterator.bytes.now ≡ l.p) × (l.from ≤ length (laid l.a)) × ((w : HasElements (host_of l.l l.nodes l.edges) l.rule l.plan l.at l.i l.c l.p) → Comparing w (laid l.a) l.field-iterator.place l.from)
+invariant-loop-field l = (l.field-iterator.bytes.now ≡ l.p) × (l.from ≤ length (laid l.a)) × ((w : HasElements (host_of l.host.layout l.host.nodes.now l.host.edges.now) l.rule.bytes.now l.rule.plan.now l.trial.at.now l.trial.item l.trial.slot l.p) → Comparing w (laid l.a) l.field-iterator.place l.from)

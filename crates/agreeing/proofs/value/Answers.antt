@@ -6,17 +6,14 @@ use Rattle.agreeing.proofs.Values.{on-left, first-inside, part-value}
 use Rattle.agreeing.proofs.value.Goals as goal
 
 pub slot_of-requires : goal.slot_of-requires
-slot_of-requires c = (c.requires.has_value.trial.room, item-low (on-left c.requires.has_value))
+slot_of-requires c = (c.requires.trial.room, item-low (on-left c.requires))
 
 pub item_label-a-requires : goal.item_label-a-requires
-item_label-a-requires c = record {
-  legal = c.requires.legal;
-  plan_nonzero = (omega (arith, c.requires.has_value.trial.planned.laid.items.size), first-inside c.requires.has_value _ c.slot_of.ensures);
-}
+item_label-a-requires c = ((omega (arith, c.requires.trial.planned.laid.items.size), first-inside c.requires _ c.slot_of.ensures))
 
 pub part_of-t-requires : goal.part_of-t-requires
 part_of-t-requires c = record {
-  on_left = on-left c.requires.has_value;
+  on_left = on-left c.requires;
   len_le_most_atoms = omega (arith, c.count.ensures, c.item_label-a.ensures.1);
 }
 

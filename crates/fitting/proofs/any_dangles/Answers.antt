@@ -8,5 +8,5 @@ use Rattle.fitting.proofs.any_dangles.Goals as goal
 
 pub returns : goal.returns
 returns c =
-    λ r q. let h = host_of c.args.l c.args.nodes.now c.args.edges.now in
+    λ r q. let h = host_of c.args.host.now.layout c.args.host.now.nodes.now c.args.host.now.edges.now in
     any-is (dangles h r (take (total r) c.args.at.now)) (length h.edges) _ _ _ c.edge_slots.ensures (λ x b f k. search (rules, tests)) c.any.ensures.ran

@@ -8,19 +8,19 @@ use Rattle.fitting.proofs.edge_likely.Goals as goal
 use Rattle.fitting.proofs.edge_likely.Goals.{Start, then-joins, else-joins}
 
 abbrev Rule : (s : Start) → Type 0
-Rule s = Known s.args.rule.now s.args.plan.now
+Rule s = Known s.args.rule.now.bytes.now s.args.rule.now.plan.now
 
-high : (s : Start) (w : Rule s) → left_nodes w.rule ≤ s.args.i
+high : (s : Start) (w : Rule s) → left_nodes w.rule ≤ s.args.trial.now.item
 high s w = omega (arith, w.planned.laid.items.nodes, s.requires.nodes_at_bound.0)
 
-there : (s : Start) (w : Rule s) → s.args.i < total w.rule
+there : (s : Start) (w : Rule s) → s.args.trial.now.item < total w.rule
 there s w = let q = w.planned.laid.items in omega (arith, q.nodes, q.edges, s.requires.nodes_at_bound.1)
 
-placed : (s : Start) → length (take s.args.i s.args.at.now) ≡ s.args.i
-placed s = let w = s.requires.known in before-length w s.args.at.now s.args.i s.requires.at_len.0 (there s w)
+placed : (s : Start) → length (take s.args.trial.now.item s.args.trial.now.at.now) ≡ s.args.trial.now.item
+placed s = let w = s.requires.known in before-length w s.args.trial.now.at.now s.args.trial.now.item s.requires.at_len.0 (there s w)
 
-pub label_likely-requires-clause-candidate : goal.label_likely-requires-clause-candidate
-label_likely-requires-clause-candidate c =
+pub label_likely-requires : goal.label_likely-requires
+label_likely-requires c =
     let k = c.requires.nodes_at_bound in
     edge_candidate c.requires.known _ _ k.0 k.1 k.2
 

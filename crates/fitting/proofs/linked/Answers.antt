@@ -10,9 +10,9 @@ use Rattle.fitting.proofs.linked.Goals as goal
 
 pub all-requires-clause-callable : goal.all-requires-clause-callable
 all-requires-clause-callable c =
-    serves_from_Range (λ x q k. search (rules, tests)) (λ x low high. let h = tried_edge c.requires.tried high in search (rules, h))
+    serves_from_Range (λ x q k. search (rules, tests)) (λ x low high. let h = tried_edge c.requires high in search (rules, h))
 
 pub returns : goal.returns
 returns c =
-    λ w. let h = host_of c.args.l c.args.nodes.now c.args.edges.now in
-    all-is (linked h w.trial.rule w.trial.placed c.args.i) (left_edges w.trial.rule) _ _ _ w.trial.planned.laid.items.edges (λ x b f k. search (rules, tests)) c.all.ensures.ran
+    λ w. let h = host_of c.args.host.now.layout c.args.host.now.nodes.now c.args.host.now.edges.now in
+    all-is (linked h w.trial.rule w.trial.placed c.args.trial.now.item) (left_edges w.trial.rule) _ _ _ w.trial.planned.laid.items.edges (λ x b f k. search (rules, tests)) c.all.ensures.ran

@@ -10,8 +10,8 @@ use Rattle.fitting.proofs.next_like.Goals as goal
 pub returns : goal.returns
 returns c =
     λ w.
-    let h = host_of c.args.l c.args.nodes.now c.args.edges.now in
-    let sort = get_or c.args.plan.now (sort_at + c.args.i) 0 in
+    let h = host_of c.args.host.now.layout c.args.host.now.nodes.now c.args.host.now.edges.now in
+    let sort = get_or c.args.rule.now.plan.now (sort_at + c.args.i) 0 in
     next_is h w.rule sort c.args.i c.args.c c.args.n _ _
     (first_from_Range _ _ _ _ (λ y. NodeLike h w.rule sort c.args.i y true) (λ y. NodeLike h w.rule sort c.args.i y false) c.find.ensures.ran
     (λ x q k. search (rules, tests))

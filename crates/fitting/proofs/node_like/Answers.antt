@@ -4,8 +4,8 @@ use Rattle.fitting.proofs.Candidates.{left-node, node_candidate, marks-are, root
 use Rattle.fitting.proofs.node_like.Goals as goal
 use Rattle.fitting.proofs.node_like.Goals.{then-node_live, else-node_live, then-marks_agree, else-marks_agree}
 
-pub label_likely-requires-clause-candidate : goal.label_likely-requires-clause-candidate
-label_likely-requires-clause-candidate c = node_candidate c.requires.known _ _ c.requires.i_bound.0 c.requires.i_bound.1
+pub label_likely-requires : goal.label_likely-requires
+label_likely-requires c = node_candidate c.requires.known _ _ c.requires.i_bound.0 c.requires.i_bound.1
 
 pub returns-then-roots_agree : goal.returns-then-roots_agree
 returns-then-roots_agree c =

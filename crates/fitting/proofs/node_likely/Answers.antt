@@ -9,24 +9,24 @@ use Rattle.fitting.proofs.node_likely.Goals as goal
 use Rattle.fitting.proofs.node_likely.Goals.{Start, then-absent, else-absent}
 
 abbrev host : (s : Start) → Host
-host s = host_of s.args.l s.args.nodes.now s.args.edges.now
+host s = host_of s.args.host.now.layout s.args.host.now.nodes.now s.args.host.now.edges.now
 
 abbrev Rule : (s : Start) → Type 0
-Rule s = Known s.args.rule.now s.args.plan.now
+Rule s = Known s.args.rule.now.bytes.now s.args.rule.now.plan.now
 
-low : (s : Start) (w : Rule s) → s.args.i < left_nodes w.rule
+low : (s : Start) (w : Rule s) → s.args.trial.now.item < left_nodes w.rule
 low s w = left-node w s.requires.i_bound.0
 
-placed : (s : Start) → length (take s.args.i s.args.at.now) ≡ s.args.i
-placed s = let w = s.requires.known in before-length w s.args.at.now s.args.i s.requires.at_len.0 (omega (arith, low s w))
+placed : (s : Start) → length (take s.args.trial.now.item s.args.trial.now.at.now) ≡ s.args.trial.now.item
+placed s = let w = s.requires.known in before-length w s.args.trial.now.at.now s.args.trial.now.item s.requires.at_len.0 (omega (arith, low s w))
 
-abbrev tried : (s : Start) → Rule s → Tried (host s) s.args.rule.now s.args.plan.now s.args.at.now s.args.i s.args.c
+abbrev tried : (s : Start) → Rule s → Tried (host s) s.args.rule.now.bytes.now s.args.rule.now.plan.now s.args.trial.now.at.now s.args.trial.now.item s.args.trial.now.slot
 tried s w =
     let k = s.requires.i_bound in
     tried_item _ _ _ _ w s.requires.at_len.0 _ _ s.requires.at_len.1 (node_candidate w _ _ k.0 k.1)
 
-pub linked-requires-clause-tried : goal.linked-requires-clause-tried
-linked-requires-clause-tried c = tried (goal.at.linked-requires-clause-tried c).Start c.requires.known
+pub linked-requires : goal.linked-requires
+linked-requires c = tried (goal.at.linked-requires c).Start c.requires.known
 
 pub returns-then-linked : goal.returns-then-linked
 returns-then-linked c =

@@ -6,4 +6,4 @@ use Rattle.plan.specs.Plan.{For}
 use Rattle.planning.proofs.first_with.Given as goal
 
 abbrev pub invariant-loop-item : goal.invariant-loop-item
-invariant-loop-item l = For l.rule l.plan (λ r. (i : ℕ) → i < l.item → has l.v (get_or (labels r.left) i []) ≡ false)
+invariant-loop-item l = For l.rule.bytes.now l.rule.plan.now (λ r. (i : ℕ) → i < l.item → has l.v (get_or (labels r.left) i []) ≡ false)
