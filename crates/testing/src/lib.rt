@@ -6,73 +6,41 @@ ghost use Rattle.std.specs.Prelude.{◌≡◌, true, ◌+◌, length, get_or, ta
 ghost use Rattle.meaning.specs.Image.{most_items};
 ghost use Rattle.meaning.specs.Tags.{relation_tag};
 ghost use Rattle.meaning.specs.Basics.{every};
-ghost use Rattle.meaning.specs.Layout.{host_of};
 ghost use Rattle.meaning.specs.Matching.{atom_of, condition_holds, test_holds};
 ghost use Rattle.meaning.specs.FirstMatch.{tests_so_far, fits};
 ghost use Rattle.meaning.specs.Assigned.{assigned};
-ghost use Rattle.graph.specs.Graph.{Legal};
+ghost use Rattle.graph.specs.Hosts.{host_in};
 ghost use Rattle.plan.specs.Plan.{test_of, nodes_at, sort_at};
-ghost use Rattle.agreeing.specs.Placed.{Known, Inside, Tried, Full};
-ghost use Rattle.agreeing.specs.Candidates.{Candidate, Likely};
-ghost use Rattle.testing.specs.Testing.{HasOperand, HasCondition, HasTest};
+ghost use Rattle.agreeing.specs.Placed.{Inside, Full};
+ghost use Rattle.agreeing.specs.Candidates.{Likely};
+ghost use Rattle.agreeing.specs.Lent.{KnownIn, CandidateIn, TriedIn};
+ghost use Rattle.testing.specs.Lent.{OperandIn, ConditionIn, TestIn};
 
-use agreeing::slot_of;
+use agreeing::Trial;
 use fields::Field;
+use graph::Graph;
+use meaning::Room;
 use meaning::tags::{Relation, Tag};
-use meaning::{Layout, Room};
-use plan::{At, Sorted};
+use plan::{At, PlannedRule, Sorted};
 
 // One test, from its bytes.
 
 // An operand's atom, from its tag and payload.
-fn atom(
-    l: Layout,
-    nodes: &[u8],
-    edges: &[u8],
-    rule: &[u8],
-    plan: &[usize; At::LENGTH],
-    at: &[usize; Room::ITEMS],
-    i: usize,
-    c: usize,
-    tag: u8,
-    p: &[u8],
-) -> u32
-    requires legal { Legal l nodes.now edges.now }
-    requires has_operand { HasOperand (host_of l nodes.now edges.now) rule.now plan.now at.now i c tag p.now }
-    ensures { (w : HasOperand (host_of l nodes.now edges.now) rule.now plan.now at.now i c tag p.now) → result ≡ atom_of (assigned (host_of l nodes.now edges.now) w.trial.rule w.trial.placed) w.o }
+fn atom(host: &Graph, rule: &PlannedRule, trial: &Trial, tag: u8, p: &[u8]) -> u32
+    requires { OperandIn host.now rule.now trial.now tag p.now }
+    ensures { (w : OperandIn host.now rule.now trial.now tag p.now) → result ≡ atom_of (assigned (host_in host.now) w.trial.rule w.trial.placed) w.o }
 {
     if tag == Tag::CONSTANT {
         parts::word_of(p)
     } else {
-        agreeing::variable_atom(
-            l,
-            nodes,
-            edges,
-            rule,
-            plan,
-            at,
-            i,
-            c,
-            parts::number_at(p, 0),
-        )
+        agreeing::variable_atom(host, rule, trial, parts::number_at(p, 0))
     }
 }
 
 // Whether two operands are equal, or the first is less, from the payload of a relation behind the test's flag.
-fn relation_holds(
-    l: Layout,
-    nodes: &[u8],
-    edges: &[u8],
-    rule: &[u8],
-    plan: &[usize; At::LENGTH],
-    at: &[usize; Room::ITEMS],
-    i: usize,
-    c: usize,
-    p: &[u8],
-) -> bool
-    requires legal { Legal l nodes.now edges.now }
-    requires has_condition { HasCondition (host_of l nodes.now edges.now) rule.now plan.now at.now i c relation_tag p.now }
-    ensures { (w : HasCondition (host_of l nodes.now edges.now) rule.now plan.now at.now i c relation_tag p.now) → result ≡ condition_holds (host_of l nodes.now edges.now) w.trial.placed (assigned (host_of l nodes.now edges.now) w.trial.rule w.trial.placed) w.k }
+fn relation_holds(host: &Graph, rule: &PlannedRule, trial: &Trial, p: &[u8]) -> bool
+    requires { ConditionIn host.now rule.now trial.now relation_tag p.now }
+    ensures { (w : ConditionIn host.now rule.now trial.now relation_tag p.now) → result ≡ condition_holds (host_in host.now) w.trial.placed (assigned (host_in host.now) w.trial.rule w.trial.placed) w.k }
 {
     let Some(Ok(left)) = fields::read_field(p, 1) else {
         return false;
@@ -80,30 +48,8 @@ fn relation_holds(
     let Some(Ok(right)) = fields::read_field(p, left.end) else {
         return false;
     };
-    let a = atom(
-        l,
-        nodes,
-        edges,
-        rule,
-        plan,
-        at,
-        i,
-        c,
-        left.tag,
-        &p[left.start..left.end],
-    );
-    let b = atom(
-        l,
-        nodes,
-        edges,
-        rule,
-        plan,
-        at,
-        i,
-        c,
-        right.tag,
-        &p[right.start..right.end],
-    );
+    let a = atom(host, rule, trial, left.tag, &p[left.start..left.end]);
+    let b = atom(host, rule, trial, right.tag, &p[right.start..right.end]);
     if parts::byte_at(p, 0) == Relation::EQUAL {
         a == b
     } else {
@@ -112,144 +58,81 @@ fn relation_holds(
 }
 
 // Whether a condition holds, from its tag and the bytes behind the test's flag.
-fn condition_holds(
-    l: Layout,
-    nodes: &[u8],
-    edges: &[u8],
-    rule: &[u8],
-    plan: &[usize; At::LENGTH],
-    at: &[usize; Room::ITEMS],
-    i: usize,
-    c: usize,
-    tag: u8,
-    p: &[u8],
-) -> bool
-    requires legal { Legal l nodes.now edges.now }
-    requires has_condition { HasCondition (host_of l nodes.now edges.now) rule.now plan.now at.now i c tag p.now }
-    ensures { (w : HasCondition (host_of l nodes.now edges.now) rule.now plan.now at.now i c tag p.now) → result ≡ condition_holds (host_of l nodes.now edges.now) w.trial.placed (assigned (host_of l nodes.now edges.now) w.trial.rule w.trial.placed) w.k }
+fn condition_holds(host: &Graph, rule: &PlannedRule, trial: &Trial, tag: u8, p: &[u8]) -> bool
+    requires { ConditionIn host.now rule.now trial.now tag p.now }
+    ensures { (w : ConditionIn host.now rule.now trial.now tag p.now) → result ≡ condition_holds (host_in host.now) w.trial.placed (assigned (host_in host.now) w.trial.rule w.trial.placed) w.k }
 {
     if tag == Tag::RELATION {
-        return relation_holds(l, nodes, edges, rule, plan, at, i, c, p);
+        return relation_holds(host, rule, trial, p);
     }
-    let s = slot_of(at, i, c, parts::number_at(p, 0));
+    let s = trial.slot_of(parts::number_at(p, 0));
     match tag {
-        Tag::EDGE_TEST => graph::any_runs(
-            l,
-            nodes,
-            edges,
-            s,
-            slot_of(at, i, c, parts::number_at(p, 1)),
-        ),
-        Tag::IN_DEGREE => graph::in_degree(l, nodes, edges, s) == parts::degree_of(p),
-        _ => graph::out_degree(l, nodes, edges, s) == parts::degree_of(p),
+        Tag::EDGE_TEST => host.any_runs(s, trial.slot_of(parts::number_at(p, 1))),
+        Tag::IN_DEGREE => host.in_degree(s) == parts::degree_of(p),
+        _ => host.out_degree(s) == parts::degree_of(p),
     }
 }
 
 // Whether test number t holds.
-fn test_holds(
-    l: Layout,
-    nodes: &[u8],
-    edges: &[u8],
-    rule: &[u8],
-    plan: &[usize; At::LENGTH],
-    at: &[usize; Room::ITEMS],
-    i: usize,
-    c: usize,
-    t: usize,
-) -> bool
-    requires legal { Legal l nodes.now edges.now }
-    requires has_test { HasTest (host_of l nodes.now edges.now) rule.now plan.now at.now i c t }
-    ensures { (w : HasTest (host_of l nodes.now edges.now) rule.now plan.now at.now i c t) → result ≡ test_holds (host_of l nodes.now edges.now) w.trial.placed (assigned (host_of l nodes.now edges.now) w.trial.rule w.trial.placed) (test_of w.trial.rule t) }
+fn test_holds(host: &Graph, rule: &PlannedRule, trial: &Trial, t: usize) -> bool
+    requires { TestIn host.now rule.now trial.now t }
+    ensures { (w : TestIn host.now rule.now trial.now t) → result ≡ test_holds (host_in host.now) w.trial.placed (assigned (host_in host.now) w.trial.rule w.trial.placed) (test_of w.trial.rule t) }
 {
-    let tests = plan::tests(rule, plan);
+    let tests = rule.tests();
     let Some(Ok(Field { tag, start, end })) = fields::nth_field(tests, t) else {
         return false;
     };
     let p = &tests[start..end];
-    let holds = condition_holds(
-        l,
-        nodes,
-        edges,
-        rule,
-        plan,
-        at,
-        i,
-        c,
-        tag,
-        parts::behind(p, 1),
-    );
+    let holds = condition_holds(host, rule, trial, tag, parts::behind(p, 1));
     if parts::flag(p) { !holds } else { holds }
 }
 
 // The tests of a placement.
 
-// Whether the tests that item i decides hold.
-fn tests_so_far(
-    l: Layout,
-    nodes: &[u8],
-    edges: &[u8],
-    rule: &[u8],
-    plan: &[usize; At::LENGTH],
-    at: &[usize; Room::ITEMS],
-    i: usize,
-    c: usize,
-) -> bool
-    requires legal { Legal l nodes.now edges.now }
-    requires tried { Tried (host_of l nodes.now edges.now) rule.now plan.now at.now i c }
-    ensures { (w : Tried (host_of l nodes.now edges.now) rule.now plan.now at.now i c) → result ≡ tests_so_far (host_of l nodes.now edges.now) w.trial.rule w.trial.placed }
+// Whether the tests that the item tried decides hold.
+fn tests_so_far(host: &Graph, rule: &PlannedRule, trial: &Trial) -> bool
+    requires { TriedIn host.now rule.now trial.now }
+    ensures { (w : TriedIn host.now rule.now trial.now) → result ≡ tests_so_far (host_in host.now) w.trial.rule w.trial.placed }
 {
-    for t in 0..plan[At::TESTS] {
-        if plan[At::DECIDED + t] == i + 1 && !test_holds(l, nodes, edges, rule, plan, at, i, c, t) {
+    for t in 0..rule.plan[At::TESTS] {
+        if rule.plan[At::DECIDED + t] == trial.item + 1 && !test_holds(host, rule, trial, t) {
             return false;
         }
     }
     true
 }
 
-pub fn all_tests(
-    l: Layout,
-    nodes: &[u8],
-    edges: &[u8],
-    rule: &[u8],
-    plan: &[usize; At::LENGTH],
-    at: &[usize; Room::ITEMS],
-) -> bool
-    requires legal { Legal l nodes.now edges.now }
-    requires full { Full (host_of l nodes.now edges.now) rule.now plan.now at.now most_items 0 }
-    ensures { (w : Full (host_of l nodes.now edges.now) rule.now plan.now at.now most_items 0) → result ≡ every (test_holds (host_of l nodes.now edges.now) w.trial.placed (assigned (host_of l nodes.now edges.now) w.trial.rule w.trial.placed)) w.trial.rule.tests }
+pub fn all_tests(host: &Graph, rule: &PlannedRule, at: &[usize; Room::ITEMS]) -> bool
+    requires { Full (host_in host.now) rule.now.bytes.now rule.now.plan.now at.now most_items 0 }
+    ensures { (w : Full (host_in host.now) rule.now.bytes.now rule.now.plan.now at.now most_items 0) → result ≡ every (test_holds (host_in host.now) w.trial.placed (assigned (host_in host.now) w.trial.rule w.trial.placed)) w.trial.rule.tests }
 {
-    for t in 0..plan[At::TESTS] {
-        if !test_holds(l, nodes, edges, rule, plan, at, Room::ITEMS, 0, t) {
+    let trial = Trial {
+        at,
+        item: Room::ITEMS,
+        slot: 0,
+    };
+    for t in 0..rule.plan[At::TESTS] {
+        if !test_holds(host, rule, &trial, t) {
             return false;
         }
     }
     true
 }
 
-// Whether slot c, which is likely for item i, fits it.
-pub fn rest_fits(
-    l: Layout,
-    nodes: &[u8],
-    edges: &[u8],
-    rule: &[u8],
-    plan: &[usize; At::LENGTH],
-    at: &[usize; Room::ITEMS],
-    i: usize,
-    c: usize,
-) -> bool
-    requires legal { Legal l nodes.now edges.now }
-    requires known { Known rule.now plan.now }
-    requires at_len { (length at.now ≡ most_items) × Inside (host_of l nodes.now edges.now) (get_or plan.now nodes_at 0) at.now i }
-    requires candidate { Candidate (host_of l nodes.now edges.now) rule.now plan.now i c }
-    requires likely { (w : Known rule.now plan.now) → Likely (host_of l nodes.now edges.now) w.rule (get_or plan.now (sort_at + i) 0) (take i at.now) i c true }
-    ensures { (w : Known rule.now plan.now) → result ≡ fits (host_of l nodes.now edges.now) w.rule (take i at.now) c }
+// Whether the slot tried, which is likely for the item, fits it.
+pub fn rest_fits(host: &Graph, rule: &PlannedRule, trial: &Trial) -> bool
+    requires known { KnownIn rule.now }
+    requires at_len { (length trial.now.at.now ≡ most_items) × Inside (host_in host.now) (get_or rule.now.plan.now nodes_at 0) trial.now.at.now trial.now.item }
+    requires candidate { CandidateIn host.now rule.now trial.now.item trial.now.slot }
+    requires likely { (w : KnownIn rule.now) → Likely (host_in host.now) w.rule (get_or rule.now.plan.now (sort_at + trial.now.item) 0) (take trial.now.item trial.now.at.now) trial.now.item trial.now.slot true }
+    ensures { (w : KnownIn rule.now) → result ≡ fits (host_in host.now) w.rule (take trial.now.item trial.now.at.now) trial.now.slot }
 {
-    let sort = plan[At::SORT + i];
+    let sort = rule.plan[At::SORT + trial.item];
     if sort != Sorted::LENGTH
         && sort != Sorted::CONSTANT
-        && !agreeing::compared(l, nodes, edges, rule, plan, at, i, c)
+        && !agreeing::compared(host, rule, trial)
     {
         return false;
     }
-    tests_so_far(l, nodes, edges, rule, plan, at, i, c)
+    tests_so_far(host, rule, trial)
 }

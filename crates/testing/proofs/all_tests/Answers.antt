@@ -10,11 +10,8 @@ loop-t-init c = λ w. refl
 
 pub test_holds-requires : goal.test_holds-requires
 test_holds-requires c =
-    let w = c.requires.full in
-    record {
-      legal = c.requires.legal;
-      has_test = whole-test w _ (omega (arith, w.trial.planned.tests, c.loop-t-test.true));
-    }
+    let w = c.requires in
+    (whole-test w _ (omega (arith, w.trial.planned.tests, c.loop-t-test.true)))
 
 pub returns-then-not-test_holds : goal.returns-then-not-test_holds
 returns-then-not-test_holds c =

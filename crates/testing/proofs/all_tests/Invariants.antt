@@ -9,4 +9,4 @@ use Rattle.agreeing.specs.Placed.{Full}
 use Rattle.testing.proofs.all_tests.Given as goal
 
 abbrev pub invariant-loop-t : goal.invariant-loop-t
-invariant-loop-t l = (w : Full (host_of l.l l.nodes l.edges) l.rule l.plan l.at most_items 0) → every (test_holds (host_of l.l l.nodes l.edges) w.trial.placed (assigned (host_of l.l l.nodes l.edges) w.trial.rule w.trial.placed)) (take l.t w.trial.rule.tests) ≡ true
+invariant-loop-t l = (w : Full (host_of l.host.layout l.host.nodes.now l.host.edges.now) l.rule.bytes.now l.rule.plan.now l.at most_items 0) → every (test_holds (host_of l.host.layout l.host.nodes.now l.host.edges.now) w.trial.placed (assigned (host_of l.host.layout l.host.nodes.now l.host.edges.now) w.trial.rule w.trial.placed)) (take l.t w.trial.rule.tests) ≡ true

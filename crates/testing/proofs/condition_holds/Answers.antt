@@ -7,22 +7,19 @@ use Rattle.testing.proofs.condition_holds.Goals as goal
 
 pub relation_holds-requires : goal.relation_holds-requires
 relation_holds-requires c =
-    record {
-      legal = c.requires.legal;
-      has_condition = as_relation c.if-tag-eq-RELATION.true c.requires.has_condition;
-    }
+    (as_relation c.if-tag-eq-RELATION.true c.requires)
 
 pub returns-then-tag-eq-RELATION : goal.returns-then-tag-eq-RELATION
 returns-then-tag-eq-RELATION c = λ w. c.relation_holds.ensures (as_relation c.if-tag-eq-RELATION.true w)
 
 pub slot_of-s-requires : goal.slot_of-s-requires
 slot_of-s-requires c =
-    let w = c.requires.has_condition in
+    let w = c.requires in
     room w.trial (first-node w _ c.number_at.ensures.0 c.if-tag-eq-RELATION.false)
 
 pub slot_of-requires : goal.slot_of-requires
 slot_of-requires c =
-    let w = c.requires.has_condition in
+    let w = c.requires in
     room w.trial (second-node w _ c.number_at.ensures.0 _ c.number_at-in-64.ensures.0 c.in-64.is)
 
 pub returns-in-64 : goal.returns-in-64

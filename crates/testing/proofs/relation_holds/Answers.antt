@@ -12,10 +12,10 @@ use Rattle.testing.proofs.relation_holds.Goals as goal
 use Rattle.testing.proofs.relation_holds.Goals.{In-Some-Ok-read_field, After-byte_at}
 
 abbrev host : (s : After-byte_at) → Host
-host s = host_of s.args.l s.args.nodes.now s.args.edges.now
+host s = host_of s.args.host.now.layout s.args.host.now.nodes.now s.args.host.now.edges.now
 
 abbrev Has : (s : After-byte_at) → Type 0
-Has s = HasCondition (host s) s.args.rule.now s.args.plan.now s.args.at.now s.args.i s.args.c relation_tag s.args.p.now
+Has s = HasCondition (host s) s.args.rule.now.bytes.now s.args.rule.now.plan.now s.args.trial.now.at.now s.args.trial.now.item s.args.trial.now.slot relation_tag s.args.p.now
 
 abbrev α : (s : After-byte_at) → Has s → Assignment
 α s w = assigned (host s) w.trial.rule w.trial.placed
@@ -65,10 +65,7 @@ slice_bounds-atom-end c = (left-part (goal.at.slice_bounds-atom-end c).In-Some-O
 
 pub atom-a-requires : goal.atom-a-requires
 atom-a-requires c =
-    record {
-      legal = c.requires.legal;
-      has_operand = left-operand c.requires.has_condition c.read_field.ensures (left-there (goal.at.atom-a-requires c).In-Some-Ok-read_field) refl;
-    }
+    (left-operand c.requires c.read_field.ensures (left-there (goal.at.atom-a-requires c).In-Some-Ok-read_field) refl)
 
 pub slice_bounds-atom-count-2 : goal.slice_bounds-atom-count-2
 slice_bounds-atom-count-2 c = (right-part (goal.at.slice_bounds-atom-count-2 c).In-Some-Ok-read_field).0
@@ -82,10 +79,7 @@ slice_bounds-atom-end-2 c = (right-part (goal.at.slice_bounds-atom-end-2 c).In-S
 pub atom-b-requires : goal.atom-b-requires
 atom-b-requires c =
     let here = (goal.at.atom-b-requires c).In-Some-Ok-read_field in
-    record {
-      legal = c.requires.legal;
-      has_operand = right_operand c.requires.has_condition c.read_field.ensures (left-there here) c.read_field-2.ensures (right-there here) refl;
-    }
+    (right_operand c.requires c.read_field.ensures (left-there here) c.read_field-2.ensures (right-there here) refl)
 
 pub returns-then-byte_at-eq-EQUAL : goal.returns-then-byte_at-eq-EQUAL
 returns-then-byte_at-eq-EQUAL c = λ w. let a = atoms (goal.at.returns-then-byte_at-eq-EQUAL c).After-byte_at w in equal-holds (two w) _ _ _ _ _ a.0 a.1 c.byte_at.ensures c.if-byte_at-eq-EQUAL.true

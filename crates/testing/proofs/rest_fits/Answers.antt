@@ -12,36 +12,33 @@ use Rattle.testing.proofs.rest_fits.Goals as goal
 use Rattle.testing.proofs.rest_fits.Goals.{Start, else-sort-ne-LENGTH-via-then-sort-ne-LENGTH+then-sort-ne-CONSTANT+else-not-compared, else-sort-ne-LENGTH-via-then-sort-ne-LENGTH+else-sort-ne-CONSTANT, else-sort-ne-LENGTH-via-else-sort-ne-LENGTH}
 
 abbrev host : (s : Start) → Host
-host s = host_of s.args.l s.args.nodes.now s.args.edges.now
+host s = host_of s.args.host.now.layout s.args.host.now.nodes.now s.args.host.now.edges.now
 
 abbrev Rule : (s : Start) → Type 0
-Rule s = Known s.args.rule.now s.args.plan.now
+Rule s = Known s.args.rule.now.bytes.now s.args.rule.now.plan.now
 
-placed : (s : Start) → length (take s.args.i s.args.at.now) ≡ s.args.i
-placed s = let w = s.requires.known in before-length w s.args.at.now s.args.i s.requires.at_len.0 (item-there w s.requires.candidate)
+placed : (s : Start) → length (take s.args.trial.now.item s.args.trial.now.at.now) ≡ s.args.trial.now.item
+placed s = let w = s.requires.known in before-length w s.args.trial.now.at.now s.args.trial.now.item s.requires.at_len.0 (item-there w s.requires.candidate)
 
-abbrev tried : (s : Start) → Rule s → Tried (host s) s.args.rule.now s.args.plan.now s.args.at.now s.args.i s.args.c
+abbrev tried : (s : Start) → Rule s → Tried (host s) s.args.rule.now.bytes.now s.args.rule.now.plan.now s.args.trial.now.at.now s.args.trial.now.item s.args.trial.now.slot
 tried s w = tried_item _ _ _ _ w s.requires.at_len.0 _ _ s.requires.at_len.1 s.requires.candidate
 
 abbrev Agrees : (s : Start) → Rule s → Type 0
 Agrees s w =
-    label_agrees w.rule (assigned (host s) w.rule (take s.args.i s.args.at.now ++ s.args.c ∷ [])) (label_of w.rule s.args.i) (label_at (host s) (left_nodes w.rule) s.args.i s.args.c)
+    label_agrees w.rule (assigned (host s) w.rule (take s.args.trial.now.item s.args.trial.now.at.now ++ s.args.trial.now.slot ∷ [])) (label_of w.rule s.args.trial.now.item) (label_at (host s) (left_nodes w.rule) s.args.trial.now.item s.args.trial.now.slot)
     ≡ true
 
-by_length : (s : Start) (w : Rule s) → get_or s.args.plan.now (sort_at + s.args.i) 0 ≡ 1 → Agrees s w
+by_length : (s : Start) (w : Rule s) → get_or s.args.rule.now.plan.now (sort_at + s.args.trial.now.item) 0 ≡ 1 → Agrees s w
 by_length s w e =
     let k = item-there w s.requires.candidate in
-    alone-agrees (host s) w.rule (take s.args.i s.args.at.now) s.args.i s.args.c (placed s) k w.planned.laid.holds (((s.requires.likely w).label refl).length refl) ((w.planned.labelled _ k).alone e)
+    alone-agrees (host s) w.rule (take s.args.trial.now.item s.args.trial.now.at.now) s.args.trial.now.item s.args.trial.now.slot (placed s) k w.planned.laid.holds (((s.requires.likely w).label refl).length refl) ((w.planned.labelled _ k).alone e)
 
-by-atom : (s : Start) (w : Rule s) → get_or s.args.plan.now (sort_at + s.args.i) 0 ≡ 2 → Agrees s w
+by-atom : (s : Start) (w : Rule s) → get_or s.args.rule.now.plan.now (sort_at + s.args.trial.now.item) 0 ≡ 2 → Agrees s w
 by-atom s w e = ((s.requires.likely w).label refl).constant refl e _
 
 pub compared-requires : goal.compared-requires
 compared-requires c =
-    record {
-      legal = c.requires.legal;
-      tried = tried (goal.at.compared-requires c).Start c.requires.known;
-    }
+    (tried (goal.at.compared-requires c).Start c.requires.known)
 
 pub returns-then-not-compared : goal.returns-then-not-compared
 returns-then-not-compared c =
@@ -49,10 +46,7 @@ returns-then-not-compared c =
 
 pub tests_so_far-requires : goal.tests_so_far-requires
 tests_so_far-requires c =
-    record {
-      legal = c.requires.legal;
-      tried = tried (goal.at.tests_so_far-requires c).Start c.requires.known;
-    }
+    (tried (goal.at.tests_so_far-requires c).Start c.requires.known)
 
 pub returns : goal.returns
 returns c =

@@ -14,10 +14,10 @@ use Rattle.testing.proofs.test_holds.Goals as goal
 use Rattle.testing.proofs.test_holds.Goals.{In-Some-Ok, After-flag}
 
 abbrev host : (s : After-flag) → Host
-host s = host_of s.args.l s.args.nodes.now s.args.edges.now
+host s = host_of s.args.host.now.layout s.args.host.now.nodes.now s.args.host.now.edges.now
 
 abbrev Has : (s : After-flag) → Type 0
-Has s = HasTest (host s) s.args.rule.now s.args.plan.now s.args.at.now s.args.i s.args.c s.args.t
+Has s = HasTest (host s) s.args.rule.now.bytes.now s.args.rule.now.plan.now s.args.trial.now.at.now s.args.trial.now.item s.args.trial.now.slot s.args.t
 
 abbrev α : (s : After-flag) → Has s → Assignment
 α s w = assigned (host s) w.trial.rule w.trial.placed
@@ -49,11 +49,8 @@ slice_bounds-p-end c = (nth_in _ _ c.nth_field.ensures (there (goal.at.slice_bou
 
 pub condition_holds-holds-requires : goal.condition_holds-holds-requires
 condition_holds-holds-requires c =
-    let w = c.requires.has_test in
-    record {
-      legal = c.requires.legal;
-      has_condition = of_test w (test-there w _ (c.tests-tests.ensures w.trial.rule w.trial.planned.laid) c.nth_field.ensures (there (goal.at.condition_holds-holds-requires c).In-Some-Ok) refl) c.behind.ensures;
-    }
+    let w = c.requires in
+    (of_test w (test-there w _ (c.tests-tests.ensures w.trial.rule w.trial.planned.laid) c.nth_field.ensures (there (goal.at.condition_holds-holds-requires c).In-Some-Ok) refl) c.behind.ensures)
 
 pub returns-then-flag : goal.returns-then-flag
 returns-then-flag c = λ w. sym (choose_true _ _ _ c.if-flag.true) ∙ chosen (goal.at.returns-then-flag c).After-flag w

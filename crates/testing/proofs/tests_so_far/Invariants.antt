@@ -7,4 +7,4 @@ use Rattle.testing.proofs.Decisions.{so_far}
 use Rattle.testing.proofs.tests_so_far.Given as goal
 
 abbrev pub invariant-loop-t : goal.invariant-loop-t
-invariant-loop-t l = (w : Tried (host_of l.l l.nodes l.edges) l.rule l.plan l.at l.i l.c) → every (so_far w) (take l.t w.trial.rule.tests) ≡ true
+invariant-loop-t l = (w : Tried (host_of l.host.layout l.host.nodes.now l.host.edges.now) l.rule.bytes.now l.rule.plan.now l.trial.at.now l.trial.item l.trial.slot) → every (so_far w) (take l.t w.trial.rule.tests) ≡ true
