@@ -3,17 +3,19 @@
 
 ghost use Rattle.std.specs.Prelude.{◌≡◌, false, ℕ, ◌+◌, ◌<◌, ◌≤◌, length, get_or, take};
 ghost use Rattle.meaning.specs.FirstMatch.{node_fits, complete as is_complete};
-ghost use Rattle.graph.specs.Graph.{Legal};
-ghost use Rattle.meaning.specs.Layout.{host_of};
+ghost use Rattle.graph.specs.Hosts.{host_in};
 ghost use Rattle.slots.specs.Laid.{laid};
 ghost use Rattle.plan.specs.Plan.{IsRule, edges_at, nodes_at, plan_length, sort_at};
-ghost use Rattle.matching.specs.Next.{Handed, Ready, Of, end_of, Meets, NextSlot, NextLikely, IsStep};
+ghost use Rattle.matching.specs.Next.{end_of, Meets, NextSlot, NextLikely, IsStep};
 ghost use Rattle.meaning.specs.Matching.{total};
 ghost use Rattle.values.specs.Values.{Stored, values_room};
-ghost use Rattle.matching.specs.Values.{Copied, HasValues, Sought, IsFirst};
+ghost use Rattle.matching.specs.Values.{Copied, HasValues};
+ghost use Rattle.matching.specs.Lent.{HandedIn, ReadyIn, OfRule, SoughtIn, IsFirstIn};
 
-use meaning::{Layout, Room};
-use plan::{At, Side};
+use agreeing::Trial;
+use graph::Graph;
+use meaning::Room;
+use plan::{At, PlannedRule, Side};
 use slots::laid;
 
 // What to do at a level: stop at a full match, take a slot, or go back.
@@ -27,130 +29,89 @@ pub enum Step {
 // Candidates for a left node, from the edges that link it to an earlier one.
 
 // The node slot that edge x leaves, or else the one that it arrives at.
-fn edge_end(l: Layout, nodes: &[u8], edges: &[u8], leaving: bool, x: usize) -> usize
-    requires legal { Legal l nodes.now edges.now }
-    requires x_in_bounds { x < length (host_of l nodes.now edges.now).edges }
-    ensures { result ≡ end_of (host_of l nodes.now edges.now) leaving x }
+fn edge_end(host: &Graph, leaving: bool, x: usize) -> usize
+    requires { x < length (host_in host.now).edges }
+    ensures { result ≡ end_of (host_in host.now) leaving x }
 {
     if leaving {
-        graph::edge_source(l, nodes, edges, x)
+        host.edge_source(x)
     } else {
-        graph::edge_target(l, nodes, edges, x)
+        host.edge_target(x)
     }
 }
 
 // The other end of edge x, if that is lower than `best` and at c or above, and the edge is live, has one end at slot p and its
 // mark agrees; else `best`.
-fn nearer(
-    l: Layout,
-    nodes: &[u8],
-    edges: &[u8],
-    mark: u8,
-    p: usize,
-    leaving: bool,
-    x: usize,
-    c: usize,
-    best: usize,
-) -> usize
-    requires legal { Legal l nodes.now edges.now }
-    requires x_in_bounds { x < length (host_of l nodes.now edges.now).edges }
+fn nearer(host: &Graph, mark: u8, p: usize, leaving: bool, x: usize, c: usize, best: usize) -> usize
+    requires x_in_bounds { x < length (host_in host.now).edges }
     requires c_le_best { c ≤ best }
-    ensures { (c ≤ result) × (result ≤ best) × ((y : ℕ) → c ≤ y → y < result → Meets (host_of l nodes.now edges.now) mark p leaving x y → ⊥) }
+    ensures { (c ≤ result) × (result ≤ best) × ((y : ℕ) → c ≤ y → y < result → Meets (host_in host.now) mark p leaving x y → ⊥) }
 {
-    let meets = graph::edge_live(l, nodes, edges, x)
-        && edge_end(l, nodes, edges, leaving, x) == p
-        && fitting::marks_agree(mark, graph::edge_mark(l, nodes, edges, x));
+    let meets = host.edge_live(x)
+        && edge_end(host, leaving, x) == p
+        && fitting::marks_agree(mark, host.edge_mark(x));
     if !meets {
         return best;
     }
-    let e = edge_end(l, nodes, edges, !leaving, x);
+    let e = edge_end(host, !leaving, x);
     if c <= e && e < best { e } else { best }
 }
 
 // The lowest slot from c to n that an edge whose mark agrees joins to slot p; n if there is none.
-fn next_end(
-    l: Layout,
-    nodes: &[u8],
-    edges: &[u8],
-    mark: u8,
-    p: usize,
-    leaving: bool,
-    c: usize,
-    n: usize,
-) -> usize
-    requires legal { Legal l nodes.now edges.now }
-    requires c_le_n { c ≤ n }
-    ensures { (c ≤ result) × ((y x : ℕ) → c ≤ y → y < result → x < length (host_of l nodes.now edges.now).edges → Meets (host_of l nodes.now edges.now) mark p leaving x y → ⊥) }
+fn next_end(host: &Graph, mark: u8, p: usize, leaving: bool, c: usize, n: usize) -> usize
+    requires { c ≤ n }
+    ensures { (c ≤ result) × ((y x : ℕ) → c ≤ y → y < result → x < length (host_in host.now).edges → Meets (host_in host.now) mark p leaving x y → ⊥) }
 {
     let mut best = n;
-    for x in 0..graph::edge_slots(l, edges) {
-        best = nearer(l, nodes, edges, mark, p, leaving, x, c, best);
+    for x in 0..host.edge_slots() {
+        best = nearer(host, mark, p, leaving, x, c, best);
     }
     best
 }
 
-// The lowest slot from c to n that is worth a test for left node i: the end of an edge to an earlier node's slot, if there is a
-// left edge between the two, and else c itself.
-fn next_candidate(
-    l: Layout,
-    nodes: &[u8],
-    edges: &[u8],
-    rule: &[u8],
-    plan: &[usize; At::LENGTH],
-    at: &[usize; Room::ITEMS],
-    i: usize,
-    c: usize,
-    n: usize,
-) -> usize
-    requires ready { Ready l nodes.now edges.now rule.now plan.now at.now i }
-    requires i_bound { (i < get_or plan.now nodes_at 0) × (c ≤ n) }
-    ensures { (c ≤ result) × Of rule.now plan.now (λ r. (x : ℕ) → c ≤ x → x < result → node_fits (host_of l nodes.now edges.now) r (take i at.now) i x ≡ false) }
+// The lowest slot from the one tried to n that is worth a test for the left node: the end of an edge to an earlier node's slot, if there is a
+// left edge between the two, and else the slot tried itself.
+fn next_candidate(host: &Graph, rule: &PlannedRule, trial: &Trial, n: usize) -> usize
+    requires ready { ReadyIn host.now rule.now trial.now.at.now trial.now.item }
+    requires i_bound { (trial.now.item < get_or rule.now.plan.now nodes_at 0) × (trial.now.slot ≤ n) }
+    ensures { (trial.now.slot ≤ result) × OfRule rule.now (λ r. (x : ℕ) → trial.now.slot ≤ x → x < result → node_fits (host_in host.now) r (take trial.now.item trial.now.at.now) trial.now.item x ≡ false) }
 {
-    for k in 0..plan[At::EDGES] {
-        let s = plan::end_of(rule, plan, k, Side::Source);
-        let t = plan::end_of(rule, plan, k, Side::Target);
-        if t == i && s < i {
-            let mark = plan::mark(rule, plan, plan[At::NODES] + k);
-            return next_end(l, nodes, edges, mark, at[s], true, c, n);
+    for k in 0..rule.plan[At::EDGES] {
+        let s = rule.end_of(k, Side::Source);
+        let t = rule.end_of(k, Side::Target);
+        if t == trial.item && s < trial.item {
+            let mark = rule.mark(rule.plan[At::NODES] + k);
+            return next_end(host, mark, trial.at[s], true, trial.slot, n);
         }
-        if s == i && t < i {
-            let mark = plan::mark(rule, plan, plan[At::NODES] + k);
-            return next_end(l, nodes, edges, mark, at[t], false, c, n);
+        if s == trial.item && t < trial.item {
+            let mark = rule.mark(rule.plan[At::NODES] + k);
+            return next_end(host, mark, trial.at[t], false, trial.slot, n);
         }
     }
-    c
+    trial.slot
 }
 
 // The next slot.
 
-// The first slot at c or above that is likely for left node i.
-fn next_node(
-    l: Layout,
-    nodes: &[u8],
-    edges: &[u8],
-    rule: &[u8],
-    plan: &[usize; At::LENGTH],
-    at: &[usize; Room::ITEMS],
-    i: usize,
-    c: usize,
-) -> Option<usize>
-    requires ready { Ready l nodes.now edges.now rule.now plan.now at.now i }
-    requires i_bound { i < get_or plan.now nodes_at 0 }
-    ensures { Of rule.now plan.now (λ r. NextLikely (host_of l nodes.now edges.now) r (get_or plan.now (sort_at + i) 0) (take i at.now) i c result) }
+// The first slot, from the one tried on, that is likely for the left node.
+fn next_node(host: &Graph, rule: &PlannedRule, trial: &Trial) -> Option<usize>
+    requires ready { ReadyIn host.now rule.now trial.now.at.now trial.now.item }
+    requires i_bound { trial.now.item < get_or rule.now.plan.now nodes_at 0 }
+    ensures { OfRule rule.now (λ r. NextLikely (host_in host.now) r (get_or rule.now.plan.now (sort_at + trial.now.item) 0) (take trial.now.item trial.now.at.now) trial.now.item trial.now.slot result) }
 {
-    let n = graph::node_slots(l, nodes);
-    let mut x = c;
+    let n = host.node_slots();
+    let mut x = trial.slot;
     while x < n {
-        let y = next_candidate(l, nodes, edges, rule, plan, at, i, x, n);
+        let y = next_candidate(host, rule, &Trial { slot: x, ..*trial }, n);
         if y >= n {
             return None;
         }
-        let z = fitting::next_like(l, nodes, edges, rule, plan, i, y, n);
+        let z = fitting::next_like(host, rule, trial.item, y, n);
         if z >= n {
             return None;
         }
         if z == y {
-            if fitting::node_likely(l, nodes, edges, rule, plan, at, i, z) {
+            if fitting::node_likely(host, rule, &Trial { slot: z, ..*trial }) {
                 return Some(z);
             }
             x = z + 1;
@@ -161,71 +122,48 @@ fn next_node(
     None
 }
 
-// The first slot at c or above that is likely for the left edge that is item i.
-fn next_edge(
-    l: Layout,
-    nodes: &[u8],
-    edges: &[u8],
-    rule: &[u8],
-    plan: &[usize; At::LENGTH],
-    at: &[usize; Room::ITEMS],
-    i: usize,
-    c: usize,
-) -> Option<usize>
-    requires ready { Ready l nodes.now edges.now rule.now plan.now at.now i }
-    requires nodes_at_bound { (get_or plan.now nodes_at 0 ≤ i) × (i < get_or plan.now nodes_at 0 + get_or plan.now edges_at 0) }
-    ensures { Of rule.now plan.now (λ r. NextLikely (host_of l nodes.now edges.now) r (get_or plan.now (sort_at + i) 0) (take i at.now) i c result) }
+// The first slot, from the one tried on, that is likely for the left edge.
+fn next_edge(host: &Graph, rule: &PlannedRule, trial: &Trial) -> Option<usize>
+    requires ready { ReadyIn host.now rule.now trial.now.at.now trial.now.item }
+    requires nodes_at_bound { (get_or rule.now.plan.now nodes_at 0 ≤ trial.now.item) × (trial.now.item < get_or rule.now.plan.now nodes_at 0 + get_or rule.now.plan.now edges_at 0) }
+    ensures { OfRule rule.now (λ r. NextLikely (host_in host.now) r (get_or rule.now.plan.now (sort_at + trial.now.item) 0) (take trial.now.item trial.now.at.now) trial.now.item trial.now.slot result) }
 {
-    let k = i - plan[At::NODES];
-    let a = plan::end_of(rule, plan, k, Side::Source);
-    let b = plan::end_of(rule, plan, k, Side::Target);
-    let s = at[a];
-    let t = at[b];
-    (c..graph::edge_slots(l, edges)).find(|&x| fitting::edge_likely(
-        l, nodes, edges, rule, plan, at, i, s, t, x,
+    let k = trial.item - rule.plan[At::NODES];
+    let a = rule.end_of(k, Side::Source);
+    let b = rule.end_of(k, Side::Target);
+    let s = trial.at[a];
+    let t = trial.at[b];
+    (trial.slot..host.edge_slots()).find(|&x| fitting::edge_likely(
+        host,
+        rule,
+        &Trial { slot: x, ..*trial },
+        s,
+        t,
     ))
 }
 
-// The first slot at c or above that is likely for item i, behind at[..i].
-fn next_likely(
-    l: Layout,
-    nodes: &[u8],
-    edges: &[u8],
-    rule: &[u8],
-    plan: &[usize; At::LENGTH],
-    at: &[usize; Room::ITEMS],
-    i: usize,
-    c: usize,
-) -> Option<usize>
-    requires ready { Ready l nodes.now edges.now rule.now plan.now at.now i }
-    requires i_bound { i < get_or plan.now nodes_at 0 + get_or plan.now edges_at 0 }
-    ensures { Of rule.now plan.now (λ r. NextLikely (host_of l nodes.now edges.now) r (get_or plan.now (sort_at + i) 0) (take i at.now) i c result) }
+// The first slot, from the one tried on, that is likely for the item, behind those before it.
+fn next_likely(host: &Graph, rule: &PlannedRule, trial: &Trial) -> Option<usize>
+    requires ready { ReadyIn host.now rule.now trial.now.at.now trial.now.item }
+    requires i_bound { trial.now.item < get_or rule.now.plan.now nodes_at 0 + get_or rule.now.plan.now edges_at 0 }
+    ensures { OfRule rule.now (λ r. NextLikely (host_in host.now) r (get_or rule.now.plan.now (sort_at + trial.now.item) 0) (take trial.now.item trial.now.at.now) trial.now.item trial.now.slot result) }
 {
-    if i < plan[At::NODES] {
-        next_node(l, nodes, edges, rule, plan, at, i, c)
+    if trial.item < rule.plan[At::NODES] {
+        next_node(host, rule, trial)
     } else {
-        next_edge(l, nodes, edges, rule, plan, at, i, c)
+        next_edge(host, rule, trial)
     }
 }
 
 // The first that fits.
-fn next_slot(
-    l: Layout,
-    nodes: &[u8],
-    edges: &[u8],
-    rule: &[u8],
-    plan: &[usize; At::LENGTH],
-    at: &[usize; Room::ITEMS],
-    i: usize,
-    c: usize,
-) -> Option<usize>
-    requires ready { Ready l nodes.now edges.now rule.now plan.now at.now i }
-    requires i_bound { i < get_or plan.now nodes_at 0 + get_or plan.now edges_at 0 }
-    ensures { Of rule.now plan.now (λ r. NextSlot (host_of l nodes.now edges.now) r (take i at.now) c result) }
+fn next_slot(host: &Graph, rule: &PlannedRule, trial: &Trial) -> Option<usize>
+    requires ready { ReadyIn host.now rule.now trial.now.at.now trial.now.item }
+    requires i_bound { trial.now.item < get_or rule.now.plan.now nodes_at 0 + get_or rule.now.plan.now edges_at 0 }
+    ensures { OfRule rule.now (λ r. NextSlot (host_in host.now) r (take trial.now.item trial.now.at.now) trial.now.slot result) }
 {
-    let mut x = c;
-    while let Some(y) = next_likely(l, nodes, edges, rule, plan, at, i, x) {
-        if testing::rest_fits(l, nodes, edges, rule, plan, at, i, y) {
+    let mut x = trial.slot;
+    while let Some(y) = next_likely(host, rule, &Trial { slot: x, ..*trial }) {
+        if testing::rest_fits(host, rule, &Trial { slot: y, ..*trial }) {
             return Some(y);
         }
         x = y + 1;
@@ -236,45 +174,29 @@ fn next_slot(
 // The levels of the search.
 
 // Whether a full placement is a match: nothing is left dangling, and the tests hold.
-fn complete(
-    l: Layout,
-    nodes: &[u8],
-    edges: &[u8],
-    rule: &[u8],
-    plan: &[usize; At::LENGTH],
-    at: &[usize; Room::ITEMS],
-) -> bool
-    requires { Ready l nodes.now edges.now rule.now plan.now at.now (get_or plan.now nodes_at 0 + get_or plan.now edges_at 0) }
-    ensures { Of rule.now plan.now (λ r. result ≡ is_complete (host_of l nodes.now edges.now) r (take (total r) at.now)) }
+fn complete(host: &Graph, rule: &PlannedRule, at: &[usize; Room::ITEMS]) -> bool
+    requires { ReadyIn host.now rule.now at.now (get_or rule.now.plan.now nodes_at 0 + get_or rule.now.plan.now edges_at 0) }
+    ensures { OfRule rule.now (λ r. result ≡ is_complete (host_in host.now) r (take (total r) at.now)) }
 {
-    let dangling = plan[At::INTERFACE] < plan[At::NODES]
-        && fitting::any_dangles(l, nodes, edges, plan, at);
-    !dangling && testing::all_tests(l, nodes, edges, rule, plan, at)
+    let dangling = rule.plan[At::INTERFACE] < rule.plan[At::NODES]
+        && fitting::any_dangles(host, rule.plan, at);
+    !dangling && testing::all_tests(host, rule, at)
 }
 
-// What to do at level i, where the slots from c on are left to try.
-fn advance(
-    l: Layout,
-    nodes: &[u8],
-    edges: &[u8],
-    rule: &[u8],
-    plan: &[usize; At::LENGTH],
-    at: &[usize; Room::ITEMS],
-    i: usize,
-    c: usize,
-) -> Step
-    requires ready { Ready l nodes.now edges.now rule.now plan.now at.now i }
-    requires i_bound { i ≤ get_or plan.now nodes_at 0 + get_or plan.now edges_at 0 }
-    ensures { Of rule.now plan.now (λ r. IsStep (host_of l nodes.now edges.now) r (take i at.now) i c result) }
+// What to do at the level of an item, where the slots from the one tried on are left.
+fn advance(host: &Graph, rule: &PlannedRule, trial: &Trial) -> Step
+    requires ready { ReadyIn host.now rule.now trial.now.at.now trial.now.item }
+    requires i_bound { trial.now.item ≤ get_or rule.now.plan.now nodes_at 0 + get_or rule.now.plan.now edges_at 0 }
+    ensures { OfRule rule.now (λ r. IsStep (host_in host.now) r (take trial.now.item trial.now.at.now) trial.now.item trial.now.slot result) }
 {
-    if i == plan[At::NODES] + plan[At::EDGES] {
-        return if complete(l, nodes, edges, rule, plan, at) {
+    if trial.item == rule.plan[At::NODES] + rule.plan[At::EDGES] {
+        return if complete(host, rule, trial.at) {
             Step::Full
         } else {
             Step::Back
         };
     }
-    match next_slot(l, nodes, edges, rule, plan, at, i, c) {
+    match next_slot(host, rule, trial) {
         Some(x) => Step::Take(x),
         None => Step::Back,
     }
@@ -294,23 +216,25 @@ fn put_atoms(atoms: &mut [u32; Room::ATOMS], start: usize, a: &[u8])
 
 // Writes the values that a full placement gives the variables: variable v has lens[v] atoms, from atoms[labels::MOST * v] on.
 fn assign(
-    l: Layout,
-    nodes: &[u8],
-    edges: &[u8],
-    rule: &[u8],
-    plan: &[usize; At::LENGTH],
+    host: &Graph,
+    rule: &PlannedRule,
     at: &[usize; Room::ITEMS],
     lens: &mut [usize; Room::VARIABLES],
     atoms: &mut [u32; Room::ATOMS],
 )
-    requires ready { Ready l nodes.now edges.now rule.now plan.now at.now (get_or plan.now nodes_at 0 + get_or plan.now edges_at 0) }
+    requires ready { ReadyIn host.now rule.now at.now (get_or rule.now.plan.now nodes_at 0 + get_or rule.now.plan.now edges_at 0) }
     requires stored { Stored lens.old atoms.old }
-    ensures { Stored lens.new atoms.new × Of rule.now plan.now (λ r. HasValues (host_of l nodes.now edges.now) r (take (total r) at.now) (length r.variables) lens.new atoms.new) }
+    ensures { Stored lens.new atoms.new × OfRule rule.now (λ r. HasValues (host_in host.now) r (take (total r) at.now) (length r.variables) lens.new atoms.new) }
 {
-    let m = plan[At::NODES] + plan[At::EDGES];
-    for v in 0..plan::types(rule, plan).len() {
-        if plan[At::FIRST + v] < m {
-            let a = agreeing::value(l, nodes, edges, rule, plan, at, Room::ITEMS, 0, v);
+    let whole = Trial {
+        at,
+        item: Room::ITEMS,
+        slot: 0,
+    };
+    let m = rule.plan[At::NODES] + rule.plan[At::EDGES];
+    for v in 0..rule.types().len() {
+        if rule.plan[At::FIRST + v] < m {
+            let a = agreeing::value(host, rule, &whole, v);
             lens[v] = laid::count(a);
             put_atoms(atoms, labels::MOST * v, a);
         }
@@ -321,24 +245,26 @@ fn assign(
 
 // The first placement of the left items, node slots in left order and then edge slots, with the values of the variables.
 fn search(
-    l: Layout,
-    nodes: &[u8],
-    edges: &[u8],
-    rule: &[u8],
-    plan: &[usize; At::LENGTH],
+    host: &Graph,
+    rule: &PlannedRule,
     lens: &mut [usize; Room::VARIABLES],
     atoms: &mut [u32; Room::ATOMS],
 ) -> Option<[usize; Room::ITEMS]>
-    requires handed { Handed l nodes.now edges.now rule.now plan.now }
+    requires handed { HandedIn host.now rule.now }
     requires stored { Stored lens.old atoms.old }
-    ensures { Sought l nodes.now edges.now rule.now plan.now result lens.new atoms.new }
+    ensures { SoughtIn host.now rule.now result lens.new atoms.new }
 {
     let mut at = [0usize; Room::ITEMS];
     let mut i: usize = 0;
     let mut c: usize = 0;
     'found: loop {
         loop {
-            match advance(l, nodes, edges, rule, plan, &at, i, c) {
+            let trial = Trial {
+                at: &at,
+                item: i,
+                slot: c,
+            };
+            match advance(host, rule, &trial) {
                 Step::Full => break 'found,
                 Step::Take(x) => {
                     at[i] = x;
@@ -354,26 +280,23 @@ fn search(
         i -= 1;
         c = at[i] + 1;
     }
-    assign(l, nodes, edges, rule, plan, &at, lens, atoms);
+    assign(host, rule, &at, lens, atoms);
     Some(at)
 }
 
 // The slots of the first match of a rule, from its part of the image. The caller lends room for the rule's plan and for the values of its
 // variables.
 pub fn first_match(
-    l: Layout,
-    nodes: &[u8],
-    edges: &[u8],
+    host: &Graph,
     rule: &[u8],
     plan: &mut [usize; At::LENGTH],
     lens: &mut [usize; Room::VARIABLES],
     atoms: &mut [u32; Room::ATOMS],
 ) -> Option<[usize; Room::ITEMS]>
-    requires legal { Legal l nodes.now edges.now }
     requires rule { IsRule rule.now }
     requires plan_len { (length plan.old ≡ plan_length) × Stored lens.old atoms.old }
-    ensures { (length plan.new ≡ plan_length) × IsFirst l nodes.now edges.now rule.now result lens.new atoms.new }
+    ensures { (length plan.new ≡ plan_length) × IsFirstIn host.now rule.now result lens.new atoms.new }
 {
     planning::make(rule, plan);
-    search(l, nodes, edges, rule, &*plan, lens, atoms)
+    search(host, &PlannedRule { bytes: rule, plan }, lens, atoms)
 }

@@ -9,4 +9,4 @@ use Rattle.matching.proofs.assign.Given as goal
 
 abbrev pub invariant-loop-v : goal.invariant-loop-v
 invariant-loop-v l =
-    Stored l.lens l.atoms × Of l.rule l.plan (λ r. HasValues (host_of l.l l.nodes l.edges) r (take (total r) l.at) l.v l.lens l.atoms)
+    Stored l.lens l.atoms × Of l.rule.bytes.now l.rule.plan.now (λ r. HasValues (host_of l.host.layout l.host.nodes.now l.host.edges.now) r (take (total r) l.at) l.v l.lens l.atoms)

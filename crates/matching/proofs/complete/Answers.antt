@@ -5,10 +5,10 @@ use Rattle.meaning.specs.FirstMatch.{complete}
 use Rattle.meaning.specs.Laws.Tests.{both_yes, both-no}
 use Rattle.matching.proofs.Completing.{all_placed, numbers, none-dangles}
 use Rattle.matching.proofs.complete.Goals as goal
-use Rattle.matching.proofs.complete.Goals.{then-plan, else-plan}
+use Rattle.matching.proofs.complete.Goals.{then-rule, else-rule}
 
-pub all_tests-requires-clause-full : goal.all_tests-requires-clause-full
-all_tests-requires-clause-full c = all_placed _ _ _ _ c.requires.known c.requires.room c.requires.inside
+pub all_tests-requires : goal.all_tests-requires
+all_tests-requires c = all_placed _ _ _ _ c.requires.known c.requires.room c.requires.inside
 
 pub returns-then-not-dangling : goal.returns-then-not-dangling
 unfolding complete
@@ -17,9 +17,9 @@ returns-then-not-dangling c =
     let q = w.planned.laid in
     c.all_tests.ensures (all_placed _ _ _ _ w c.requires.room c.requires.inside)
     ∙ sym (both_yes _ _ (ap not
-    (elim c.if-plan.branch [
-      | then-plan k ↦ sym (k.any_dangles-dangling.ensures w.rule (numbers w)) ∙ sym k.dangling-is ∙ c.if-not-dangling.true
-      | else-plan k ↦ none-dangles _ _ _ _ (omega (arith, k.if-plan.false, q.items.nodes, q.interface))
+    (elim c.if-rule.branch [
+      | then-rule k ↦ sym (k.any_dangles-dangling.ensures w.rule (numbers w)) ∙ sym k.dangling-is ∙ c.if-not-dangling.true
+      | else-rule k ↦ none-dangles _ _ _ _ (omega (arith, k.if-rule.false, q.items.nodes, q.interface))
     ])))
 
 pub returns-else-not-dangling : goal.returns-else-not-dangling
@@ -27,7 +27,7 @@ unfolding complete
 returns-else-not-dangling c =
     λ w.
     rw c.if-not-dangling.false
-    (elim c.if-plan.branch [
-      | then-plan k ↦ sym (both-no _ _ (ap not (sym (k.any_dangles-dangling.ensures w.rule (numbers w)) ∙ sym k.dangling-is ∙ c.if-not-dangling.false)))
-      | else-plan k ↦ absurd (false≢true (sym (le-ltb _ _ k.if-plan.false) ∙ sym k.dangling-is ∙ c.if-not-dangling.false))
+    (elim c.if-rule.branch [
+      | then-rule k ↦ sym (both-no _ _ (ap not (sym (k.any_dangles-dangling.ensures w.rule (numbers w)) ∙ sym k.dangling-is ∙ c.if-not-dangling.false)))
+      | else-rule k ↦ absurd (false≢true (sym (le-ltb _ _ k.if-rule.false) ∙ sym k.dangling-is ∙ c.if-not-dangling.false))
     ])

@@ -7,7 +7,7 @@ search-requires c =
     let p = c.requires in
     let t = p.rule in record {
       handed = record {
-        legal = p.legal;
+        legal = c.args.host.now.legal;
         known = record { rule = t.tree; planned = c.make.ensures t.tree t.is };
       };
       stored = p.plan_len.1;

@@ -6,20 +6,20 @@ use Rattle.matching.proofs.Plans.{nodes-of, edges-of, level-room}
 use Rattle.matching.proofs.Links.{unreached, unleft}
 use Rattle.matching.proofs.next_candidate.Goals as goal
 
-pub returns-then-s-i : goal.returns-then-s-i
-returns-then-s-i c =
+pub returns-then-s-trial : goal.returns-then-s-trial
+returns-then-s-trial c =
     let a = c.args in
     let next = c.next_end in
     let mark = c.mark-mark in
-    let if2 = c.if-s-i in
-    let if1 = c.if-t-i in
+    let if2 = c.if-s-trial in
+    let if1 = c.if-t-trial in
     let target = c.end_of-t in
     let source = c.end_of-s in
     let test = c.loop-k-test in (
       next.ensures.0,
       λ w x h k.
           let j : c.loop-k.k < left_edges w.rule = omega (arith, test.true, edges-of _ _ w) in
-          unreached (host_of a.l a.nodes.now a.edges.now) w.rule a.at.now a.i c.loop-k.k x
+          unreached (host_of a.host.now.layout a.host.now.nodes.now a.host.now.edges.now) w.rule a.trial.now.at.now a.trial.now.item c.loop-k.k x
           (level-room c.requires.ready (omega arith)) j
           mark.result ((mark.ensures w.rule w.planned.laid).edge c.loop-k.k j
           (ap (λ (n : ℕ). n + c.loop-k.k) (nodes-of _ _ w)))
@@ -28,20 +28,20 @@ returns-then-s-i c =
           (λ e s m. next.ensures.1 x e h k s m),
     )
 
-pub returns-then-t-i-2 : goal.returns-then-t-i-2
-returns-then-t-i-2 c =
+pub returns-then-t-trial-2 : goal.returns-then-t-trial-2
+returns-then-t-trial-2 c =
     let a = c.args in
-    let next = c.next_end-then-t-i-2 in
-    let mark = c.mark-mark-then-t-i-2 in
-    let if4 = c.if-t-i-2 in
-    let if3 = c.if-s-i-2 in
+    let next = c.next_end-then-t-trial-2 in
+    let mark = c.mark-mark-then-t-trial-2 in
+    let if4 = c.if-t-trial-2 in
+    let if3 = c.if-s-trial-2 in
     let target = c.end_of-t in
     let source = c.end_of-s in
     let test = c.loop-k-test in (
       next.ensures.0,
       λ w x h k.
           let j : c.loop-k.k < left_edges w.rule = omega (arith, test.true, edges-of _ _ w) in
-          unleft (host_of a.l a.nodes.now a.edges.now) w.rule a.at.now a.i c.loop-k.k x
+          unleft (host_of a.host.now.layout a.host.now.nodes.now a.host.now.edges.now) w.rule a.trial.now.at.now a.trial.now.item c.loop-k.k x
           (level-room c.requires.ready (omega arith)) j
           mark.result ((mark.ensures w.rule w.planned.laid).edge c.loop-k.k j
           (ap (λ (n : ℕ). n + c.loop-k.k) (nodes-of _ _ w)))

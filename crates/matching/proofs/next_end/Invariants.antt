@@ -6,4 +6,4 @@ use Rattle.matching.proofs.next_end.Given as goal
 
 abbrev pub invariant-loop-x : goal.invariant-loop-x
 invariant-loop-x l =
-    (l.c ≤ l.best) × ((y e : ℕ) → l.c ≤ y → y < l.best → e < l.x → Meets (host_of l.l l.nodes l.edges) l.mark l.p l.leaving e y → ⊥)
+    (l.c ≤ l.best) × ((y e : ℕ) → l.c ≤ y → y < l.best → e < l.x → Meets (host_of l.host.layout l.host.nodes.now l.host.edges.now) l.mark l.p l.leaving e y → ⊥)

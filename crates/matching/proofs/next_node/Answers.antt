@@ -9,37 +9,37 @@ use Rattle.matching.proofs.next_node.Goals.{After-next_candidate-y, After-next_l
 
 bound : (c : At-loop-x)
     → let a = c.args in
-    (w : Known a.rule.now a.plan.now)
-    → candidates (host_of a.l a.nodes.now a.edges.now) w.rule (take a.i a.at.now) ≡ c.node_slots-n.result
+    (w : Known a.rule.now.bytes.now a.rule.now.plan.now)
+    → candidates (host_of a.host.now.layout a.host.now.nodes.now a.host.now.edges.now) w.rule (take a.trial.now.item a.trial.now.at.now) ≡ c.node_slots-n.result
 bound c w =
     let a = c.args in
-    node-slots (host_of a.l a.nodes.now a.edges.now) w.rule a.at.now a.i (level-room c.requires.ready (omega arith))
+    node-slots (host_of a.host.now.layout a.host.now.nodes.now a.host.now.edges.now) w.rule a.trial.now.at.now a.trial.now.item (level-room c.requires.ready (omega arith))
     (omega (arith, nodes-of _ _ w))
     ∙ sym c.loop-x.invariant.1
 
 unlinked : (c : After-next_candidate-y)
     → let a = c.args in
-    (w : Known a.rule.now a.plan.now) (y : ℕ) → a.c ≤ y → y < c.next_candidate-y.result
-    → fits (host_of a.l a.nodes.now a.edges.now) w.rule (take a.i a.at.now) y ≡ false
+    (w : Known a.rule.now.bytes.now a.rule.now.plan.now) (y : ℕ) → a.trial.now.slot ≤ y → y < c.next_candidate-y.result
+    → fits (host_of a.host.now.layout a.host.now.nodes.now a.host.now.edges.now) w.rule (take a.trial.now.item a.trial.now.at.now) y ≡ false
 unlinked c w =
     let a = c.args in
-    nodes-join (host_of a.l a.nodes.now a.edges.now) w.rule a.at.now a.i (level-room c.requires.ready (omega arith))
-    (omega (arith, nodes-of _ _ w)) a.c c.loop-x.x c.next_candidate-y.result (c.loop-x.invariant.2 w)
+    nodes-join (host_of a.host.now.layout a.host.now.nodes.now a.host.now.edges.now) w.rule a.trial.now.at.now a.trial.now.item (level-room c.requires.ready (omega arith))
+    (omega (arith, nodes-of _ _ w)) a.trial.now.slot c.loop-x.x c.next_candidate-y.result (c.loop-x.invariant.2 w)
     (c.next_candidate-y.ensures.1 w)
 
 unlike : (c : After-next_like-z)
     → let a = c.args in
-    (w : Known a.rule.now a.plan.now) (y : ℕ) → a.c ≤ y → y < c.next_like-z.result
-    → fits (host_of a.l a.nodes.now a.edges.now) w.rule (take a.i a.at.now) y ≡ false
+    (w : Known a.rule.now.bytes.now a.rule.now.plan.now) (y : ℕ) → a.trial.now.slot ≤ y → y < c.next_like-z.result
+    → fits (host_of a.host.now.layout a.host.now.nodes.now a.host.now.edges.now) w.rule (take a.trial.now.item a.trial.now.at.now) y ≡ false
 unlike c w =
     let a = c.args in
-    let linked = λ (v : Known a.rule.now a.plan.now).
-    nodes-join (host_of a.l a.nodes.now a.edges.now) v.rule a.at.now a.i (level-room c.requires.ready (omega arith))
-    (omega (arith, nodes-of _ _ v)) a.c c.loop-x.x c.next_candidate-y.result (c.loop-x.invariant.2 v)
+    let linked = λ (v : Known a.rule.now.bytes.now a.rule.now.plan.now).
+    nodes-join (host_of a.host.now.layout a.host.now.nodes.now a.host.now.edges.now) v.rule a.trial.now.at.now a.trial.now.item (level-room c.requires.ready (omega arith))
+    (omega (arith, nodes-of _ _ v)) a.trial.now.slot c.loop-x.x c.next_candidate-y.result (c.loop-x.invariant.2 v)
     (c.next_candidate-y.ensures.1 v) in
-    nodes-join (host_of a.l a.nodes.now a.edges.now) w.rule a.at.now a.i (level-room c.requires.ready (omega arith))
-    (omega (arith, nodes-of _ _ w)) a.c c.next_candidate-y.result c.next_like-z.result (linked w)
-    (λ x k l. (c.next_like-z.ensures w).passed x k l (take a.i a.at.now))
+    nodes-join (host_of a.host.now.layout a.host.now.nodes.now a.host.now.edges.now) w.rule a.trial.now.at.now a.trial.now.item (level-room c.requires.ready (omega arith))
+    (omega (arith, nodes-of _ _ w)) a.trial.now.slot c.next_candidate-y.result c.next_like-z.result (linked w)
+    (λ x k l. (c.next_like-z.ensures w).passed x k l (take a.trial.now.item a.trial.now.at.now))
 
 onward : (c : After-next_like-z)
     → let next = c.next_candidate-y.result in
@@ -59,7 +59,6 @@ pub next_like-z-requires : goal.next_like-z-requires
 next_like-z-requires c =
     let p = c.requires in
     record {
-      legal = p.ready.legal;
       known = p.ready.known;
       i_bound = (p.i_bound, omega (arith, c.loop-x.invariant.1));
     }
@@ -70,7 +69,6 @@ returns-then-z-n c = λ w y h k. unlike (goal.at.returns-then-z-n c).After-next_
 pub node_likely-requires : goal.node_likely-requires
 node_likely-requires c =
     let p = c.requires in record {
-      legal = p.ready.legal;
       known = p.ready.known;
       at_len = (p.ready.room, p.ready.inside);
       i_bound = (p.i_bound, omega (arith, c.if-z-n.false, c.loop-x.invariant.1));
@@ -95,7 +93,7 @@ loop-x-preserved-then-z-y c =
       omega (arith, c.loop-x.invariant.0, onward (goal.at.loop-x-preserved-then-z-y c).After-next_like-z),
       c.loop-x.invariant.1,
       λ w.
-          none_more (fits (host_of a.l a.nodes.now a.edges.now) w.rule (take a.i a.at.now)) a.c
+          none_more (fits (host_of a.host.now.layout a.host.now.nodes.now a.host.now.edges.now) w.rule (take a.trial.now.item a.trial.now.at.now)) a.trial.now.slot
           c.next_like-z.result (unlike (goal.at.loop-x-preserved-then-z-y c).After-next_like-z w) ((c.node_likely.ensures w).no c.if-node_likely.false),
     )
 

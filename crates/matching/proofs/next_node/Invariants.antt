@@ -7,8 +7,8 @@ use Rattle.matching.proofs.next_node.Given as goal
 
 abbrev pub invariant-loop-x : goal.invariant-loop-x
 invariant-loop-x l =
-    (l.c ≤ l.x) × (l.n ≡ length (host_of l.l l.nodes l.edges).nodes)
-    × Of l.rule l.plan (λ r. (y : ℕ) → l.c ≤ y → y < l.x → fits (host_of l.l l.nodes l.edges) r (take l.i l.at) y ≡ false)
+    (l.trial.slot ≤ l.x) × (l.n ≡ length (host_of l.host.layout l.host.nodes.now l.host.edges.now).nodes)
+    × Of l.rule.bytes.now l.rule.plan.now (λ r. (y : ℕ) → l.trial.slot ≤ y → y < l.x → fits (host_of l.host.layout l.host.nodes.now l.host.edges.now) r (take l.trial.item l.trial.at.now) y ≡ false)
 
 abbrev pub decreases-loop-x : goal.decreases-loop-x
 decreases-loop-x l = l.n - l.x

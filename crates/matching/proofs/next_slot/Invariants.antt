@@ -7,7 +7,7 @@ use Rattle.matching.proofs.next_slot.Given as goal
 
 abbrev pub invariant-loop-y : goal.invariant-loop-y
 invariant-loop-y l =
-    (l.c ≤ l.x) × Of l.rule l.plan (λ r. (y : ℕ) → l.c ≤ y → y < l.x → fits (host_of l.l l.nodes l.edges) r (take l.i l.at) y ≡ false)
+    (l.trial.slot ≤ l.x) × Of l.rule.bytes.now l.rule.plan.now (λ r. (y : ℕ) → l.trial.slot ≤ y → y < l.x → fits (host_of l.host.layout l.host.nodes.now l.host.edges.now) r (take l.trial.item l.trial.at.now) y ≡ false)
 
 abbrev pub decreases-loop-y : goal.decreases-loop-y
-decreases-loop-y l = length (host_of l.l l.nodes l.edges).nodes + length (host_of l.l l.nodes l.edges).edges - l.x
+decreases-loop-y l = length (host_of l.host.layout l.host.nodes.now l.host.edges.now).nodes + length (host_of l.host.layout l.host.nodes.now l.host.edges.now).edges - l.x

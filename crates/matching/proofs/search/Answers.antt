@@ -12,15 +12,15 @@ use Rattle.matching.proofs.search.Goals.{In-Full, In-Take}
 
 took : (c : In-Take)
     → let a = c.args in
-    (w : Known a.rule.now a.plan.now)
-    → IsStep (host_of a.l a.nodes.now a.edges.now) w.rule (take c.loop-x.i c.loop-x.at) c.loop-x.i c.loop-x.c
+    (w : Known a.rule.now.bytes.now a.rule.now.plan.now)
+    → IsStep (host_of a.host.now.layout a.host.now.nodes.now a.host.now.edges.now) w.rule (take c.loop-x.i c.loop-x.at) c.loop-x.i c.loop-x.c
     (Take c.in-Take.x)
 took c w = rw c.in-Take.is at (c.advance.ensures w)
 
 stopped : (c : In-Full)
     → let a = c.args in
-    (w : Known a.rule.now a.plan.now)
-    → IsStep (host_of a.l a.nodes.now a.edges.now) w.rule (take c.loop-x.i c.loop-x.at) c.loop-x.i c.loop-x.c
+    (w : Known a.rule.now.bytes.now a.rule.now.plan.now)
+    → IsStep (host_of a.host.now.layout a.host.now.nodes.now a.host.now.edges.now) w.rule (take c.loop-x.i c.loop-x.at) c.loop-x.i c.loop-x.c
     Full
 stopped c w = rw c.in-Full.is at (c.advance.ensures w)
 
@@ -54,14 +54,14 @@ pub loop-x-smaller : goal.loop-x-smaller
 loop-x-smaller c =
     let a = c.args in
     let n = took (goal.at.loop-x-smaller c).In-Take c.requires.handed.known in
-    pushed-less (host_of a.l a.nodes.now a.edges.now) c.requires.handed.known.rule (few-items c.requires.handed.known)
+    pushed-less (host_of a.host.now.layout a.host.now.nodes.now a.host.now.edges.now) c.requires.handed.known.rule (few-items c.requires.handed.known)
     c.loop-x.at c.loop-x.i c.loop-x.c (c.loop-x.invariant.0 c.requires.handed.known) n.0 c.in-Take.x n.1
-    (get_or a.plan.now nodes_at 0 + get_or a.plan.now edges_at 0) (levels-of _ _ c.requires.handed.known)
+    (get_or a.rule.now.plan.now nodes_at 0 + get_or a.rule.now.plan.now edges_at 0) (levels-of _ _ c.requires.handed.known)
 
 pub loop-x-preserved : goal.loop-x-preserved
 loop-x-preserved c =
     let a = c.args in (
-      λ w. let n = took (goal.at.loop-x-preserved c).In-Take w in pushed (host_of a.l a.nodes.now a.edges.now) w.rule (few-items w) c.loop-x.at
+      λ w. let n = took (goal.at.loop-x-preserved c).In-Take w in pushed (host_of a.host.now.layout a.host.now.nodes.now a.host.now.edges.now) w.rule (few-items w) c.loop-x.at
           c.loop-x.i c.loop-x.c (c.loop-x.invariant.0 w) n.0 c.in-Take.x n.1,
       omega (arith, loop-x-smaller c, c.loop-x.invariant.1),
     )
@@ -72,7 +72,7 @@ returns-then-i-eq0 c =
     record {
       room = λ slots e. absurd (cc);
       arrays = c.requires.stored;
-      right = λ w. ended (host_of a.l a.nodes.now a.edges.now) w.rule (few-items w) c.loop-x.at c.loop-x.i
+      right = λ w. ended (host_of a.host.now.layout a.host.now.nodes.now a.host.now.edges.now) w.rule (few-items w) c.loop-x.at c.loop-x.i
           c.loop-x.c (c.loop-x.invariant.0 w)
           (rw c.in-Back.is at (c.advance.ensures w)) c.if-i-eq0.true;
       values = λ w slots e. absurd (cc);
@@ -93,10 +93,8 @@ overflow_add-c c =
     let a = c.args in
     omega (
       arith,
-      small a.l a.nodes.now a.edges.now _ _ c.loop-x.at c.loop-x.i c.loop-x.c c.requires.handed.known
+      small a.host.now.layout a.host.now.nodes.now a.host.now.edges.now _ _ c.loop-x.at c.loop-x.i c.loop-x.c c.requires.handed.known
           (c.loop-x.invariant.0 c.requires.handed.known) (c.loop-x.i - 1) (omega arith),
-      c.well_formed.1.0.1,
-      c.well_formed.1.1.0.1,
     )
 
 pub found-smaller : goal.found-smaller
@@ -105,15 +103,15 @@ found-smaller c =
     omega (
       arith,
       c.loop-x.invariant.1,
-      popped-less (host_of a.l a.nodes.now a.edges.now) c.requires.handed.known.rule
+      popped-less (host_of a.host.now.layout a.host.now.nodes.now a.host.now.edges.now) c.requires.handed.known.rule
           (few-items c.requires.handed.known) c.loop-x.at c.loop-x.i c.loop-x.c (c.loop-x.invariant.0 c.requires.handed.known)
-          (get_or a.plan.now nodes_at 0 + get_or a.plan.now edges_at 0) (levels-of _ _ c.requires.handed.known) (omega arith),
+          (get_or a.rule.now.plan.now nodes_at 0 + get_or a.rule.now.plan.now edges_at 0) (levels-of _ _ c.requires.handed.known) (omega arith),
     )
 
 pub found-preserved : goal.found-preserved
 found-preserved c =
     let a = c.args in
-    λ w. popped (host_of a.l a.nodes.now a.edges.now) w.rule (few-items w) c.loop-x.at c.loop-x.i
+    λ w. popped (host_of a.host.now.layout a.host.now.nodes.now a.host.now.edges.now) w.rule (few-items w) c.loop-x.at c.loop-x.i
     c.loop-x.c (c.loop-x.invariant.0 w) (rw c.in-Back.is at (c.advance.ensures w))
     (omega arith)
 
@@ -122,7 +120,7 @@ assign-requires c =
     let p = c.requires in
     let w = p.handed.known in record {
       ready = record {
-        legal = p.handed.legal;
+        legal = c.args.host.now.legal;
         known = w;
         room = (c.loop-x.invariant.0 w).room;
         inside = rw (levels-of _ _ w, sym (stopped (goal.at.assign-requires c).In-Full w).0, nodes-of _ _ w) (c.loop-x.invariant.0 w).inside;
@@ -136,7 +134,7 @@ returns c =
     record {
       room = λ slots e. let q : c.loop-x.at ≡ slots = cc in rw q at (c.loop-x.invariant.0 c.requires.handed.known).room;
       arrays = c.assign.ensures.0;
-      right = λ w. found_first (host_of a.l a.nodes.now a.edges.now) w.rule (few-items w) c.loop-x.at
+      right = λ w. found_first (host_of a.host.now.layout a.host.now.nodes.now a.host.now.edges.now) w.rule (few-items w) c.loop-x.at
           c.loop-x.i c.loop-x.c (c.loop-x.invariant.0 w) (stopped (goal.at.returns c).In-Full w).0 (stopped (goal.at.returns c).In-Full w).1;
       values = λ w slots e. let q : c.loop-x.at ≡ slots = cc in rw q at (c.assign.ensures.1 w);
     }

@@ -9,15 +9,15 @@ use Rattle.matching.proofs.search.Given as goal
 
 abbrev pub invariant-loop-x : goal.invariant-loop-x
 invariant-loop-x l =
-    Of l.rule l.plan (λ r. Going (host_of l.l l.nodes l.edges) r l.at l.i l.c)
-    × (work (host_of l.l l.nodes l.edges) (get_or l.plan nodes_at 0 + get_or l.plan edges_at 0) l.at l.i l.c
-    ≤ work (host_of l.l l.nodes l.edges) (get_or l.plan nodes_at 0 + get_or l.plan edges_at 0) l.initial.at l.initial.i l.initial.c)
+    Of l.rule.bytes.now l.rule.plan.now (λ r. Going (host_of l.host.layout l.host.nodes.now l.host.edges.now) r l.at l.i l.c)
+    × (work (host_of l.host.layout l.host.nodes.now l.host.edges.now) (get_or l.rule.plan.now nodes_at 0 + get_or l.rule.plan.now edges_at 0) l.at l.i l.c
+    ≤ work (host_of l.host.layout l.host.nodes.now l.host.edges.now) (get_or l.rule.plan.now nodes_at 0 + get_or l.rule.plan.now edges_at 0) l.initial.at l.initial.i l.initial.c)
 
 abbrev pub decreases-loop-x : goal.decreases-loop-x
-decreases-loop-x l = work (host_of l.l l.nodes l.edges) (get_or l.plan nodes_at 0 + get_or l.plan edges_at 0) l.at l.i l.c
+decreases-loop-x l = work (host_of l.host.layout l.host.nodes.now l.host.edges.now) (get_or l.rule.plan.now nodes_at 0 + get_or l.rule.plan.now edges_at 0) l.at l.i l.c
 
 abbrev pub invariant-found : goal.invariant-found
-invariant-found l = Of l.rule l.plan (λ r. Going (host_of l.l l.nodes l.edges) r l.at l.i l.c)
+invariant-found l = Of l.rule.bytes.now l.rule.plan.now (λ r. Going (host_of l.host.layout l.host.nodes.now l.host.edges.now) r l.at l.i l.c)
 
 abbrev pub decreases-found : goal.decreases-found
-decreases-found l = work (host_of l.l l.nodes l.edges) (get_or l.plan nodes_at 0 + get_or l.plan edges_at 0) l.at l.i l.c
+decreases-found l = work (host_of l.host.layout l.host.nodes.now l.host.edges.now) (get_or l.rule.plan.now nodes_at 0 + get_or l.rule.plan.now edges_at 0) l.at l.i l.c
