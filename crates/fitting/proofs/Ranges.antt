@@ -21,14 +21,14 @@ use Rattle.std.proofs.lemmas.List.Elements.{filter-append}
 use Rattle.meaning.specs.Laws.Tests.{both-no, exists-no}
 use Rattle.meaning.specs.Basics.{choose, both, either, exists, all, count, absent}
 
-pub absent_any : (c : ℕ) (l : List ℕ) → absent c l ≡ not (list_any (λ y. eqb y c) l)
+pub absent_all : (c : ℕ) (l : List ℕ) → absent c l ≡ list_all (λ y. not (eqb y c)) l
 unfolding absent both
-absent_any c [] = refl
-absent_any c (a ∷ l) = rw (absent_any c l) (go (eqb a c) (list_any (λ y. eqb y c) l))
+absent_all c [] = refl
+absent_all c (a ∷ l) = go (eqb a c) (absent_all c l)
   where
-    go : (a b : Bool) → both (not a) (not b) ≡ not (a || b)
-    go true b = refl
-    go false b = refl
+    go : (b : Bool) → absent c l ≡ list_all (λ y. not (eqb y c)) l → both (not b) (absent c l) ≡ (not b && list_all (λ y. not (eqb y c)) l)
+    go true e = refl
+    go false e = e
 
 range-more : (a n b : ℕ) → a + n ≡ b → range_with_len a (suc n) ≡ range_with_len a n ++ b ∷ []
 range-more a zero b e = ap (λ x. x ∷ []) (omega arith)

@@ -41,7 +41,7 @@ fn absent(at: &[usize; Room::ITEMS], from: usize, to: usize, c: usize) -> bool
     requires { (from ≤ to) × (to ≤ most_items) × (length at.now ≡ most_items) }
     ensures { result ≡ absent c (drop from (take to at.now)) }
 {
-    !at[from..to].contains(&c)
+    at[from..to].iter().all(|x| *x != c)
 }
 
 // Whether host edge x can stand for left edge k, whose ends are at slots s and t, as far as its mark and ends go.
