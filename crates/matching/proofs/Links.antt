@@ -1,14 +1,16 @@
 -- Why a slot that no host edge links does not fit, and what there is to try.
 use Prim.Native.Nat.{ℕ, ◌+◌, ◌≤◌, ◌<◌, max}
-use mathlib.Core.Path.{◌≡◌, sym, ◌∙◌, ap}
+use mathlib.Core.Path.{◌≡◌, refl, sym, ◌∙◌, ap}
 use mathlib.Core.List.{List, [], ◌∷◌, ◌++◌}
-use mathlib.Core.Bool.{Bool, true, false, not}
+use mathlib.Core.Bool.{Bool, true, false}
 use native.Mathlib.Omega.{arith}
 use native.Mathlib.Nat.{div-le_self}
 use native.Mathlib.Decide.{ℕ_discrete, dec_lt}
-use borrow.Author.Tests.{eqb-true, not-true}
+use borrow.Author.Tests.{eqb-true}
 use lib.ListN.{length, take, get_or, length-map}
 use lib.Seq.{length-take-le}
+use Rattle.std.specs.Prelude.{Option, Some, None}
+use Rattle.std.specs.Option.{MatchOption}
 use Rattle.meaning.specs.Layout.{Host, read_nodes, read_edges, host_of}
 use Rattle.meaning.specs.Image.{Rule}
 use Rattle.meaning.specs.Matching.{left_nodes, left_edges, left_edge, node_slot, edge_runs}
@@ -18,10 +20,8 @@ use Rattle.laws.specs.Pieces.{length-pieces}
 use Rattle.meaning.specs.declared.Layout.{Layout}
 use Rattle.agreeing.specs.Placed.{slots}
 use Rattle.agreeing.specs.Trials.{next-new, next-old}
-use Rattle.matching.specs.Next.{Meets}
-
-pub clash : (a b : Bool) → a ≡ false → a ≡ b → b ≡ true → ⊥
-clash a b f e t = let z : ◌≡◌ {A = Bool} true false = sym t ∙ sym e ∙ f in let z : ◌≡◌ {A = ℕ} 0 1 = cc in omega arith
+use Rattle.agreeing.specs.Candidates.{Likely}
+use Rattle.matching.specs.Next.{Meets, NextLikely}
 
 -- the slots so far, with one more
 module _ (at : List ℕ) (i y j : ℕ) (room : i < length at) where
@@ -140,6 +140,14 @@ module _ (h : Host) (r : Rule) (at : List ℕ) (i : ℕ) (room : i < length at) 
       → ((y : ℕ) → x ≤ y → y < z → node_fits h r (take i at) i y ≡ false)
       → (y : ℕ) → c ≤ y → y < z → fits h r (take i at) y ≡ false
   nodes-join k c x z n m = none-join (fits h r (take i at)) c x z n (λ y a b. node-fits k y ∙ m y a b)
+
+-- the first likely slot of c .. n, or none: those before it do not fit
+pub next_is : (h : Host) (r : Rule) (sort : ℕ) (p : List ℕ) (i c n : ℕ) → candidates h r p ≡ n → (o : Option ℕ)
+    → MatchOption o ((k : ℕ) → c ≤ k → k < n → Likely h r sort p i k false)
+    (λ x. (c ≤ x) × (x < n) × Likely h r sort p i x true × ((k : ℕ) → c ≤ k → k < x → Likely h r sort p i k false))
+    → NextLikely h r sort p i c o
+next_is h r sort p i c n e None m = λ y a b. (m y a (omega arith)).no refl
+next_is h r sort p i c n e (Some x) m = (m.0, omega (arith, m.1), m.2, λ y a b. (m.3 y a b).no refl)
 
 -- How large a slot number is.
 

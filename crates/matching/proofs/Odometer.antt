@@ -9,6 +9,7 @@ use native.Mathlib.Omega.{arith}
 use native.Mathlib.Decide.{ℕ_discrete}
 use lib.ListN.{length, get_or, take, set, length-set}
 use lib.Seq.{get_or-set_same, get_or-set_other}
+use Rattle.std.specs.Prelude.{Some}
 use Rattle.meaning.specs.Layout.{Host, host_of}
 use Rattle.meaning.specs.Image.{Rule, most_items}
 use Rattle.meaning.specs.Matching.{left_nodes, total}
@@ -17,7 +18,6 @@ use Rattle.meaning.specs.declared.Layout.{Layout}
 use Rattle.agreeing.specs.Placed.{Known, Inside, slots}
 use Rattle.matching.specs.Next.{Handed, Ready, NextSlot, IsStep}
 use Rattle.matching.specs.declared.Step.TheVariants.{Back}
-use Rattle.matching.specs.declared.Next.TheVariants.{At}
 use Rattle.matching.proofs.Plans.{nodes-of}
 use Rattle.matching.proofs.Links.{slots-of, slots-below, slots-few}
 use Rattle.matching.proofs.Steps as steps
@@ -50,7 +50,7 @@ module _ (h : Host) (r : Rule) where
 
   module _ (few : total r ≤ most_items) (at : List ℕ) (i c : ℕ) (g : Going at i c) where
     module _ (under : i < total r) where
-      module _ (x : ℕ) (n : NextSlot h r (take i at) c (At x)) where
+      module _ (x : ℕ) (n : NextSlot h r (take i at) c (Some x)) where
         in_room : i < length at
         in_room = omega (arith, g.room)
 

@@ -1,6 +1,6 @@
 -- What the functions of the search are handed, and what they answer. Rests on the meaning's FirstMatch.
-use Rattle.std.specs.Prelude.{ℕ, ◌<◌, ◌≤◌, ◌≡◌, ◌⊎◌, Bool, true, false, not, List, length, get_or}
-use Rattle.std.proofs.Math.Option.{Option, some, none}
+use Rattle.std.specs.Prelude.{ℕ, ◌<◌, ◌≤◌, ◌≡◌, ◌⊎◌, Bool, true, false, not, Option, Some, None, List, length, get_or, take}
+use Rattle.std.proofs.Math.Option as math
 use Rattle.meaning.specs.Layout.{Host, live_at, host_of}
 use Rattle.meaning.specs.Image.{Rule, most_items}
 use Rattle.meaning.specs.Matching.{edge_at, total}
@@ -9,12 +9,8 @@ use Rattle.meaning.specs.declared.Layout.{Layout}
 use Rattle.graph.specs.Graph.{Legal}
 use Rattle.agreeing.specs.Placed.{Known, Inside}
 use Rattle.agreeing.specs.Candidates.{Likely}
-use Rattle.matching.specs.declared.Next.{Next}
-use Rattle.matching.specs.declared.Next.TheVariants.{At, Nothing}
 use Rattle.matching.specs.declared.Step.{Step}
 use Rattle.matching.specs.declared.Step.TheVariants.{Full, Take, Back}
-use Rattle.matching.specs.declared.Outcome.{Outcome}
-use Rattle.matching.specs.declared.Outcome.TheVariants.{Match, NoMatch}
 use Rattle.plan.specs.Plan.{nodes_at}
 
 -- What is handed.
@@ -49,26 +45,27 @@ pub record Meets (h : Host) (mark p : ℕ) (leaving : Bool) (x y : ℕ) : Type 0
   pub there : end_of h (not leaving) x ≡ y
 
 -- the lowest number of c .. b that passes the test, or none
-abbrev pub IsNext : (ℕ → Bool) → ℕ → ℕ → Next → Type 0
-IsNext test b c (At x) = (c ≤ x) × (x < b) × (test x ≡ true) × ((y : ℕ) → c ≤ y → y < x → test y ≡ false)
-IsNext test b c Nothing = (y : ℕ) → c ≤ y → y < b → test y ≡ false
+abbrev pub IsNext : (ℕ → Bool) → ℕ → ℕ → Option ℕ → Type 0
+IsNext test b c (Some x) = (c ≤ x) × (x < b) × (test x ≡ true) × ((y : ℕ) → c ≤ y → y < x → test y ≡ false)
+IsNext test b c None = (y : ℕ) → c ≤ y → y < b → test y ≡ false
 
 -- the lowest slot at c or above that fits behind the prefix p, or none
-abbrev pub NextSlot : Host → Rule → List ℕ → ℕ → Next → Type 0
+abbrev pub NextSlot : Host → Rule → List ℕ → ℕ → Option ℕ → Type 0
 NextSlot h r p c x = IsNext (fits h r p) (candidates h r p) c x
 
 -- the lowest slot at c or above that is likely for item i behind the prefix p, or none: those passed over do not fit
-abbrev pub NextLikely : Host → Rule → ℕ → List ℕ → ℕ → ℕ → Next → Type 0
-NextLikely h r sort p i c (At x) =
+abbrev pub NextLikely : Host → Rule → ℕ → List ℕ → ℕ → ℕ → Option ℕ → Type 0
+NextLikely h r sort p i c (Some x) =
     (c ≤ x) × (x < candidates h r p) × Likely h r sort p i x true × ((y : ℕ) → c ≤ y → y < x → fits h r p y ≡ false)
-NextLikely h r sort p i c Nothing = (y : ℕ) → c ≤ y → y < candidates h r p → fits h r p y ≡ false
+NextLikely h r sort p i c None = (y : ℕ) → c ≤ y → y < candidates h r p → fits h r p y ≡ false
 
 -- what there is to do behind the prefix p, at level i
 abbrev pub IsStep : Host → Rule → List ℕ → ℕ → ℕ → Step → Type 0
 IsStep h r p i c Full = (i ≡ total r) × (complete h r p ≡ true)
-IsStep h r p i c (Take x) = (i < total r) × NextSlot h r p c (At x)
-IsStep h r p i c Back = ((i < total r) × NextSlot h r p c Nothing) ⊎ ((i ≡ total r) × (complete h r p ≡ false))
+IsStep h r p i c (Take x) = (i < total r) × NextSlot h r p c (Some x)
+IsStep h r p i c Back = ((i < total r) × NextSlot h r p c None) ⊎ ((i ≡ total r) × (complete h r p ≡ false))
 
-abbrev pub slots_at : List ℕ → Outcome → Option (List ℕ)
-slots_at p Match = some p
-slots_at p NoMatch = none
+-- the slots of the n items of a placement, where there is one
+abbrev pub slots_at : ℕ → Option (List ℕ) → math.Option (List ℕ)
+slots_at n (Some slots) = math.some (take n slots)
+slots_at n None = math.none

@@ -1,5 +1,5 @@
 -- What the first match comes with: its slots, and the values of its variables. Rests on Next and the meaning's FirstMatch.
-use Rattle.std.specs.Prelude.{ℕ, ◌+◌, ◌<◌, ◌≤◌, ◌≡◌, ◌⊎◌, false, List, length, get_or, take}
+use Rattle.std.specs.Prelude.{ℕ, ◌+◌, ◌<◌, ◌≤◌, ◌≡◌, ◌⊎◌, false, Option, Some, List, length, get_or, take}
 use Rattle.std.proofs.Math.Option.{some}
 use Rattle.meaning.specs.Basics.{absent}
 use Rattle.meaning.specs.Numbers.{whole}
@@ -12,8 +12,6 @@ use Rattle.meaning.specs.declared.Layout.{Layout}
 use Rattle.values.specs.Values.{values_of, Stored, values_room}
 use Rattle.matching.specs.Next.{Of, slots_at}
 use Rattle.meaning.specs.Matching.{total}
-use Rattle.matching.specs.declared.Outcome.TheVariants.{Match}
-use Rattle.matching.specs.declared.Matched.{Matched}
 
 -- atoms are copied to a place, and nothing else changes
 pub record Copied (start : ℕ) (new before after : List ℕ) : Type 0 where
@@ -29,18 +27,17 @@ HasValues h r p n lens atoms =
 
 module _ (L : Layout) (nodes edges bs : List ℕ) where
   -- the first placement of the rule that the plan is of, or none, with the values that it gives
-  pub record Sought (plan : List ℕ) (x : Matched) (lens atoms : List ℕ) : Type 0 where
-    pub room : length x.slots ≡ most_items
+  pub record Sought (plan : List ℕ) (x : Option (List ℕ)) (lens atoms : List ℕ) : Type 0 where
+    pub room : (slots : List ℕ) → x ≡ Some slots → length slots ≡ most_items
     pub arrays : Stored lens atoms
-    pub right : Of bs plan (λ r. slots_at (take (total r) x.slots) x.outcome ≡ first_match (host_of L nodes edges) r)
-    pub values : Of bs plan (λ r. x.outcome ≡ Match
-        → HasValues (host_of L nodes edges) r (take (total r) x.slots) (length r.variables) lens atoms)
+    pub right : Of bs plan (λ r. slots_at (total r) x ≡ first_match (host_of L nodes edges) r)
+    pub values : Of bs plan (λ r. (slots : List ℕ) → x ≡ Some slots
+        → HasValues (host_of L nodes edges) r (take (total r) slots) (length r.variables) lens atoms)
 
   -- the first match of the rule that the bytes are, with the values of the variables that occur on the left
-  pub record IsFirst (x : Matched) (lens atoms : List ℕ) : Type 0 where
-    pub room : length x.slots ≡ most_items
+  pub record IsFirst (x : Option (List ℕ)) (lens atoms : List ℕ) : Type 0 where
+    pub room : (slots : List ℕ) → x ≡ Some slots → length slots ≡ most_items
     pub arrays : Stored lens atoms
-    pub right : (r : Rule) → rule bs ≡ some r → slots_at (take (total r) x.slots) x.outcome ≡ first_match
-        (host_of L nodes edges) r
-    pub values : (r : Rule) → rule bs ≡ some r → x.outcome ≡ Match → (v : ℕ) → absent v (names r.left) ≡ false
-        → values_of lens atoms v ≡ assigned (host_of L nodes edges) r (take (total r) x.slots) v
+    pub right : (r : Rule) → rule bs ≡ some r → slots_at (total r) x ≡ first_match (host_of L nodes edges) r
+    pub values : (r : Rule) → rule bs ≡ some r → (slots : List ℕ) → x ≡ Some slots → (v : ℕ) → absent v (names r.left) ≡ false
+        → values_of lens atoms v ≡ assigned (host_of L nodes edges) r (take (total r) slots) v

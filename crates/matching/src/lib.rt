@@ -1,8 +1,7 @@
 // The search for the first match: nested loops over candidate node and edge slots, left from inside at the first full match.
 #![tactic(auto)]
 
-ghost use Rattle.std.specs.Prelude.{◌≡◌, false, ℕ, ◌+◌, ◌<◌, ◌≤◌, length, get_or, take, replicate};
-ghost use Rattle.meaning.specs.Image.{most_items};
+ghost use Rattle.std.specs.Prelude.{◌≡◌, false, ℕ, ◌+◌, ◌<◌, ◌≤◌, length, get_or, take};
 ghost use Rattle.meaning.specs.FirstMatch.{node_fits, complete as is_complete};
 ghost use Rattle.graph.specs.Graph.{Legal};
 ghost use Rattle.meaning.specs.Layout.{host_of};
@@ -12,18 +11,10 @@ ghost use Rattle.matching.specs.Next.{Handed, Ready, Of, end_of, Meets, NextSlot
 ghost use Rattle.meaning.specs.Matching.{total};
 ghost use Rattle.values.specs.Values.{Stored, values_room};
 ghost use Rattle.matching.specs.Values.{Copied, HasValues, Sought, IsFirst};
-ghost use Rattle.matching.specs.declared.Outcome.TheVariants.{Match, NoMatch};
 
 use meaning::{Layout, Room};
 use plan::{At, Side};
 use slots::laid;
-
-// The next slot that fits, or none.
-#[derive(Clone, Copy)]
-pub enum Next {
-    At(usize),
-    Nothing,
-}
 
 // What to do at a level: stop at a full match, take a slot, or go back.
 #[derive(Clone, Copy)]
@@ -31,41 +22,6 @@ pub enum Step {
     Full,
     Take(usize),
     Back,
-}
-
-#[derive(Clone, Copy)]
-pub enum Outcome {
-    Match,
-    NoMatch,
-}
-
-// The slots stand beside the outcome, and mean something where it is Match: node slots in left order, then edge slots.
-#[derive(Drop)]
-pub struct Matched {
-    pub slots: [usize; Room::ITEMS],
-    pub outcome: Outcome,
-}
-
-impl Matched {
-    // No match.
-    pub fn none() -> Self
-        ensures { result ≡ record { outcome = NoMatch; slots = replicate most_items 0 } }
-    {
-        Matched {
-            outcome: Outcome::NoMatch,
-            slots: [0; Room::ITEMS],
-        }
-    }
-
-    // The match at these slots.
-    pub fn at(slots: [usize; Room::ITEMS]) -> Self
-        ensures { result ≡ record { outcome = Match; slots = slots } }
-    {
-        Matched {
-            outcome: Outcome::Match,
-            slots,
-        }
-    }
 }
 
 // Candidates for a left node, from the edges that link it to an earlier one.
@@ -77,9 +33,10 @@ fn edge_end(l: Layout, nodes: &[u8], edges: &[u8], leaving: bool, x: usize) -> u
     ensures { result ≡ end_of (host_of l nodes.now edges.now) leaving x }
 {
     if leaving {
-        return graph::edge_source(l, nodes, edges, x);
+        graph::edge_source(l, nodes, edges, x)
+    } else {
+        graph::edge_target(l, nodes, edges, x)
     }
-    graph::edge_target(l, nodes, edges, x)
 }
 
 // The other end of edge x, if that is lower than `best` and at c or above, and the edge is live, has one end at slot p and its
@@ -100,22 +57,14 @@ fn nearer(
     requires c_le_best { c ≤ best }
     ensures { (c ≤ result) × (result ≤ best) × ((y : ℕ) → c ≤ y → y < result → Meets (host_of l nodes.now edges.now) mark p leaving x y → ⊥) }
 {
-    if !graph::edge_live(l, nodes, edges, x) {
-        return best;
-    }
-    if edge_end(l, nodes, edges, leaving, x) != p {
-        return best;
-    }
-    if !fitting::marks_agree(mark, graph::edge_mark(l, nodes, edges, x)) {
+    let meets = graph::edge_live(l, nodes, edges, x)
+        && edge_end(l, nodes, edges, leaving, x) == p
+        && fitting::marks_agree(mark, graph::edge_mark(l, nodes, edges, x));
+    if !meets {
         return best;
     }
     let e = edge_end(l, nodes, edges, !leaving, x);
-    if c <= e {
-        if e < best {
-            return e;
-        }
-    }
-    best
+    if c <= e && e < best { e } else { best }
 }
 
 // The lowest slot from c to n that an edge whose mark agrees joins to slot p; n if there is none.
@@ -133,12 +82,9 @@ fn next_end(
     requires c_le_n { c ≤ n }
     ensures { (c ≤ result) × ((y x : ℕ) → c ≤ y → y < result → x < length (host_of l nodes.now edges.now).edges → Meets (host_of l nodes.now edges.now) mark p leaving x y → ⊥) }
 {
-    let count = graph::edge_slots(l, edges);
     let mut best = n;
-    let mut x: usize = 0;
-    while x < count {
+    for x in 0..graph::edge_slots(l, edges) {
         best = nearer(l, nodes, edges, mark, p, leaving, x, c, best);
-        x += 1;
     }
     best
 }
@@ -160,24 +106,17 @@ fn next_candidate(
     requires i_bound { (i < get_or plan.now nodes_at 0) × (c ≤ n) }
     ensures { (c ≤ result) × Of rule.now plan.now (λ r. (x : ℕ) → c ≤ x → x < result → node_fits (host_of l nodes.now edges.now) r (take i at.now) i x ≡ false) }
 {
-    let m = plan[At::EDGES];
-    let mut k: usize = 0;
-    while k < m {
+    for k in 0..plan[At::EDGES] {
         let s = plan::end_of(rule, plan, k, Side::Source);
         let t = plan::end_of(rule, plan, k, Side::Target);
-        if t == i {
-            if s < i {
-                let mark = plan::mark(rule, plan, plan[At::NODES] + k);
-                return next_end(l, nodes, edges, mark, at[s], true, c, n);
-            }
+        if t == i && s < i {
+            let mark = plan::mark(rule, plan, plan[At::NODES] + k);
+            return next_end(l, nodes, edges, mark, at[s], true, c, n);
         }
-        if s == i {
-            if t < i {
-                let mark = plan::mark(rule, plan, plan[At::NODES] + k);
-                return next_end(l, nodes, edges, mark, at[t], false, c, n);
-            }
+        if s == i && t < i {
+            let mark = plan::mark(rule, plan, plan[At::NODES] + k);
+            return next_end(l, nodes, edges, mark, at[t], false, c, n);
         }
-        k += 1;
     }
     c
 }
@@ -185,16 +124,16 @@ fn next_candidate(
 // The next slot.
 
 // The first slot at c or above that is likely for left node i.
-fn next_node<'a>(
+fn next_node(
     l: Layout,
-    nodes: &'a [u8],
-    edges: &'a [u8],
+    nodes: &[u8],
+    edges: &[u8],
     rule: &[u8],
     plan: &[usize; At::LENGTH],
     at: &[usize; Room::ITEMS],
     i: usize,
     c: usize,
-) -> Next
+) -> Option<usize>
     requires ready { Ready l nodes.now edges.now rule.now plan.now at.now i }
     requires i_bound { i < get_or plan.now nodes_at 0 }
     ensures { Of rule.now plan.now (λ r. NextLikely (host_of l nodes.now edges.now) r (get_or plan.now (sort_at + i) 0) (take i at.now) i c result) }
@@ -204,35 +143,35 @@ fn next_node<'a>(
     while x < n {
         let y = next_candidate(l, nodes, edges, rule, plan, at, i, x, n);
         if y >= n {
-            return Next::Nothing;
+            return None;
         }
         let z = fitting::next_like(l, nodes, edges, rule, plan, i, y, n);
         if z >= n {
-            return Next::Nothing;
+            return None;
         }
         if z == y {
             if fitting::node_likely(l, nodes, edges, rule, plan, at, i, z) {
-                return Next::At(z);
+                return Some(z);
             }
             x = z + 1;
         } else {
             x = z;
         }
     }
-    Next::Nothing
+    None
 }
 
 // The first slot at c or above that is likely for the left edge that is item i.
-fn next_edge<'a>(
+fn next_edge(
     l: Layout,
-    nodes: &'a [u8],
-    edges: &'a [u8],
+    nodes: &[u8],
+    edges: &[u8],
     rule: &[u8],
     plan: &[usize; At::LENGTH],
     at: &[usize; Room::ITEMS],
     i: usize,
     c: usize,
-) -> Next
+) -> Option<usize>
     requires ready { Ready l nodes.now edges.now rule.now plan.now at.now i }
     requires nodes_at_bound { (get_or plan.now nodes_at 0 ≤ i) × (i < get_or plan.now nodes_at 0 + get_or plan.now edges_at 0) }
     ensures { Of rule.now plan.now (λ r. NextLikely (host_of l nodes.now edges.now) r (get_or plan.now (sort_at + i) 0) (take i at.now) i c result) }
@@ -242,77 +181,65 @@ fn next_edge<'a>(
     let b = plan::end_of(rule, plan, k, Side::Target);
     let s = at[a];
     let t = at[b];
-    let n = graph::edge_slots(l, edges);
-    let mut x = c;
-    while x < n {
-        if fitting::edge_likely(l, nodes, edges, rule, plan, at, i, s, t, x) {
-            return Next::At(x);
-        }
-        x += 1;
-    }
-    Next::Nothing
+    (c..graph::edge_slots(l, edges)).find(|&x| fitting::edge_likely(
+        l, nodes, edges, rule, plan, at, i, s, t, x,
+    ))
 }
 
 // The first slot at c or above that is likely for item i, behind at[..i].
-fn next_likely<'a>(
+fn next_likely(
     l: Layout,
-    nodes: &'a [u8],
-    edges: &'a [u8],
+    nodes: &[u8],
+    edges: &[u8],
     rule: &[u8],
     plan: &[usize; At::LENGTH],
     at: &[usize; Room::ITEMS],
     i: usize,
     c: usize,
-) -> Next
+) -> Option<usize>
     requires ready { Ready l nodes.now edges.now rule.now plan.now at.now i }
     requires i_bound { i < get_or plan.now nodes_at 0 + get_or plan.now edges_at 0 }
     ensures { Of rule.now plan.now (λ r. NextLikely (host_of l nodes.now edges.now) r (get_or plan.now (sort_at + i) 0) (take i at.now) i c result) }
 {
     if i < plan[At::NODES] {
-        return next_node(l, nodes, edges, rule, plan, at, i, c);
+        next_node(l, nodes, edges, rule, plan, at, i, c)
+    } else {
+        next_edge(l, nodes, edges, rule, plan, at, i, c)
     }
-    next_edge(l, nodes, edges, rule, plan, at, i, c)
 }
 
 // The first that fits.
-fn next_slot<'a>(
+fn next_slot(
     l: Layout,
-    nodes: &'a [u8],
-    edges: &'a [u8],
+    nodes: &[u8],
+    edges: &[u8],
     rule: &[u8],
     plan: &[usize; At::LENGTH],
     at: &[usize; Room::ITEMS],
     i: usize,
     c: usize,
-) -> Next
+) -> Option<usize>
     requires ready { Ready l nodes.now edges.now rule.now plan.now at.now i }
     requires i_bound { i < get_or plan.now nodes_at 0 + get_or plan.now edges_at 0 }
     ensures { Of rule.now plan.now (λ r. NextSlot (host_of l nodes.now edges.now) r (take i at.now) c result) }
 {
     let mut x = c;
-    loop {
-        let next = next_likely(l, nodes, edges, rule, plan, at, i, x);
-        match next {
-            Next::At(y) => {
-                if testing::rest_fits(l, nodes, edges, rule, plan, at, i, y) {
-                    return Next::At(y);
-                }
-                x = y + 1;
-            }
-            Next::Nothing => {
-                return Next::Nothing;
-            }
+    while let Some(y) = next_likely(l, nodes, edges, rule, plan, at, i, x) {
+        if testing::rest_fits(l, nodes, edges, rule, plan, at, i, y) {
+            return Some(y);
         }
+        x = y + 1;
     }
+    None
 }
 
 // The levels of the search.
 
 // Whether a full placement is a match: nothing is left dangling, and the tests hold.
-fn complete<'a>(
+fn complete(
     l: Layout,
-    nodes: &'a [u8],
-    edges: &'a [u8],
+    nodes: &[u8],
+    edges: &[u8],
     rule: &[u8],
     plan: &[usize; At::LENGTH],
     at: &[usize; Room::ITEMS],
@@ -320,19 +247,16 @@ fn complete<'a>(
     requires { Ready l nodes.now edges.now rule.now plan.now at.now (get_or plan.now nodes_at 0 + get_or plan.now edges_at 0) }
     ensures { Of rule.now plan.now (λ r. result ≡ is_complete (host_of l nodes.now edges.now) r (take (total r) at.now)) }
 {
-    if plan[At::INTERFACE] < plan[At::NODES] {
-        if fitting::any_dangles(l, nodes, edges, plan, at) {
-            return false;
-        }
-    }
-    testing::all_tests(l, nodes, edges, rule, plan, at)
+    let dangling = plan[At::INTERFACE] < plan[At::NODES]
+        && fitting::any_dangles(l, nodes, edges, plan, at);
+    !dangling && testing::all_tests(l, nodes, edges, rule, plan, at)
 }
 
 // What to do at level i, where the slots from c on are left to try.
-fn advance<'a>(
+fn advance(
     l: Layout,
-    nodes: &'a [u8],
-    edges: &'a [u8],
+    nodes: &[u8],
+    edges: &[u8],
     rule: &[u8],
     plan: &[usize; At::LENGTH],
     at: &[usize; Room::ITEMS],
@@ -344,15 +268,15 @@ fn advance<'a>(
     ensures { Of rule.now plan.now (λ r. IsStep (host_of l nodes.now edges.now) r (take i at.now) i c result) }
 {
     if i == plan[At::NODES] + plan[At::EDGES] {
-        if complete(l, nodes, edges, rule, plan, at) {
-            return Step::Full;
-        }
-        return Step::Back;
+        return if complete(l, nodes, edges, rule, plan, at) {
+            Step::Full
+        } else {
+            Step::Back
+        };
     }
-    let next = next_slot(l, nodes, edges, rule, plan, at, i, c);
-    match next {
-        Next::At(x) => Step::Take(x),
-        Next::Nothing => Step::Back,
+    match next_slot(l, nodes, edges, rule, plan, at, i, c) {
+        Some(x) => Step::Take(x),
+        None => Step::Back,
     }
 }
 
@@ -363,19 +287,16 @@ fn put_atoms(atoms: &mut [u32; Room::ATOMS], start: usize, a: &[u8])
     requires { (start + length (laid a.now) ≤ values_room) × (length atoms.old ≡ values_room) }
     ensures { Copied start (laid a.now) atoms.old atoms.new }
 {
-    let n = laid::count(a);
-    let mut j: usize = 0;
-    while j < n {
+    for j in 0..laid::count(a) {
         atoms[start + j] = laid::atom(a, j);
-        j += 1;
     }
 }
 
 // Writes the values that a full placement gives the variables: variable v has lens[v] atoms, from atoms[labels::MOST * v] on.
-fn assign<'a>(
+fn assign(
     l: Layout,
-    nodes: &'a [u8],
-    edges: &'a [u8],
+    nodes: &[u8],
+    edges: &[u8],
     rule: &[u8],
     plan: &[usize; At::LENGTH],
     at: &[usize; Room::ITEMS],
@@ -386,34 +307,28 @@ fn assign<'a>(
     requires stored { Stored lens.old atoms.old }
     ensures { Stored lens.new atoms.new × Of rule.now plan.now (λ r. HasValues (host_of l nodes.now edges.now) r (take (total r) at.now) (length r.variables) lens.new atoms.new) }
 {
-    let types = plan::types(rule, plan);
-    let n = types.len();
     let m = plan[At::NODES] + plan[At::EDGES];
-    let mut v: usize = 0;
-    while v < n {
+    for v in 0..plan::types(rule, plan).len() {
         if plan[At::FIRST + v] < m {
             let a = agreeing::value(l, nodes, edges, rule, plan, at, Room::ITEMS, 0, v);
             lens[v] = laid::count(a);
             put_atoms(atoms, labels::MOST * v, a);
-            v += 1;
-        } else {
-            v += 1;
         }
     }
 }
 
 // The search.
 
-// The first placement of the left items, with the values of the variables.
-fn search<'a>(
+// The first placement of the left items, node slots in left order and then edge slots, with the values of the variables.
+fn search(
     l: Layout,
-    nodes: &'a [u8],
-    edges: &'a [u8],
+    nodes: &[u8],
+    edges: &[u8],
     rule: &[u8],
     plan: &[usize; At::LENGTH],
     lens: &mut [usize; Room::VARIABLES],
     atoms: &mut [u32; Room::ATOMS],
-) -> Matched
+) -> Option<[usize; Room::ITEMS]>
     requires handed { Handed l nodes.now edges.now rule.now plan.now }
     requires stored { Stored lens.old atoms.old }
     ensures { Sought l nodes.now edges.now rule.now plan.now result lens.new atoms.new }
@@ -423,8 +338,7 @@ fn search<'a>(
     let mut c: usize = 0;
     'found: loop {
         loop {
-            let s = advance(l, nodes, edges, rule, plan, &at, i, c);
-            match s {
+            match advance(l, nodes, edges, rule, plan, &at, i, c) {
                 Step::Full => break 'found,
                 Step::Take(x) => {
                     at[i] = x;
@@ -435,30 +349,26 @@ fn search<'a>(
             }
         }
         if i == 0 {
-            // the array that the other exit hands out too, so that the compiler keeps one
-            return Matched {
-                slots: at,
-                outcome: Outcome::NoMatch,
-            };
+            return None;
         }
         i -= 1;
         c = at[i] + 1;
     }
     assign(l, nodes, edges, rule, plan, &at, lens, atoms);
-    Matched::at(at)
+    Some(at)
 }
 
-// The first match of a rule, from its part of the image. The caller lends room for the rule's plan and for the values of its
+// The slots of the first match of a rule, from its part of the image. The caller lends room for the rule's plan and for the values of its
 // variables.
-pub fn first_match<'a>(
+pub fn first_match(
     l: Layout,
-    nodes: &'a [u8],
-    edges: &'a [u8],
+    nodes: &[u8],
+    edges: &[u8],
     rule: &[u8],
     plan: &mut [usize; At::LENGTH],
     lens: &mut [usize; Room::VARIABLES],
     atoms: &mut [u32; Room::ATOMS],
-) -> Matched
+) -> Option<[usize; Room::ITEMS]>
     requires legal { Legal l nodes.now edges.now }
     requires rule { IsRule rule.now }
     requires plan_len { (length plan.old ≡ plan_length) × Stored lens.old atoms.old }

@@ -23,8 +23,8 @@ returns c =
         room = sought.room;
         arrays = sought.arrays;
         right = λ r e. sought.right (record { rule = r; planned = made.ensures r e });
-        values = λ r e q v k.
+        values = λ r e slots q v k.
             let t = on-left r (made.ensures r e).laid.holds v k in
-            sought.values (record { rule = r; planned = made.ensures r e }) q v t.0 t.1;
+            sought.values (record { rule = r; planned = made.ensures r e }) slots q v t.0 t.1;
       },
     )

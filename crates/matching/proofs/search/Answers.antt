@@ -1,4 +1,4 @@
-use Rattle.std.proofs.Common.{ℕ, ◌+◌, ◌-◌, ◌≡◌, refl, sym, arith, le_refl, get_or, take}
+use Rattle.std.proofs.Common.{◌+◌, ◌-◌, ◌≡◌, refl, sym, arith, le_refl, get_or, take}
 use Rattle.meaning.specs.Layout.{host_of}
 use Rattle.agreeing.specs.Placed.{Known}
 use Rattle.agreeing.specs.Trials.{few-items}
@@ -15,14 +15,14 @@ took : (c : In-Take)
     (w : Known a.rule.now a.plan.now)
     → IsStep (host_of a.l a.nodes.now a.edges.now) w.rule (take c.loop-x.i c.loop-x.at) c.loop-x.i c.loop-x.c
     (Take c.in-Take.x)
-took c w = rw c.in-Take.is at (c.advance-s.ensures w)
+took c w = rw c.in-Take.is at (c.advance.ensures w)
 
 stopped : (c : In-Full)
     → let a = c.args in
     (w : Known a.rule.now a.plan.now)
     → IsStep (host_of a.l a.nodes.now a.edges.now) w.rule (take c.loop-x.i c.loop-x.at) c.loop-x.i c.loop-x.c
     Full
-stopped c w = rw c.in-Full.is at (c.advance-s.ensures w)
+stopped c w = rw c.in-Full.is at (c.advance.ensures w)
 
 pub found-init : goal.found-init
 found-init c = λ w. begin _ _ _ refl
@@ -30,8 +30,8 @@ found-init c = λ w. begin _ _ _ refl
 pub loop-x-init : goal.loop-x-init
 loop-x-init c = (c.found.invariant, le_refl _)
 
-pub advance-s-requires : goal.advance-s-requires
-advance-s-requires c =
+pub advance-requires : goal.advance-requires
+advance-requires c =
     let loop = c.loop-x in record {
       ready = ready _ _ _ _ _ _ _ _ c.requires.handed (loop.invariant.0 c.requires.handed.known);
       i_bound = omega
@@ -70,12 +70,12 @@ pub returns-then-i-eq0 : goal.returns-then-i-eq0
 returns-then-i-eq0 c =
     let a = c.args in
     record {
-      room = (c.loop-x.invariant.0 c.requires.handed.known).room;
+      room = λ slots e. absurd (cc);
       arrays = c.requires.stored;
       right = λ w. ended (host_of a.l a.nodes.now a.edges.now) w.rule (few-items w) c.loop-x.at c.loop-x.i
           c.loop-x.c (c.loop-x.invariant.0 w)
-          (rw c.in-Back.is at (c.advance-s.ensures w)) c.if-i-eq0.true;
-      values = λ w e. let z : ◌≡◌ {A = ℕ} 0 1 = cc in absurd (omega arith);
+          (rw c.in-Back.is at (c.advance.ensures w)) c.if-i-eq0.true;
+      values = λ w slots e. absurd (cc);
     }
 
 pub offset_bounds-at-i-in-found : goal.offset_bounds-at-i-in-found
@@ -114,7 +114,7 @@ pub found-preserved : goal.found-preserved
 found-preserved c =
     let a = c.args in
     λ w. popped (host_of a.l a.nodes.now a.edges.now) w.rule (few-items w) c.loop-x.at c.loop-x.i
-    c.loop-x.c (c.loop-x.invariant.0 w) (rw c.in-Back.is at (c.advance-s.ensures w))
+    c.loop-x.c (c.loop-x.invariant.0 w) (rw c.in-Back.is at (c.advance.ensures w))
     (omega arith)
 
 pub assign-requires : goal.assign-requires
@@ -133,11 +133,10 @@ assign-requires c =
 pub returns : goal.returns
 returns c =
     let a = c.args in
-    rw c.at.ensures
-    (record {
-      room = (c.loop-x.invariant.0 c.requires.handed.known).room;
+    record {
+      room = λ slots e. let q : c.loop-x.at ≡ slots = cc in rw q at (c.loop-x.invariant.0 c.requires.handed.known).room;
       arrays = c.assign.ensures.0;
       right = λ w. found_first (host_of a.l a.nodes.now a.edges.now) w.rule (few-items w) c.loop-x.at
           c.loop-x.i c.loop-x.c (c.loop-x.invariant.0 w) (stopped (goal.at.returns c).In-Full w).0 (stopped (goal.at.returns c).In-Full w).1;
-      values = λ w e. c.assign.ensures.1 w;
-    })
+      values = λ w slots e. let q : c.loop-x.at ≡ slots = cc in rw q at (c.assign.ensures.1 w);
+    }

@@ -1,6 +1,6 @@
 -- `matching::search` meets its contract. The loops' invariant: the answer from here on is the answer from the start. Their measure: a
 -- weighted count of the candidates that are left.
-use Rattle.std.proofs.Common.{◌+◌, ◌-◌, ◌≤◌, get_or}
+use Rattle.std.proofs.Common.{◌+◌, ◌≤◌, get_or}
 use Rattle.meaning.specs.Layout.{host_of}
 use Rattle.matching.specs.Next.{Of}
 use Rattle.matching.proofs.Odometer.{Going, work}
