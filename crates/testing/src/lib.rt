@@ -44,17 +44,8 @@ fn atom(
     if tag == Tag::CONSTANT {
         parts::word_of(p)
     } else {
-        agreeing::variable_atom(
-            l,
-            nodes,
-            edges,
-            rule,
-            plan,
-            at,
-            i,
-            c,
-            parts::number_at(p, 0),
-        )
+        let v = parts::number_at(p, 0);
+        agreeing::variable_atom(l, nodes, edges, rule, plan, at, i, c, v)
     }
 }
 
@@ -80,30 +71,10 @@ fn relation_holds(
     let Some(Ok(right)) = fields::read_field(p, left.end) else {
         return false;
     };
-    let a = atom(
-        l,
-        nodes,
-        edges,
-        rule,
-        plan,
-        at,
-        i,
-        c,
-        left.tag,
-        &p[left.start..left.end],
-    );
-    let b = atom(
-        l,
-        nodes,
-        edges,
-        rule,
-        plan,
-        at,
-        i,
-        c,
-        right.tag,
-        &p[right.start..right.end],
-    );
+    let first = &p[left.start..left.end];
+    let a = atom(l, nodes, edges, rule, plan, at, i, c, left.tag, first);
+    let second = &p[right.start..right.end];
+    let b = atom(l, nodes, edges, rule, plan, at, i, c, right.tag, second);
     if parts::byte_at(p, 0) == Relation::EQUAL {
         a == b
     } else {
@@ -133,13 +104,10 @@ fn condition_holds(
     }
     let s = slot_of(at, i, c, parts::number_at(p, 0));
     match tag {
-        Tag::EDGE_TEST => graph::any_runs(
-            l,
-            nodes,
-            edges,
-            s,
-            slot_of(at, i, c, parts::number_at(p, 1)),
-        ),
+        Tag::EDGE_TEST => {
+            let t = slot_of(at, i, c, parts::number_at(p, 1));
+            graph::any_runs(l, nodes, edges, s, t)
+        }
         Tag::IN_DEGREE => graph::in_degree(l, nodes, edges, s) == parts::degree_of(p),
         _ => graph::out_degree(l, nodes, edges, s) == parts::degree_of(p),
     }
@@ -166,18 +134,8 @@ fn test_holds(
         return false;
     };
     let p = &tests[start..end];
-    let holds = condition_holds(
-        l,
-        nodes,
-        edges,
-        rule,
-        plan,
-        at,
-        i,
-        c,
-        tag,
-        parts::behind(p, 1),
-    );
+    let rest = parts::behind(p, 1);
+    let holds = condition_holds(l, nodes, edges, rule, plan, at, i, c, tag, rest);
     if parts::flag(p) { !holds } else { holds }
 }
 

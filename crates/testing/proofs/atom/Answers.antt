@@ -9,8 +9,8 @@ pub variable_atom-requires : goal.variable_atom-requires
 variable_atom-requires c =
     record {
       legal = c.requires.legal;
-      has_value = of-operand c.requires.has_operand _ c.if-tag-eq-CONSTANT.false c.number_at.ensures.0;
+      has_value = of-operand c.requires.has_operand _ c.if-tag-eq-CONSTANT.false c.number_at-v.ensures.0;
     }
 
 pub returns-else-tag-eq-CONSTANT : goal.returns-else-tag-eq-CONSTANT
-returns-else-tag-eq-CONSTANT c = λ w. variable-atom w _ c.if-tag-eq-CONSTANT.false c.number_at.ensures.0 _ _ (c.variable_atom.ensures (of-operand w _ c.if-tag-eq-CONSTANT.false c.number_at.ensures.0))
+returns-else-tag-eq-CONSTANT c = λ w. variable-atom w _ c.if-tag-eq-CONSTANT.false c.number_at-v.ensures.0 _ _ (c.variable_atom.ensures (of-operand w _ c.if-tag-eq-CONSTANT.false c.number_at-v.ensures.0))
