@@ -176,12 +176,7 @@ pub fn all_tests(
     requires full { Full (host_of l nodes.now edges.now) rule.now plan.now at.now most_items 0 }
     ensures { (w : Full (host_of l nodes.now edges.now) rule.now plan.now at.now most_items 0) → result ≡ every (test_holds (host_of l nodes.now edges.now) w.trial.placed (assigned (host_of l nodes.now edges.now) w.trial.rule w.trial.placed)) w.trial.rule.tests }
 {
-    for t in 0..plan[At::TESTS] {
-        if !test_holds(l, nodes, edges, rule, plan, at, Room::ITEMS, 0, t) {
-            return false;
-        }
-    }
-    true
+    (0..plan[At::TESTS]).all(|t| test_holds(l, nodes, edges, rule, plan, at, Room::ITEMS, 0, t))
 }
 
 // Whether slot c, which is likely for item i, fits it.
