@@ -13,7 +13,6 @@ use lib.Dec.{ltb}
 use lib.ListN.{length, get_or, take, drop, length-drop, length-map, drop_of_length-le}
 use lib.Seq.{drop-cons, take_all}
 use Rattle.meaning.specs.Basics.{choose, both, same}
-use Rattle.meaning.specs.Laws.Tests.{choose_true, choose_false}
 use Rattle.text.specs.Grammar.{index, known}
 use Rattle.text.specs.Text.{apart}
 use Rattle.lexing.specs.Lexing.{name_at}

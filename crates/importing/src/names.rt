@@ -8,7 +8,9 @@ ghost use Rattle.importing.specs.Names.{names_at, Found, EndsKnown, AllEndsKnown
 pub fn find(text: &[u8], places: &[usize], at: usize) -> Option<usize>
     ensures { Found (name_at text.now at) (names_at text.now places.now) result }
 {
-    places.iter().position(|place| lexing::same_name(text, *place, at))
+    places
+        .iter()
+        .position(|place| lexing::same_name(text, *place, at))
 }
 
 // Whether no two of these names are the same.

@@ -7,9 +7,9 @@ use native.Mathlib.Decide.{dec_lt}
 use native.Mathlib.Omega.{arith}
 use borrow.Author.Tests.{eq-eqb, ne_eqb}
 use Rattle.std.specs.Prelude.{Option, Some, None}
-use lib.ListN.{length, get_or}
-use Rattle.meaning.specs.Basics.{both, either, same}
-use Rattle.text.specs.Words.{is_letter, is_digit, within}
+use lib.ListN.{length}
+use Rattle.meaning.specs.Basics.{both, same}
+use Rattle.text.specs.Words.{is_letter}
 use Rattle.lexing.specs.Lexing.{first, name_at}
 use Rattle.lexing.proofs.Places.{byte}
 use Rattle.lexing.proofs.Names.{run-letter, run-other, run_end}

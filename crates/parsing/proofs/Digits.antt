@@ -12,7 +12,7 @@ use Rattle.std.specs.List.{list_all}
 use Rattle.std.proofs.Common.{◌&&◌}
 use Rattle.meaning.specs.Basics.{both, every}
 use Rattle.meaning.specs.Numbers.{whole}
-use Rattle.meaning.specs.Laws.Tests.{both_of, both_true, not_so, every_append, every_true}
+use Rattle.meaning.specs.Laws.Tests.{both_true, every_true}
 use Rattle.writing.specs.Words.{digit_zero}
 use Rattle.text.specs.Words.{is_digit, within}
 use Rattle.text.specs.Integers.{value, value_from}
