@@ -1,16 +1,18 @@
 -- Names looked up one after the other, by the places where they begin. Rests on specs/Names and the text's Grammar and Text.
-use mathlib.Core.Path.{◌≡◌, sym, ◌∙◌, ap}
+use mathlib.Core.Path.{◌≡◌, refl, sym, ◌∙◌, ap}
 use mathlib.Core.Bool.{Bool, true, false, not}
-use mathlib.Core.List.{List, ◌∷◌}
-use Prim.Native.Nat.{ℕ, ◌+◌, ◌-◌, ◌<◌, ◌≤◌}
+use mathlib.Core.List.{List, [], ◌∷◌}
+use Prim.Native.Nat.{ℕ, suc, ◌+◌, ◌-◌, ◌<◌, ◌≤◌}
 use native.Mathlib.Numerals.{add-one}
 use native.Mathlib.Omega.{arith}
 use borrow.Author.Tests.{lt-ltb, le-ltb}
-use Rattle.std.specs.Prelude.{Option, Some, None, is_some}
+use Rattle.std.specs.Prelude.{Option, Some, None, is_some, cond}
+use Rattle.std.specs.List.{position_or_len}
+use native.Mathlib.Decide.{dec_lt}
+use lib.Dec.{ltb}
 use lib.ListN.{length, get_or, take, drop, length-drop, length-map, drop_of_length-le}
 use lib.Seq.{drop-cons, take_all}
-use Rattle.meaning.specs.Basics.{both, same}
-use Rattle.meaning.specs.Laws.Tests.{choose_true, choose_false}
+use Rattle.meaning.specs.Basics.{choose, both, same}
 use Rattle.text.specs.Grammar.{index, known}
 use Rattle.text.specs.Text.{apart}
 use Rattle.lexing.specs.Lexing.{name_at}
@@ -20,34 +22,43 @@ module _ (bs ps : List ℕ) where
   names_cons : (i : ℕ) → i < length ps → names_at bs (drop i ps) ≡ name_at bs (get_or ps i 0) ∷ names_at bs (drop (i + 1) ps)
   names_cons i h = rw (add-one i, drop-cons ps i 0 h)
 
-  -- How many names there are in front of one: the first i are others.
+  -- One that is looked up, by its place among the places.
 
   module _ (id : List ℕ) where
-    abbrev pub Others : ℕ → Type 0
-    Others i = index id (names_at bs ps) ≡ i + index id (names_at bs (drop i ps))
+    abbrev is_it : ℕ → Bool
+    is_it p = same (name_at bs p) id
 
-    pub others-none : Others 0
-    others-none = omega arith
+    position-index : (l : List ℕ) → position_or_len is_it l ≡ index id (names_at bs l)
+    unfolding index choose
+    position-index [] = refl
+    position-index (p ∷ l) = at (is_it p) (position-index l)
+      where
+        at : (b : Bool) → position_or_len is_it l ≡ index id (names_at bs l)
+            → cond (not b) (1 + position_or_len is_it l) 0 ≡ choose b 0 (suc (index id (names_at bs l)))
+        at true e = refl
+        at false e = omega (arith, e)
 
-    module _ (i : ℕ) (so : Others i) where
-      module _ (h : i < length ps) where
-        pub others-more : same (name_at bs (get_or ps i 0)) id ≡ false → Others (i + 1)
-        unfolding index
-        others-more e =
-            let n = ap (index id) (names_cons i h) ∙ choose_false _ _ _ e in
-            omega arith
+    index-short : (l : List (List ℕ)) → index id l ≤ length l
+    unfolding index choose
+    index-short [] = omega arith
+    index-short (a ∷ l) = at (same a id) (index-short l)
+      where
+        at : (b : Bool) → index id l ≤ length l → choose b 0 (suc (index id l)) ≤ length (a ∷ l)
+        at true h = omega arith
+        at false h = omega (arith, h)
 
-        pub others-found : same (name_at bs (get_or ps i 0)) id ≡ true → Found id (names_at bs ps) (Some i)
-        unfolding index
-        others-found e =
-            let n = ap (index id) (names_cons i h) ∙ choose_true _ _ _ e in
-            (omega arith, omega (arith, length-map ps (name_at bs)))
+    pub found-at : (r : Option ℕ) → r ≡ cond (ltb (position_or_len is_it ps) (length ps)) (Some (position_or_len is_it ps)) None
+        → Found id (names_at bs ps) r
+    found-at r e = rw e (at (dec_lt (position_or_len is_it ps) (length ps)))
+      where
+        n : ℕ
+        n = position_or_len is_it ps
 
-      pub others-all : length ps ≤ i → i ≤ length ps → Found id (names_at bs ps) None
-      unfolding index
-      others-all h k =
-          let n = ap (λ l. index id (names_at bs l)) (drop_of_length-le ps h) in
-          omega (arith, length-map ps (name_at bs))
+        at : Dec (n < length ps) → Found id (names_at bs ps) (cond (ltb n (length ps)) (Some n) None)
+        at (yes h) = rw (lt-ltb n (length ps) h) (sym (position-index ps), omega (arith, length-map ps (name_at bs)))
+        at (no h) =
+            rw (le-ltb n (length ps) (omega arith))
+            (omega (arith, position-index ps, index-short (names_at bs ps), length-map ps (name_at bs)))
 
   -- Whether no two are the same: none of the first i is behind itself again.
 

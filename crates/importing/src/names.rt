@@ -8,12 +8,9 @@ ghost use Rattle.importing.specs.Names.{names_at, Found, EndsKnown, AllEndsKnown
 pub fn find(text: &[u8], places: &[usize], at: usize) -> Option<usize>
     ensures { Found (name_at text.now at) (names_at text.now places.now) result }
 {
-    for i in 0..places.len() {
-        if lexing::same_name(text, places[i], at) {
-            return Some(i);
-        }
-    }
-    None
+    places
+        .iter()
+        .position(|place| lexing::same_name(text, *place, at))
 }
 
 // Whether no two of these names are the same.

@@ -1,62 +1,63 @@
 -- Names compared, letter by letter. Rests on Names and on specs/Lexing.
-use mathlib.Core.Path.{◌≡◌, refl, sym, ◌∙◌}
+use mathlib.Core.Path.{◌≡◌, refl, sym, ◌∙◌, ap}
 use mathlib.Core.Bool.{Bool, true, false}
 use mathlib.Core.List.{List, [], ◌∷◌}
 use Prim.Native.Nat.{ℕ, ◌+◌, ◌<◌, ◌≤◌}
 use native.Mathlib.Decide.{dec_lt}
 use native.Mathlib.Omega.{arith}
 use borrow.Author.Tests.{eq-eqb, ne_eqb}
-use lib.ListN.{length, get_or}
-use Rattle.meaning.specs.Basics.{both, either, same}
-use Rattle.text.specs.Words.{is_letter, is_digit, within}
-use Rattle.lexing.specs.Lexing.{name_at}
+use Rattle.std.specs.Prelude.{Option, Some, None}
+use lib.ListN.{length}
+use Rattle.meaning.specs.Basics.{both, same}
+use Rattle.text.specs.Words.{is_letter}
+use Rattle.lexing.specs.Lexing.{first, name_at}
 use Rattle.lexing.proofs.Places.{byte}
 use Rattle.lexing.proofs.Names.{run-letter, run-other, run_end}
 
--- The first letter of a name; 0 where there is none.
+-- The first letter of a name, where it has one.
 
-abbrev pub letter : List ℕ → ℕ → ℕ
-letter bs at = get_or (name_at bs at) 0 0
+abbrev pub letter : List ℕ → ℕ → Option ℕ
+letter bs at = first (name_at bs at)
 
 module _ (bs : List ℕ) (at : ℕ) where
-  pub letter-behind : length bs ≤ at → ◌≡◌ {A = ℕ} 0 (letter bs at)
+  pub letter-behind : length bs ≤ at → None ≡ letter bs at
   letter-behind h = rw (run_end bs at h)
 
-  pub letter-other : at < length bs → is_letter (byte bs at) ≡ false → ◌≡◌ {A = ℕ} 0 (letter bs at)
+  pub letter-other : at < length bs → is_letter (byte bs at) ≡ false → None ≡ letter bs at
   letter-other h e = rw (run-other bs at h e)
 
-  pub letter-here : at < length bs → is_letter (byte bs at) ≡ true → byte bs at ≡ letter bs at
+  pub letter-here : at < length bs → is_letter (byte bs at) ≡ true → Some (byte bs at) ≡ letter bs at
   letter-here h e = rw (run-letter bs at h e)
 
-  no-letter : is_letter (byte bs at) ≡ true → byte bs at ≡ 0 → ⊥
-  unfolding is_letter is_digit within either both
-  no-letter e f = let q = rw f at e in let z : ◌≡◌ {A = ℕ} 0 1 = cc in omega arith
+pub none-some : {b : ℕ} → None ≡ Some b → ⊥
+none-some e = let z : ◌≡◌ {A = ℕ} 0 1 = cc in omega arith
 
-  -- a name with no first letter is empty; any other is its first letter and the name at the next place
-  pub letter-none : letter bs at ≡ 0 → name_at bs at ≡ []
-  letter-none e = found (dec_lt at (length bs)) (is_letter (byte bs at)) refl
-    where
-      found : Dec (at < length bs) → (l : Bool) → is_letter (byte bs at) ≡ l → name_at bs at ≡ []
-      found (no h) l q = run_end bs at (omega arith)
-      found (yes h) false q = run-other bs at h q
-      found (yes h) true q = absurd (no-letter q (letter-here h q ∙ e))
+pub some_same : {a b : ℕ} → Some a ≡ Some b → a ≡ b
+some_same e = cc
 
-  pub letter-some : (letter bs at ≡ 0 → ⊥) → (at < length bs) × (name_at bs at ≡ letter bs at ∷ name_at bs (at + 1))
-  letter-some e = found (dec_lt at (length bs)) (is_letter (byte bs at)) refl
-    where
-      found : Dec (at < length bs) → (l : Bool) → is_letter (byte bs at) ≡ l → (at < length bs) × (name_at bs at ≡ letter bs at ∷ name_at bs (at + 1))
-      found (no h) l q = absurd (e (sym (letter-behind (omega arith))))
-      found (yes h) false q = absurd (e (sym (letter-other h q)))
-      found (yes h) true q = (h, run-letter bs at h q ∙ rw (letter-here h q))
+-- a name with no first letter is empty; any other is its first letter and the name at the next place
+
+pub first-none : (l : List ℕ) → first l ≡ None → l ≡ []
+first-none [] e = refl
+first-none (b ∷ l) e = absurd (none-some (sym e))
+
+pub letter-some : (bs : List ℕ) (at b : ℕ) → letter bs at ≡ Some b → (at < length bs) × (name_at bs at ≡ b ∷ name_at bs (at + 1))
+letter-some bs at b e = found (dec_lt at (length bs)) (is_letter (byte bs at)) refl
+  where
+    found : Dec (at < length bs) → (l : Bool) → is_letter (byte bs at) ≡ l → (at < length bs) × (name_at bs at ≡ b ∷ name_at bs (at + 1))
+    found (no h) l q = absurd (none-some (letter-behind bs at (omega arith) ∙ e))
+    found (yes h) false q = absurd (none-some (letter-other bs at h q ∙ e))
+    found (yes h) true q = (h, run-letter bs at h q ∙ rw (some_same (letter-here bs at h q ∙ e)))
 
 -- Two names.
 
-differ : (l m : List ℕ) → (get_or l 0 0 ≡ get_or m 0 0 → ⊥) → same l m ≡ false
+-- their first letters, which differ, are the same, or are there in none
+differ : (l m : List ℕ) → (first l ≡ first m → ⊥) → same l m ≡ false
 unfolding same both
 differ [] [] e = absurd (e refl)
 differ [] (b ∷ m) e = refl
 differ (a ∷ l) [] e = refl
-differ (a ∷ l) (b ∷ m) e = rw (ne_eqb a b e)
+differ (a ∷ l) (b ∷ m) e = rw (ne_eqb a b (λ q. e (ap Some q)))
 
 -- the names agree up to here
 pub record Agree (bs : List ℕ) (a b k : ℕ) : Type 0 where
@@ -70,22 +71,23 @@ agree-begins bs a b = record { rest = rw (num a, num b); within = omega arith }
     num n = omega arith
 
 module _ (bs : List ℕ) (a b k : ℕ) (g : Agree bs a b k) where
-  pub agree-not : (letter bs (a + k) ≡ letter bs (b + k) → ⊥) → same (name_at bs a) (name_at bs b) ≡ false
-  agree-not e = g.rest ∙ differ _ _ e
+  pub agree-not : (x y : Option ℕ) → x ≡ letter bs (a + k) → y ≡ letter bs (b + k) → (x ≡ y → ⊥) → false ≡ same (name_at bs a) (name_at bs b)
+  agree-not x y e f n = sym (g.rest ∙ differ _ _ (λ q. n (e ∙ q ∙ sym f)))
 
-  pub agree-ends : letter bs (a + k) ≡ letter bs (b + k) → letter bs (a + k) ≡ 0 → same (name_at bs a) (name_at bs b) ≡ true
+  pub agree-ends : None ≡ letter bs (a + k) → None ≡ letter bs (b + k) → true ≡ same (name_at bs a) (name_at bs b)
   unfolding same
-  agree-ends e f = g.rest ∙ rw (letter-none bs (a + k) f, letter-none bs (b + k) (sym e ∙ f))
+  agree-ends e f = sym (g.rest ∙ rw (first-none _ (sym e), first-none _ (sym f)))
 
-  pub agree-more : letter bs (a + k) ≡ letter bs (b + k) → (letter bs (a + k) ≡ 0 → ⊥) → Agree bs a b (k + 1)
+  pub agree-more : (x y : ℕ) → Some x ≡ letter bs (a + k) → Some y ≡ letter bs (b + k) → x ≡ y → Agree bs a b (k + 1)
   unfolding same both
-  agree-more e f =
-      let s = letter-some bs (a + k) f in
-      let t = letter-some bs (b + k) (λ q. f (e ∙ q)) in
+  agree-more x y e f q =
+      let s = letter-some bs (a + k) x (sym e) in
+      let t = letter-some bs (b + k) y (sym f) in
       let h = s.0 in
-      let x : a + (k + 1) ≡ a + k + 1 = omega arith in
-      let y : b + (k + 1) ≡ b + k + 1 = omega arith in
-      record {
-        rest = g.rest ∙ rw (s.1, t.1, x, y, eq-eqb (letter bs (a + k)) (letter bs (b + k)) e);
-        within = omega arith;
-      }
+      let u : a + (k + 1) ≡ a + k + 1 = omega arith in
+      let v : b + (k + 1) ≡ b + k + 1 = omega arith in
+      record { rest = g.rest ∙ rw (s.1, t.1, u, v, eq-eqb x y q); within = omega arith }
+
+  -- letters all over the text
+  pub agree-all : k ≡ length bs → true ≡ same (name_at bs a) (name_at bs b)
+  agree-all e = agree-ends (letter-behind bs (a + k) (omega arith)) (letter-behind bs (b + k) (omega arith))

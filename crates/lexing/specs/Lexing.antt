@@ -13,6 +13,11 @@ unfoldable pub run : List ℕ → List ℕ
 run [] = []
 run (b ∷ bs) = choose (is_letter b) (b ∷ run bs) []
 
+-- the first of some letters, where there is one
+abbrev pub first : List ℕ → Option ℕ
+first [] = None
+first (b ∷ bs) = Some b
+
 -- the name at a place
 abbrev pub name_at : List ℕ → ℕ → List ℕ
 name_at bs at = run (drop at bs)

@@ -5,7 +5,7 @@ ghost use Rattle.std.specs.Prelude.{◌≡◌, true, ◌+◌, ◌<◌, ◌≤◌
 ghost use Rattle.std.proofs.Math.Seq.{slice};
 ghost use Rattle.meaning.specs.Basics.{same};
 ghost use Rattle.text.specs.Words.{is_letter, is_digit, is_white, slash};
-ghost use Rattle.lexing.specs.Lexing.{name_at, NameEnd, LineEnd, CommentEnd, AtSlash, Next};
+ghost use Rattle.lexing.specs.Lexing.{first, name_at, NameEnd, LineEnd, CommentEnd, AtSlash, Next};
 
 // A word where it lies: a sign and the place behind it, or a name between two places.
 #[derive(Clone, Copy)]
@@ -132,37 +132,31 @@ pub fn next_word(text: &[u8], start: usize) -> Option<Token>
     None
 }
 
-// The letter of number k of the name at a place; 0 behind its end.
-fn letter_at(text: &[u8], at: usize, k: usize) -> u8
-    ensures { result ≡ get_or (name_at text.now (at + k)) 0 0 }
+// The letter of number k of the name at a place, where it has so many.
+fn letter_at(text: &[u8], at: usize, k: usize) -> Option<u8>
+    ensures { result ≡ first (name_at text.now (at + k)) }
 {
-    if at < text.len() {
-        if k < text.len() - at {
-            let b = text[at + k];
-            if is_letter(b) {
-                return b;
-            }
+    if at < text.len() && k < text.len() - at {
+        let b = text[at + k];
+        if is_letter(b) {
+            return Some(b);
         }
     }
-    0
+    None
 }
 
 // Whether the names at two places are the same.
 pub fn same_name(text: &[u8], a: usize, b: usize) -> bool
     ensures { result ≡ same (name_at text.now a) (name_at text.now b) }
 {
-    let mut k: usize = 0;
-    loop {
-        let x = letter_at(text, a, k);
-        let y = letter_at(text, b, k);
-        if x != y {
-            return false;
+    for k in 0..text.len() {
+        match (letter_at(text, a, k), letter_at(text, b, k)) {
+            (Some(x), Some(y)) if x == y => {}
+            (None, None) => return true,
+            _ => return false,
         }
-        if x == 0 {
-            return true;
-        }
-        k += 1;
     }
+    true
 }
 
 // Whether the bytes between two places are these.

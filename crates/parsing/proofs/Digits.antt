@@ -1,6 +1,6 @@
 -- Digits one after the other: whether all are digits, and the number that they write as far as it is kept. Rests on specs/Integers.
 use mathlib.Core.Path.{◌≡◌, refl, ◌∙◌}
-use mathlib.Core.Bool.{true, false}
+use mathlib.Core.Bool.{Bool, true, false}
 use mathlib.Core.List.{List, [], ◌∷◌, ◌++◌}
 use Prim.Native.Nat.{ℕ, ◌+◌, ◌-◌, ◌*◌, ◌<◌, ◌≤◌}
 use native.Mathlib.Numerals.{add-one}
@@ -8,9 +8,11 @@ use native.Mathlib.Omega.{arith}
 use borrow.Author.Tests.{leb-true}
 use lib.ListN.{length, get_or, take}
 use lib.Seq.{slice, slice_empty, take-suc, drop-append-le, length-take-le, get_or-take, get_or-drop, length-slice}
-use Rattle.meaning.specs.Basics.{every}
+use Rattle.std.specs.List.{list_all}
+use Rattle.std.proofs.Common.{◌&&◌}
+use Rattle.meaning.specs.Basics.{both, every}
 use Rattle.meaning.specs.Numbers.{whole}
-use Rattle.meaning.specs.Laws.Tests.{both_of, both_true, not_so, every_append, every_true}
+use Rattle.meaning.specs.Laws.Tests.{both_true, every_true}
 use Rattle.writing.specs.Words.{digit_zero}
 use Rattle.text.specs.Words.{is_digit, within}
 use Rattle.text.specs.Integers.{value, value_from}
@@ -26,16 +28,16 @@ slice-more bs from at h k =
 
 -- All are digits.
 
+pub every-listed : {A : Type 0} (f : A → Bool) (l : List A) → list_all f l ≡ every f l
+unfolding every both
+every-listed f [] = refl
+every-listed f (a ∷ l) = at (f a) (every-listed f l)
+  where
+    at : (b : Bool) → list_all f l ≡ every f l → (b && list_all f l) ≡ both b (every f l)
+    at true e = e
+    at false e = refl
+
 module _ (bs : List ℕ) (from : ℕ) where
-  pub digits-none : every is_digit (slice from from bs) ≡ true
-  unfolding every
-  digits-none = rw (slice_empty from bs)
-
-  pub digits_more : (i : ℕ) → from ≤ i → i < length bs → every is_digit (slice from i bs) ≡ true → is_digit (byte bs i) ≡ true
-      → every is_digit (slice from (i + 1) bs) ≡ true
-  unfolding every
-  digits_more i h k e d = rw (slice-more bs from i h k, every_append is_digit (slice from i bs) (byte bs i ∷ [])) (both_of _ _ e (both_of _ _ d refl))
-
   module _ (to i : ℕ) (h : from ≤ i) (j : i < to) (k : to ≤ length bs) where
     digit_at : every is_digit (slice from to bs) ≡ true → is_digit (byte bs i) ≡ true
     digit_at e =
@@ -43,9 +45,6 @@ module _ (bs : List ℕ) (from : ℕ) where
         let l : i - from < length (slice from to bs) = rw (length-slice from to bs k) (omega arith) in
         let q : get_or (slice from to bs) (i - from) 0 ≡ byte bs i = get_or-drop from (take to bs) (i - from) 0 ∙ rw z (get_or-take to bs i 0 j) in
         rw q at (every_true is_digit (slice from to bs) 0 e (i - from) l)
-
-    pub digit_not : is_digit (byte bs i) ≡ false → every is_digit (slice from to bs) ≡ false
-    digit_not e = not_so _ (λ f. let t = digit_at f in let z : ◌≡◌ {A = ℕ} 0 1 = cc in absurd (omega arith))
 
     pub digit_range : every is_digit (slice from to bs) ≡ true → (digit_zero ≤ byte bs i) × (byte bs i ≤ digit_zero + 9)
     unfolding is_digit within

@@ -13,12 +13,7 @@ fn all_digits(text: &[u8], from: usize, to: usize) -> bool
     requires { from ≤ to × to ≤ length text.now }
     ensures { result ≡ every is_digit (slice from to text.now) }
 {
-    for i in from..to {
-        if !lexing::is_digit(text[i]) {
-            return false;
-        }
-    }
-    true
+    text[from..to].iter().all(|b| lexing::is_digit(*b))
 }
 
 // The number that the digits write, or some number over 2^32 where it is over 2^32.
@@ -71,10 +66,8 @@ fn held(n: usize, negative: bool) -> Option<u32>
         if n <= AtomWord::HALF {
             return Some(((AtomWord::WHOLE - n) % AtomWord::WHOLE) as u32);
         }
-    } else {
-        if n < AtomWord::HALF {
-            return Some(n as u32);
-        }
+    } else if n < AtomWord::HALF {
+        return Some(n as u32);
     }
     None
 }

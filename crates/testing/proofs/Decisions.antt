@@ -7,21 +7,23 @@ use Prim.Native.Nat.{ℕ, ◌+◌, ◌<◌, ◌≤◌}
 use native.Mathlib.Omega.{arith}
 use lib.Dec.{eqb}
 use lib.ListN.{length, get_or}
-use Rattle.meaning.specs.Basics.{choose, concat, absent}
+use Rattle.std.specs.Bool.{MatchBool}
+use Rattle.meaning.specs.Basics.{choose, concat, absent, every}
 use Rattle.meaning.specs.Layout.{Host}
 use Rattle.meaning.specs.Image.{Rule}
 use Rattle.meaning.specs.References.{operand_names, condition_operands, condition_nodes, names, labels, rule_holds}
 use Rattle.meaning.specs.Matching.{left_nodes, total, test_holds}
 use Rattle.meaning.specs.Assigned.{assigned}
 use Rattle.meaning.specs.FirstMatch.{first_with, decided_at}
-use Rattle.meaning.specs.Laws.Tests.{choose_eq, choose_ne}
+use Rattle.meaning.specs.Laws.Tests.{choose_eq, choose_ne, every_of}
+use Rattle.meaning.specs.Laws.Loops.{every-fails}
 use Rattle.meaning.specs.Laws.Every.{Every, Every-in, Every-parts, Every-concat, Every-map, Every-then}
 use Rattle.laws.specs.References.{OfVariables, variables-with, left-plain, tests_left}
 use Rattle.laws.specs.Assignment.{labels_length}
 use Rattle.laws.specs.Decided.{first-with, highest-each}
 use Rattle.meaning.specs.declared.Condition.TheVariants.{Edge}
 use Rattle.meaning.specs.declared.Test.{Test}
-use Rattle.plan.specs.Plan.{test_of, decides_at}
+use Rattle.plan.specs.Plan.{test_of, decides_at, tests_at}
 use Rattle.plan.specs.Tests.{nodes-exist, variables-exist}
 use Rattle.agreeing.specs.Agreeing.{Valued}
 use Rattle.testing.specs.Testing.{Decided, HasTest}
@@ -30,6 +32,12 @@ use Rattle.agreeing.specs.Placed.{Tried, Full}
 -- what `test_of` has where there is no test
 abbrev pub no_test : Test
 no_test = record { negated = false; condition = Edge 0 0 }
+
+-- the closure's answer to test t: whether it holds
+abbrev pub Told : Host → List ℕ → List ℕ → List ℕ → ℕ → ℕ → ℕ → Bool → Type 0
+Told h bs plan at i c t b =
+    (w : HasTest h bs plan at i c t)
+    → b ≡ test_holds h w.trial.placed (assigned h w.trial.rule w.trial.placed) (test_of w.trial.rule t)
 
 module _ (r : Rule) (holds : rule_holds r ≡ true) where
   abbrev Exists : ℕ → Type 0
@@ -102,3 +110,18 @@ module _ {h : Host} {bs plan at : List ℕ} {i c : ℕ} (w : Tried h bs plan at 
     so_far-no d =
         choose_ne (decided_at w.trial.rule (test_of w.trial.rule t)) (length w.trial.placed) _ _
         (λ e. d (w.trial.planned.decided t there ∙ e ∙ w.last))
+
+-- What `all` answers over the tests' numbers, where its closure tells the test of each.
+
+every-told : {A : Type 0} (f : A → Bool) (l : List A) (d : A) (Yes No : ℕ → Type 0) (n : ℕ) → n ≡ length l → (r : Bool)
+    → MatchBool r ((k : ℕ) → k < n → Yes k) ((k : ℕ) × (k < n) × No k)
+    → ((k : ℕ) → k < length l → Yes k → f (get_or l k d) ≡ true) → ((k : ℕ) → k < length l → No k → f (get_or l k d) ≡ false) → r ≡ every f l
+every-told f l d Yes No n e true h y z = sym (every_of f l d (λ k j. y k j (h k (omega arith))))
+every-told f l d Yes No n e false h y z = let j : h.0 < length l = omega (arith, h.1) in every-fails f l h.0 d j (z h.0 j h.2)
+
+pub whole-told : {h : Host} {bs plan at : List ℕ} {i c : ℕ} (r : Bool) (w : Full h bs plan at i c)
+    → MatchBool r ((t : ℕ) → t < get_or plan tests_at 0 → Told h bs plan at i c t true) ((t : ℕ) × (t < get_or plan tests_at 0) × Told h bs plan at i c t false)
+    → r ≡ every (test_holds h w.trial.placed (assigned h w.trial.rule w.trial.placed)) w.trial.rule.tests
+whole-told {h} {bs} {plan} {at} {i} {c} r w m =
+    every-told _ w.trial.rule.tests no_test (λ t. Told h bs plan at i c t true) (λ t. Told h bs plan at i c t false) _ w.trial.planned.tests r m
+    (λ t k y. sym (y (whole-test w t k))) (λ t k y. sym (y (whole-test w t k)))

@@ -19,8 +19,8 @@ ghost use Rattle.testing.specs.Lent.{OperandIn, ConditionIn, TestIn};
 use agreeing::Trial;
 use fields::Field;
 use graph::Graph;
-use meaning::Room;
 use meaning::tags::{Relation, Tag};
+use meaning::Room;
 use plan::{At, PlannedRule, Sorted};
 
 // One test, from its bytes.
@@ -33,7 +33,8 @@ fn atom(host: &Graph, rule: &PlannedRule, trial: &Trial, tag: u8, p: &[u8]) -> u
     if tag == Tag::CONSTANT {
         parts::word_of(p)
     } else {
-        agreeing::variable_atom(host, rule, trial, parts::number_at(p, 0))
+        let v = parts::number_at(p, 0);
+        agreeing::variable_atom(host, rule, trial, v)
     }
 }
 
@@ -48,8 +49,10 @@ fn relation_holds(host: &Graph, rule: &PlannedRule, trial: &Trial, p: &[u8]) -> 
     let Some(Ok(right)) = fields::read_field(p, left.end) else {
         return false;
     };
-    let a = atom(host, rule, trial, left.tag, &p[left.start..left.end]);
-    let b = atom(host, rule, trial, right.tag, &p[right.start..right.end]);
+    let first = &p[left.start..left.end];
+    let a = atom(host, rule, trial, left.tag, first);
+    let second = &p[right.start..right.end];
+    let b = atom(host, rule, trial, right.tag, second);
     if parts::byte_at(p, 0) == Relation::EQUAL {
         a == b
     } else {
@@ -67,7 +70,10 @@ fn condition_holds(host: &Graph, rule: &PlannedRule, trial: &Trial, tag: u8, p: 
     }
     let s = trial.slot_of(parts::number_at(p, 0));
     match tag {
-        Tag::EDGE_TEST => host.any_runs(s, trial.slot_of(parts::number_at(p, 1))),
+        Tag::EDGE_TEST => {
+            let t = trial.slot_of(parts::number_at(p, 1));
+            host.any_runs(s, t)
+        }
         Tag::IN_DEGREE => host.in_degree(s) == parts::degree_of(p),
         _ => host.out_degree(s) == parts::degree_of(p),
     }
@@ -83,7 +89,8 @@ fn test_holds(host: &Graph, rule: &PlannedRule, trial: &Trial, t: usize) -> bool
         return false;
     };
     let p = &tests[start..end];
-    let holds = condition_holds(host, rule, trial, tag, parts::behind(p, 1));
+    let rest = parts::behind(p, 1);
+    let holds = condition_holds(host, rule, trial, tag, rest);
     if parts::flag(p) { !holds } else { holds }
 }
 
@@ -111,12 +118,7 @@ pub fn all_tests(host: &Graph, rule: &PlannedRule, at: &[usize; Room::ITEMS]) ->
         item: Room::ITEMS,
         slot: 0,
     };
-    for t in 0..rule.plan[At::TESTS] {
-        if !test_holds(host, rule, &trial, t) {
-            return false;
-        }
-    }
-    true
+    (0..rule.plan[At::TESTS]).all(|t| test_holds(host, rule, &trial, t))
 }
 
 // Whether the slot tried, which is likely for the item, fits it.

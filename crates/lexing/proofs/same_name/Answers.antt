@@ -1,38 +1,39 @@
 use Rattle.std.proofs.Common.{sym, ◌∙◌, arith}
-use Rattle.lexing.proofs.Comparing.{agree-begins, agree-not, agree-ends, agree-more}
+use Rattle.lexing.proofs.Comparing.{none-some, some_same, agree-begins, agree-not, agree-ends, agree-more, agree-all}
 use Rattle.lexing.proofs.same_name.Goals as goal
 
-pub loop-a-init : goal.loop-a-init
-loop-a-init c = agree-begins c.args.text.now c.args.a c.args.b
+pub loop-k-init : goal.loop-k-init
+loop-k-init c = agree-begins c.args.text.now c.args.a c.args.b
 
-pub returns-then-x-y : goal.returns-then-x-y
-returns-then-x-y c =
-    let x = c.letter_at-x.ensures in
-    let y = c.letter_at-y.ensures in
-    sym (agree-not c.args.text.now c.args.a c.args.b c.loop-a.k c.loop-a.invariant (λ q. c.if-x-y.true (x ∙ q ∙ sym y)))
+pub returns-in-None-None : goal.returns-in-None-None
+returns-in-None-None c =
+    let x = sym c.in-None-None.is-0 ∙ c.letter_at.ensures in
+    let y = sym c.in-None-None.is-1 ∙ c.letter_at-in-loop-k.ensures in
+    agree-ends c.args.text.now c.args.a c.args.b c.loop-k.k c.loop-k.invariant x y
 
-pub returns-then-x-eq0 : goal.returns-then-x-eq0
-returns-then-x-eq0 c =
-    let x = c.letter_at-x.ensures in
-    let y = c.letter_at-y.ensures in
-    sym (agree-ends c.args.text.now c.args.a c.args.b c.loop-a.k c.loop-a.invariant (sym x ∙ c.if-x-y.false ∙ y) (sym x ∙ c.if-x-eq0.true))
+pub returns-in_default : goal.returns-in_default
+returns-in_default c =
+    let x = sym c.in-Some-Some.is-0 ∙ c.letter_at.ensures in
+    let y = sym c.in-Some-Some.is-1 ∙ c.letter_at-in-loop-k.ensures in
+    agree-not c.args.text.now c.args.a c.args.b c.loop-k.k c.loop-k.invariant _ _ x y (λ q. c.if-x-y.false (some_same q))
 
-pub overflow_add-k : goal.overflow_add-k
-overflow_add-k c =
-    let x = c.letter_at-x.ensures in
-    let y = c.letter_at-y.ensures in
-    let e = sym x ∙ c.if-x-y.false ∙ y in
-    omega (arith, (agree-more c.args.text.now c.args.a c.args.b c.loop-a.k c.loop-a.invariant e (λ q. c.if-x-eq0.false (x ∙ q))).within)
+pub returns-in_default-2 : goal.returns-in_default-2
+returns-in_default-2 c =
+    let x = sym c.in_default.is-0 ∙ c.letter_at.ensures in
+    let y = sym c.in_default.is-1 ∙ c.letter_at-in-loop-k.ensures in
+    agree-not c.args.text.now c.args.a c.args.b c.loop-k.k c.loop-k.invariant _ _ x y (λ q. none-some (sym q))
 
-pub loop-a-smaller : goal.loop-a-smaller
-loop-a-smaller c =
-    let x = c.letter_at-x.ensures in
-    let y = c.letter_at-y.ensures in
-    let e = sym x ∙ c.if-x-y.false ∙ y in
-    omega (arith, (agree-more c.args.text.now c.args.a c.args.b c.loop-a.k c.loop-a.invariant e (λ q. c.if-x-eq0.false (x ∙ q))).within)
+pub returns-in_default-3 : goal.returns-in_default-3
+returns-in_default-3 c =
+    let x = sym c.in_default.is-0 ∙ c.letter_at.ensures in
+    let y = sym c.in_default.is-1 ∙ c.letter_at-in-loop-k.ensures in
+    agree-not c.args.text.now c.args.a c.args.b c.loop-k.k c.loop-k.invariant _ _ x y none-some
 
-pub loop-a-preserved : goal.loop-a-preserved
-loop-a-preserved c =
-    let x = c.letter_at-x.ensures in
-    let y = c.letter_at-y.ensures in
-    agree-more c.args.text.now c.args.a c.args.b c.loop-a.k c.loop-a.invariant (sym x ∙ c.if-x-y.false ∙ y) (λ q. c.if-x-eq0.false (x ∙ q))
+pub loop-k-preserved : goal.loop-k-preserved
+loop-k-preserved c =
+    let x = sym c.in-Some-Some.is-0 ∙ c.letter_at.ensures in
+    let y = sym c.in-Some-Some.is-1 ∙ c.letter_at-in-loop-k.ensures in
+    agree-more c.args.text.now c.args.a c.args.b c.loop-k.k c.loop-k.invariant _ _ x y c.if-x-y.true
+
+pub returns : goal.returns
+returns c = agree-all c.args.text.now c.args.a c.args.b c.loop-k.k c.loop-k.invariant (omega arith)

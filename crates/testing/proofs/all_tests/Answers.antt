@@ -1,34 +1,22 @@
-use Rattle.std.proofs.Common.{refl, sym, ◌∙◌, arith}
-use Rattle.meaning.specs.Basics.{every}
-use Rattle.meaning.specs.Laws.Loops.{every-next, every-end, every-fails}
-use Rattle.testing.proofs.Decisions.{no_test, whole-test}
+-- `all_tests` meets its contract: the answer is yes where the closure says yes of each test.
+use Rattle.std.proofs.Common.{refl, true, false, arith, rules, tests, get_or}
+use Rattle.std.proofs.lemmas.Iterator.{serves_from_Range, YieldsList-from_range, cases_from_all}
+use Rattle.meaning.specs.Image.{most_items}
+use Rattle.meaning.specs.Layout.{host_of}
+use Rattle.plan.specs.Plan.{tests_at}
+use Rattle.agreeing.specs.Trials.{all-below}
+use Rattle.testing.proofs.Decisions.{Told, whole-test, whole-told}
 use Rattle.testing.proofs.all_tests.Goals as goal
 
-pub loop-t-init : goal.loop-t-init
-unfolding every
-loop-t-init c = λ w. refl
-
-pub test_holds-requires : goal.test_holds-requires
-test_holds-requires c =
-    let w = c.requires in
-    (whole-test w _ (omega (arith, w.trial.planned.tests, c.loop-t-test.true)))
-
-pub returns-then-not-test_holds : goal.returns-then-not-test_holds
-returns-then-not-test_holds c =
-    λ w.
-    let k = w.trial.planned.tests in
-    every-fails _ w.trial.rule.tests c.loop-t.t no_test (omega (arith, c.loop-t-test.true))
-    (sym (c.test_holds.ensures (whole-test w _ (omega (arith, c.loop-t-test.true)))) ∙ c.if-not-test_holds.true)
-
-pub loop-t-preserved : goal.loop-t-preserved
-loop-t-preserved c =
-    λ w.
-    let k = w.trial.planned.tests in
-    every-next _ w.trial.rule.tests c.loop-t.t no_test (omega (arith, c.loop-t-test.true)) (c.loop-t.invariant w)
-    (sym (c.test_holds.ensures (whole-test w _ (omega (arith, c.loop-t-test.true)))) ∙ c.if-not-test_holds.false)
+pub all-requires-clause-callable : goal.all-requires-clause-callable
+all-requires-clause-callable c =
+    serves_from_Range (λ x q k. search (rules, tests)) (λ x low high. let h = whole-test c.requires x (omega (arith, c.requires.trial.planned.tests)) in search (rules, h))
 
 pub returns : goal.returns
-returns c =
-    λ w.
-    let k = w.trial.planned.tests in
-    every-end _ _ c.loop-t.t (omega arith) (c.loop-t.invariant w)
+returns c = λ w.
+    let a = c.args in
+    let h = host_of a.host.now.layout a.host.now.nodes.now a.host.now.edges.now in
+    let n = get_or a.rule.now.plan.now tests_at 0 in
+    whole-told c.all.result w
+    (all-below _ _ n c.all.result
+    (cases_from_all _ _ c.all.result (λ t. Told h a.rule.now.bytes.now a.rule.now.plan.now a.at.now most_items 0 t true) (λ t. Told h a.rule.now.bytes.now a.rule.now.plan.now a.at.now most_items 0 t false) c.all.ensures.ran (YieldsList-from_range 0 n n refl (omega arith)) (λ x q k. search (rules, tests)) (λ x q k. search (rules, tests))))

@@ -7,7 +7,7 @@ returns-then-tag-eq-CONSTANT c = λ w. constant-atom w _ _ c.if-tag-eq-CONSTANT.
 
 pub variable_atom-requires : goal.variable_atom-requires
 variable_atom-requires c =
-    (of-operand c.requires _ c.if-tag-eq-CONSTANT.false c.number_at.ensures.0)
+    (of-operand c.requires _ c.if-tag-eq-CONSTANT.false c.number_at-v.ensures.0)
 
 pub returns-else-tag-eq-CONSTANT : goal.returns-else-tag-eq-CONSTANT
-returns-else-tag-eq-CONSTANT c = λ w. variable-atom w _ c.if-tag-eq-CONSTANT.false c.number_at.ensures.0 _ _ (c.variable_atom.ensures (of-operand w _ c.if-tag-eq-CONSTANT.false c.number_at.ensures.0))
+returns-else-tag-eq-CONSTANT c = λ w. variable-atom w _ c.if-tag-eq-CONSTANT.false c.number_at-v.ensures.0 _ _ (c.variable_atom.ensures (of-operand w _ c.if-tag-eq-CONSTANT.false c.number_at-v.ensures.0))

@@ -17,13 +17,13 @@ slot_of-s-requires c =
     let w = c.requires in
     room w.trial (first-node w _ c.number_at.ensures.0 c.if-tag-eq-RELATION.false)
 
-pub slot_of-requires : goal.slot_of-requires
-slot_of-requires c =
+pub slot_of-t-requires : goal.slot_of-t-requires
+slot_of-t-requires c =
     let w = c.requires in
     room w.trial (second-node w _ c.number_at.ensures.0 _ c.number_at-in-64.ensures.0 c.in-64.is)
 
 pub returns-in-64 : goal.returns-in-64
-returns-in-64 c = λ w. edge-holds w _ c.number_at.ensures.0 _ c.number_at-in-64.ensures.0 c.in-64.is _ _ _ _ c.slot_of-s.ensures c.slot_of.ensures c.any_runs.ensures
+returns-in-64 c = λ w. edge-holds w _ c.number_at.ensures.0 _ c.number_at-in-64.ensures.0 c.in-64.is _ _ _ _ c.slot_of-s.ensures c.slot_of-t.ensures c.any_runs.ensures
 
 pub returns-in-65 : goal.returns-in-65
 unfolding condition_holds

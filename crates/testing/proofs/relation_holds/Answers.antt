@@ -54,27 +54,27 @@ returns-in_default-read_field c = λ w. absurd (right-none w c.read_field.ensure
 pub returns-in_default-read_field-2 : goal.returns-in_default-read_field-2
 returns-in_default-read_field-2 c = λ w. absurd (right-none w c.read_field.ensures (c.in-Some-Ok.is ∙ ap Some c.in-Some-Ok.field-0-is) c.read_field-2.ensures (λ tag start end e. cc))
 
-pub slice_bounds-atom-count : goal.slice_bounds-atom-count
-slice_bounds-atom-count c = (left-part (goal.at.slice_bounds-atom-count c).In-Some-Ok-read_field).0
+pub slice_bounds-first-count : goal.slice_bounds-first-count
+slice_bounds-first-count c = (left-part (goal.at.slice_bounds-first-count c).In-Some-Ok-read_field).0
 
-pub slice_bounds-atom-start : goal.slice_bounds-atom-start
-slice_bounds-atom-start c = (left-part (goal.at.slice_bounds-atom-start c).In-Some-Ok-read_field).0
+pub slice_bounds-first-start : goal.slice_bounds-first-start
+slice_bounds-first-start c = (left-part (goal.at.slice_bounds-first-start c).In-Some-Ok-read_field).0
 
-pub slice_bounds-atom-end : goal.slice_bounds-atom-end
-slice_bounds-atom-end c = (left-part (goal.at.slice_bounds-atom-end c).In-Some-Ok-read_field).1
+pub slice_bounds-first-end : goal.slice_bounds-first-end
+slice_bounds-first-end c = (left-part (goal.at.slice_bounds-first-end c).In-Some-Ok-read_field).1
 
 pub atom-a-requires : goal.atom-a-requires
 atom-a-requires c =
     (left-operand c.requires c.read_field.ensures (left-there (goal.at.atom-a-requires c).In-Some-Ok-read_field) refl)
 
-pub slice_bounds-atom-count-2 : goal.slice_bounds-atom-count-2
-slice_bounds-atom-count-2 c = (right-part (goal.at.slice_bounds-atom-count-2 c).In-Some-Ok-read_field).0
+pub slice_bounds-second-count : goal.slice_bounds-second-count
+slice_bounds-second-count c = (right-part (goal.at.slice_bounds-second-count c).In-Some-Ok-read_field).0
 
-pub slice_bounds-atom-start-2 : goal.slice_bounds-atom-start-2
-slice_bounds-atom-start-2 c = (right-part (goal.at.slice_bounds-atom-start-2 c).In-Some-Ok-read_field).0
+pub slice_bounds-second-start : goal.slice_bounds-second-start
+slice_bounds-second-start c = (right-part (goal.at.slice_bounds-second-start c).In-Some-Ok-read_field).0
 
-pub slice_bounds-atom-end-2 : goal.slice_bounds-atom-end-2
-slice_bounds-atom-end-2 c = (right-part (goal.at.slice_bounds-atom-end-2 c).In-Some-Ok-read_field).1
+pub slice_bounds-second-end : goal.slice_bounds-second-end
+slice_bounds-second-end c = (right-part (goal.at.slice_bounds-second-end c).In-Some-Ok-read_field).1
 
 pub atom-b-requires : goal.atom-b-requires
 atom-b-requires c =

@@ -30,7 +30,7 @@ chosen : (c : After-flag) (w : Has c)
     ≡ test_holds (host c) w.trial.placed (α c w) (test_of w.trial.rule c.args.t)
 chosen c w =
     let is = test-there w _ (c.tests-tests.ensures w.trial.rule w.trial.planned.laid) c.nth_field.ensures (there (goal.at.After-flag c).In-Some-Ok) refl in
-    by_flag w is (α c w) _ _ c.flag.ensures (c.condition_holds-holds.ensures (of_test w is c.behind.ensures))
+    by_flag w is (α c w) _ _ c.flag.ensures (c.condition_holds-holds.ensures (of_test w is c.behind-rest.ensures))
 
 pub returns-in_default : goal.returns-in_default
 returns-in_default c = λ w. absurd (test-none w _ (c.tests-tests.ensures w.trial.rule w.trial.planned.laid) c.nth_field.ensures (λ tag start end e. cc))
@@ -50,7 +50,7 @@ slice_bounds-p-end c = (nth_in _ _ c.nth_field.ensures (there (goal.at.slice_bou
 pub condition_holds-holds-requires : goal.condition_holds-holds-requires
 condition_holds-holds-requires c =
     let w = c.requires in
-    (of_test w (test-there w _ (c.tests-tests.ensures w.trial.rule w.trial.planned.laid) c.nth_field.ensures (there (goal.at.condition_holds-holds-requires c).In-Some-Ok) refl) c.behind.ensures)
+    (of_test w (test-there w _ (c.tests-tests.ensures w.trial.rule w.trial.planned.laid) c.nth_field.ensures (there (goal.at.condition_holds-holds-requires c).In-Some-Ok) refl) c.behind-rest.ensures)
 
 pub returns-then-flag : goal.returns-then-flag
 returns-then-flag c = λ w. sym (choose_true _ _ _ c.if-flag.true) ∙ chosen (goal.at.returns-then-flag c).After-flag w

@@ -1,22 +1,16 @@
-use Rattle.std.proofs.Common.{sym, ◌∙◌, arith}
+-- `find` meets its contract.
+use Rattle.std.proofs.Common.{rules, tests}
+use Rattle.std.proofs.lemmas.Iterator.{YieldsList-from_slice}
+use Rattle.std.proofs.lemmas.Iterator.Search.{position_from_yields_List}
+use Rattle.meaning.specs.Basics.{same}
 use Rattle.lexing.specs.Lexing.{name_at}
-use Rattle.importing.proofs.Lookup.{others-none, others-more, others-found, others-all}
+use Rattle.importing.proofs.Lookup.{found-at}
 use Rattle.importing.proofs.names.find.Goals as goal
-
-pub loop-i-init : goal.loop-i-init
-loop-i-init c = let a = c.args in others-none a.text.now a.places.now (name_at a.text.now a.at)
-
-pub returns-then-same_name : goal.returns-then-same_name
-returns-then-same_name c =
-    let a = c.args in
-    others-found a.text.now a.places.now (name_at a.text.now a.at) c.loop-i.i c.loop-i.invariant c.loop-i-test.true (sym c.same_name.ensures ∙ c.if-same_name.true)
-
-pub loop-i-preserved : goal.loop-i-preserved
-loop-i-preserved c =
-    let a = c.args in
-    others-more a.text.now a.places.now (name_at a.text.now a.at) c.loop-i.i c.loop-i.invariant c.loop-i-test.true (sym c.same_name.ensures ∙ c.if-same_name.false)
 
 pub returns : goal.returns
 returns c =
-    let a = c.args in
-    others-all a.text.now a.places.now (name_at a.text.now a.at) c.loop-i.i c.loop-i.invariant (omega arith) (omega arith)
+    let bs = c.args.text.now in
+    let ps = c.args.places.now in
+    let id = name_at bs c.args.at in
+    found-at bs ps id c.position.result
+    (position_from_yields_List (λ p. same (name_at bs p) id) _ _ c.position.result c.position.ensures.ran (YieldsList-from_slice ps cc) (λ x b q k. search (rules, tests)))
