@@ -11,10 +11,11 @@ ghost use Rattle.laws.specs.Pieces.{stored};
 ghost use Rattle.labels.specs.Labels.{Holds};
 ghost use Rattle.slots.specs.Laid.{laid};
 ghost use Rattle.host.specs.Tables.{slot_length};
-ghost use Rattle.graph.specs.Graph.{Legal, slots_in};
+ghost use Rattle.graph.specs.Hosts.{slots_of};
 ghost use Rattle.answers.specs.Answers.{refusal_of};
 ghost use Rattle.carrying.specs.Tables.{label_in, live_in, labels_fit_in, free_from_in, fits_in, slot_carried, table_carried};
 
+use graph::Graph;
 use labels::Label;
 use meaning::{Answer, Layout, Manner, Refusal, Table};
 
@@ -51,53 +52,48 @@ fn lengths_agree(
 }
 
 // How many atoms the label of a slot has.
-fn atoms_in(l: Layout, nodes: &[u8], edges: &[u8], which: Table, x: usize) -> usize
-    requires legal { Legal l nodes.now edges.now }
-    requires x_bound { x < slots_in l nodes.now edges.now which }
-    ensures { result ≡ length (label_in l nodes.now edges.now which x) }
+fn atoms_in(host: &Graph, which: Table, x: usize) -> usize
+    requires { x < slots_of host.now which }
+    ensures { result ≡ length (label_in host.now.layout host.now.nodes.now host.now.edges.now which x) }
 {
     match which {
-        Table::Nodes => slots::laid::count(graph::node_label(l, nodes, edges, x)),
-        Table::Edges => slots::laid::count(graph::edge_label(l, nodes, edges, x)),
+        Table::Nodes => slots::laid::count(host.node_label(x)),
+        Table::Edges => slots::laid::count(host.edge_label(x)),
     }
 }
 
 // Whether each label of a table has at most so many atoms.
-fn labels_fit(l: Layout, nodes: &[u8], edges: &[u8], which: Table, most: usize) -> bool
-    requires { Legal l nodes.now edges.now }
-    ensures { result ≡ labels_fit_in l nodes.now edges.now which most }
+fn labels_fit(host: &Graph, which: Table, most: usize) -> bool
+    ensures { result ≡ labels_fit_in host.now.layout host.now.nodes.now host.now.edges.now which most }
 {
-    let n = graph::slots_in(l, nodes, edges, which);
-    (0..n).all(|x| atoms_in(l, nodes, edges, which, x) <= most)
+    let n = host.slots_in(which);
+    (0..n).all(|x| atoms_in(host, which, x) <= most)
 }
 
 // Whether slot x of a table is there and live.
-fn is_live(l: Layout, nodes: &[u8], edges: &[u8], which: Table, x: usize) -> bool
-    requires { Sized l }
-    ensures { result ≡ live_in l nodes.now edges.now which x }
+fn is_live(host: &Graph, which: Table, x: usize) -> bool
+    ensures { result ≡ live_in host.now.layout host.now.nodes.now host.now.edges.now which x }
 {
     match which {
-        Table::Nodes => slots::live_slot(nodes, l.node, x),
-        Table::Edges => slots::live_slot(edges, l.edge, x),
+        Table::Nodes => slots::live_slot(host.nodes, host.layout.node, x),
+        Table::Edges => slots::live_slot(host.edges, host.layout.edge, x),
     }
 }
 
 // Whether each slot of a table from number n on is free.
-fn free_from(l: Layout, nodes: &[u8], edges: &[u8], which: Table, n: usize) -> bool
-    requires { Legal l nodes.now edges.now }
-    ensures { result ≡ free_from_in l nodes.now edges.now which n }
+fn free_from(host: &Graph, which: Table, n: usize) -> bool
+    ensures { result ≡ free_from_in host.now.layout host.now.nodes.now host.now.edges.now which n }
 {
-    let end = graph::slots_in(l, nodes, edges, which);
-    (n..end).all(|x| !is_live(l, nodes, edges, which, x))
+    let end = host.slots_in(which);
+    (n..end).all(|x| !is_live(host, which, x))
 }
 
 // Whether a table fits in n slots whose labels have at most so many atoms.
 #[tactic(auto, unfolding(meaning::specs::Basics::both))]
-fn fits(l: Layout, nodes: &[u8], edges: &[u8], which: Table, most: usize, n: usize) -> bool
-    requires { Legal l nodes.now edges.now }
-    ensures { result ≡ fits_in l nodes.now edges.now which most n }
+fn fits(host: &Graph, which: Table, most: usize, n: usize) -> bool
+    ensures { result ≡ fits_in host.now.layout host.now.nodes.now host.now.edges.now which most n }
 {
-    labels_fit(l, nodes, edges, which, most) && free_from(l, nodes, edges, which, n)
+    labels_fit(host, which, most) && free_from(host, which, n)
 }
 
 // What is answered where the host does not fit.
@@ -140,24 +136,15 @@ fn check(
     if !host::keeps_layout(from, nodes, edges) {
         return Err(Refusal::BadHost);
     }
-    if !fits(
-        from,
+    let host = Graph {
+        layout: from,
         nodes,
         edges,
-        Table::Nodes,
-        to.atoms,
-        to_nodes.len() / to.node,
-    ) {
+    };
+    if !fits(&host, Table::Nodes, to.atoms, to_nodes.len() / to.node) {
         return Err(unfit(manner));
     }
-    if !fits(
-        from,
-        nodes,
-        edges,
-        Table::Edges,
-        to.atoms,
-        to_edges.len() / to.edge,
-    ) {
+    if !fits(&host, Table::Edges, to.atoms, to_edges.len() / to.edge) {
         return Err(unfit(manner));
     }
     Ok(())
@@ -179,17 +166,16 @@ fn in_hand(a: &[u8]) -> Label
 }
 
 // Carries a node's slot, or frees it where there is no live one.
-fn carry_node(from: Layout, to: Layout, nodes: &[u8], edges: &[u8], x: usize, out: &mut [u8])
-    requires legal { Legal from nodes.now edges.now }
+fn carry_node(host: &Graph, to: Layout, x: usize, out: &mut [u8])
     requires sized { Sized to }
     requires x_in_bounds { x < length out.old / slot_length to Table.Nodes }
-    requires x_len_bound { length (label_in from nodes.now edges.now Table.Nodes x) ≤ to.atoms }
-    ensures { out.new ≡ stored (slot_length to Table.Nodes) x (slot_carried from to nodes.now edges.now Table.Nodes x) out.old }
+    requires x_len_bound { length (label_in host.now.layout host.now.nodes.now host.now.edges.now Table.Nodes x) ≤ to.atoms }
+    ensures { out.new ≡ stored (slot_length to Table.Nodes) x (slot_carried host.now.layout to host.now.nodes.now host.now.edges.now Table.Nodes x) out.old }
 {
-    if is_live(from, nodes, edges, Table::Nodes, x) {
-        let mark = graph::node_mark(from, nodes, edges, x);
-        let root = graph::node_root(from, nodes, edges, x);
-        let Label { len, atoms } = in_hand(graph::node_label(from, nodes, edges, x));
+    if is_live(host, Table::Nodes, x) {
+        let mark = host.node_mark(x);
+        let root = host.node_root(x);
+        let Label { len, atoms } = in_hand(host.node_label(x));
         slots::store_node(to, out, x, mark, root, &atoms[..len]);
     } else {
         slots::free_slot(out, to.node, x);
@@ -197,18 +183,17 @@ fn carry_node(from: Layout, to: Layout, nodes: &[u8], edges: &[u8], x: usize, ou
 }
 
 // Carries an edge's slot, or frees it where there is no live one.
-fn carry_edge(from: Layout, to: Layout, nodes: &[u8], edges: &[u8], x: usize, out: &mut [u8])
-    requires legal { Legal from nodes.now edges.now }
+fn carry_edge(host: &Graph, to: Layout, x: usize, out: &mut [u8])
     requires sized { Sized to }
     requires x_in_bounds { x < length out.old / slot_length to Table.Edges }
-    requires x_len_bound { length (label_in from nodes.now edges.now Table.Edges x) ≤ to.atoms }
-    ensures { out.new ≡ stored (slot_length to Table.Edges) x (slot_carried from to nodes.now edges.now Table.Edges x) out.old }
+    requires x_len_bound { length (label_in host.now.layout host.now.nodes.now host.now.edges.now Table.Edges x) ≤ to.atoms }
+    ensures { out.new ≡ stored (slot_length to Table.Edges) x (slot_carried host.now.layout to host.now.nodes.now host.now.edges.now Table.Edges x) out.old }
 {
-    if is_live(from, nodes, edges, Table::Edges, x) {
-        let mark = graph::edge_mark(from, nodes, edges, x);
-        let source = graph::edge_source(from, nodes, edges, x);
-        let target = graph::edge_target(from, nodes, edges, x);
-        let Label { len, atoms } = in_hand(graph::edge_label(from, nodes, edges, x));
+    if is_live(host, Table::Edges, x) {
+        let mark = host.edge_mark(x);
+        let source = host.edge_source(x);
+        let target = host.edge_target(x);
+        let Label { len, atoms } = in_hand(host.edge_label(x));
         slots::store_edge(to, out, x, mark, source, target, &atoms[..len]);
     } else {
         slots::free_slot(out, to.edge, x);
@@ -216,45 +201,27 @@ fn carry_edge(from: Layout, to: Layout, nodes: &[u8], edges: &[u8], x: usize, ou
 }
 
 // Carries slot x of a table.
-fn carry_slot(
-    from: Layout,
-    to: Layout,
-    nodes: &[u8],
-    edges: &[u8],
-    which: Table,
-    x: usize,
-    out: &mut [u8],
-)
-    requires legal { Legal from nodes.now edges.now }
+fn carry_slot(host: &Graph, to: Layout, which: Table, x: usize, out: &mut [u8])
     requires sized { Sized to }
     requires x_in_bounds { x < length out.old / slot_length to which }
-    requires x_len_bound { length (label_in from nodes.now edges.now which x) ≤ to.atoms }
-    ensures { out.new ≡ stored (slot_length to which) x (slot_carried from to nodes.now edges.now which x) out.old }
+    requires x_len_bound { length (label_in host.now.layout host.now.nodes.now host.now.edges.now which x) ≤ to.atoms }
+    ensures { out.new ≡ stored (slot_length to which) x (slot_carried host.now.layout to host.now.nodes.now host.now.edges.now which x) out.old }
 {
     match which {
-        Table::Nodes => carry_node(from, to, nodes, edges, x, out),
-        Table::Edges => carry_edge(from, to, nodes, edges, x, out),
+        Table::Nodes => carry_node(host, to, x, out),
+        Table::Edges => carry_edge(host, to, x, out),
     }
 }
 
 // Carries a table of which all labels fit to one of n slots, slot by slot.
-fn carry_slots(
-    from: Layout,
-    to: Layout,
-    nodes: &[u8],
-    edges: &[u8],
-    which: Table,
-    n: usize,
-    out: &mut [u8],
-)
-    requires legal { Legal from nodes.now edges.now }
+fn carry_slots(host: &Graph, to: Layout, which: Table, n: usize, out: &mut [u8])
     requires sized { Sized to }
     requires out_len { length out.old ≡ n * slot_length to which }
-    requires atoms_value { labels_fit_in from nodes.now edges.now which to.atoms ≡ true }
-    ensures { out.new ≡ table_carried from to nodes.now edges.now which n }
+    requires atoms_value { labels_fit_in host.now.layout host.now.nodes.now host.now.edges.now which to.atoms ≡ true }
+    ensures { out.new ≡ table_carried host.now.layout to host.now.nodes.now host.now.edges.now which n }
 {
     for x in 0..n {
-        carry_slot(from, to, nodes, edges, which, x, out);
+        carry_slot(host, to, which, x, out);
     }
 }
 
@@ -278,7 +245,12 @@ pub fn carry_tables(
     }
     let n = to_nodes.len() / to.node;
     let m = to_edges.len() / to.edge;
-    carry_slots(from, to, nodes, edges, Table::Nodes, n, to_nodes);
-    carry_slots(from, to, nodes, edges, Table::Edges, m, to_edges);
+    let host = Graph {
+        layout: from,
+        nodes,
+        edges,
+    };
+    carry_slots(&host, to, Table::Nodes, n, to_nodes);
+    carry_slots(&host, to, Table::Edges, m, to_edges);
     Answer::Result
 }

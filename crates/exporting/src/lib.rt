@@ -4,16 +4,17 @@
 
 ghost use Rattle.std.specs.Prelude.{◌≡◌, ◌+◌, ◌*◌, ◌<◌, ◌≤◌, length, get_or};
 ghost use Rattle.std.proofs.Math.Option.{none};
-ghost use Rattle.meaning.specs.Layout.{Sized, most_atoms, free, read_nodes, read_edges};
+ghost use Rattle.meaning.specs.Layout.{Sized, most_atoms, free};
 ghost use Rattle.meaning.specs.Calls.{answer_number};
 ghost use Rattle.slots.specs.Laid.{laid};
 ghost use Rattle.answers.specs.Answers.{refusal_of};
-ghost use Rattle.graph.specs.Graph.{Legal, slots_in};
+ghost use Rattle.graph.specs.Hosts.{host_in, slots_of};
 ghost use Rattle.writing.specs.Words.{decimal, signed};
 ghost use Rattle.text.specs.Text.{Exports, text_of, export_refusal, export_on, export_text};
 ghost use Rattle.exporting.specs.Lines.{atoms_text, mark_text, root_text, id_text, end_text, label_text, node_text, edge_text, slot_text};
 ghost use Rattle.exporting.specs.Putting.{Puts, most_text, digits_size, integer_size, atoms_size, mark_size, root_size, id_size, end_size, label_size, node_size, edge_size, item_size, item_text, items_from, Few};
 
+use graph::Graph;
 use meaning::tags::Mark;
 use meaning::{Answer, Layout, Refusal, Table};
 use slots::laid;
@@ -132,16 +133,15 @@ fn put_label(out: &mut [u8], at: usize, label: &[u8], mark: u8) -> usize
 }
 
 // The line of a node's slot, where it is live.
-fn put_node(l: Layout, nodes: &[u8], edges: &[u8], x: usize, out: &mut [u8], at: usize) -> usize
-    requires legal { Legal l nodes.now edges.now }
-    requires x_in_bounds { x < length (read_nodes l nodes.now) }
+fn put_node(host: &Graph, x: usize, out: &mut [u8], at: usize) -> usize
+    requires x_in_bounds { x < length (host_in host.now).nodes }
     requires node_size_bound { at + node_size ≤ most_text }
-    ensures { Puts node_size (slot_text node_text x (get_or (read_nodes l nodes.now) x free)) out.old at out.new result }
+    ensures { Puts node_size (slot_text node_text x (get_or (host_in host.now).nodes x free)) out.old at out.new result }
 {
-    if graph::node_live(l, nodes, edges, x) {
-        let mark = graph::node_mark(l, nodes, edges, x);
-        let root = graph::node_root(l, nodes, edges, x);
-        let label = graph::node_label(l, nodes, edges, x);
+    if host.node_live(x) {
+        let mark = host.node_mark(x);
+        let root = host.node_root(x);
+        let label = host.node_label(x);
         let a = put_id(out, at, x);
         let b = put_root(out, a, root);
         return put_label(out, b, label, mark);
@@ -150,17 +150,16 @@ fn put_node(l: Layout, nodes: &[u8], edges: &[u8], x: usize, out: &mut [u8], at:
 }
 
 // The line of an edge's slot, where it is live.
-fn put_edge(l: Layout, nodes: &[u8], edges: &[u8], x: usize, out: &mut [u8], at: usize) -> usize
-    requires legal { Legal l nodes.now edges.now }
-    requires x_in_bounds { x < length (read_edges l edges.now) }
+fn put_edge(host: &Graph, x: usize, out: &mut [u8], at: usize) -> usize
+    requires x_in_bounds { x < length (host_in host.now).edges }
     requires edge_size_bound { at + edge_size ≤ most_text }
-    ensures { Puts edge_size (slot_text edge_text x (get_or (read_edges l edges.now) x free)) out.old at out.new result }
+    ensures { Puts edge_size (slot_text edge_text x (get_or (host_in host.now).edges x free)) out.old at out.new result }
 {
-    if graph::edge_live(l, nodes, edges, x) {
-        let mark = graph::edge_mark(l, nodes, edges, x);
-        let source = graph::edge_source(l, nodes, edges, x);
-        let target = graph::edge_target(l, nodes, edges, x);
-        let label = graph::edge_label(l, nodes, edges, x);
+    if host.edge_live(x) {
+        let mark = host.edge_mark(x);
+        let source = host.edge_source(x);
+        let target = host.edge_target(x);
+        let label = host.edge_label(x);
         let a = put_id(out, at, x);
         let b = put_end(out, a, source);
         let c = put_end(out, b, target);
@@ -170,57 +169,39 @@ fn put_edge(l: Layout, nodes: &[u8], edges: &[u8], x: usize, out: &mut [u8], at:
 }
 
 // The line of a slot of a table, where it is live.
-fn put_slot(
-    l: Layout,
-    nodes: &[u8],
-    edges: &[u8],
-    table: Table,
-    x: usize,
-    out: &mut [u8],
-    at: usize,
-) -> usize
-    requires legal { Legal l nodes.now edges.now }
-    requires x_bound { x < slots_in l nodes.now edges.now table }
+fn put_slot(host: &Graph, table: Table, x: usize, out: &mut [u8], at: usize) -> usize
+    requires x_bound { x < slots_of host.now table }
     requires table_bound { at + item_size table ≤ most_text }
-    ensures { Puts (item_size table) (item_text l nodes.now edges.now table x) out.old at out.new result }
+    ensures { Puts (item_size table) (item_text host.now.layout host.now.nodes.now host.now.edges.now table x) out.old at out.new result }
 {
     match table {
-        Table::Nodes => put_node(l, nodes, edges, x, out, at),
-        Table::Edges => put_edge(l, nodes, edges, x, out, at),
+        Table::Nodes => put_node(host, x, out, at),
+        Table::Edges => put_edge(host, x, out, at),
     }
 }
 
 // The lines of the live slots of a table.
-fn put_table(
-    l: Layout,
-    nodes: &[u8],
-    edges: &[u8],
-    table: Table,
-    out: &mut [u8],
-    start: usize,
-) -> usize
-    requires legal { Legal l nodes.now edges.now }
-    requires table_bound { start + item_size table * slots_in l nodes.now edges.now table ≤ most_text }
-    ensures { Puts (item_size table * slots_in l nodes.now edges.now table) (items_from l nodes.now edges.now table 0) out.old start out.new result }
+fn put_table(host: &Graph, table: Table, out: &mut [u8], start: usize) -> usize
+    requires { start + item_size table * slots_of host.now table ≤ most_text }
+    ensures { Puts (item_size table * slots_of host.now table) (items_from host.now.layout host.now.nodes.now host.now.edges.now table 0) out.old start out.new result }
 {
-    let n = graph::slots_in(l, nodes, edges, table);
+    let n = host.slots_in(table);
     let mut at = start;
     for x in 0..n {
-        at = put_slot(l, nodes, edges, table, x, out, at);
+        at = put_slot(host, table, x, out, at);
     }
     at
 }
 
 // The text of a host, of which as much is written as the buffer holds; and how long it is.
-fn put_graph(l: Layout, nodes: &[u8], edges: &[u8], out: &mut [u8]) -> usize
-    requires legal { Legal l nodes.now edges.now }
-    requires few { Few l }
-    ensures { Puts most_text (text_of l nodes.now edges.now) out.old 0 out.new result }
+fn put_graph(host: &Graph, out: &mut [u8]) -> usize
+    requires { Few host.now.layout }
+    ensures { Puts most_text (text_of host.now.layout host.now.nodes.now host.now.edges.now) out.old 0 out.new result }
 {
     let a = put(out, 0, b"[");
-    let b = put_table(l, nodes, edges, Table::Nodes, out, a);
+    let b = put_table(host, Table::Nodes, out, a);
     let c = put(out, b, b"\n|");
-    let d = put_table(l, nodes, edges, Table::Edges, out, c);
+    let d = put_table(host, Table::Edges, out, c);
     put(out, d, b"\n]\n")
 }
 
@@ -242,18 +223,17 @@ fn check(l: Layout, nodes: &[u8], edges: &[u8]) -> Result<(), Refusal>
 }
 
 // Writes the text of a host that is in order to a buffer that has room for it.
-fn export_host(l: Layout, nodes: &[u8], edges: &[u8], buffer: &mut [u8], length: &mut u64) -> Answer
-    requires legal { Legal l nodes.now edges.now }
-    requires few { Few l }
-    ensures { Exports (export_on none (text_of l nodes.now edges.now) buffer.old) (answer_number result) length.new buffer.new }
+fn export_host(host: &Graph, buffer: &mut [u8], length: &mut u64) -> Answer
+    requires { Few host.now.layout }
+    ensures { Exports (export_on none (text_of host.now.layout host.now.nodes.now host.now.edges.now) buffer.old) (answer_number result) length.new buffer.new }
 {
     let mut nothing = [0u8; 0];
-    let n = put_graph(l, nodes, edges, &mut nothing);
+    let n = put_graph(host, &mut nothing);
     *length = n as u64;
     if n > buffer.len() {
         return Answer::Refused(Refusal::BufferTooShort);
     }
-    put_graph(l, nodes, edges, buffer);
+    put_graph(host, buffer);
     Answer::Result
 }
 
@@ -273,5 +253,10 @@ pub fn export_tables(
         *length = 0;
         return Answer::Refused(why);
     }
-    export_host(l, nodes, edges, buffer, length)
+    let host = Graph {
+        layout: l,
+        nodes,
+        edges,
+    };
+    export_host(&host, buffer, length)
 }

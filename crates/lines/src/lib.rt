@@ -3,13 +3,14 @@
 
 ghost use Rattle.std.specs.Prelude.{◌≡◌, ◌+◌, ◌*◌, ◌<◌, ◌≤◌, length, get_or, take, drop};
 ghost use Rattle.meaning.specs.Numbers.{number};
-ghost use Rattle.meaning.specs.Layout.{free, read_nodes, read_edges};
-ghost use Rattle.graph.specs.Graph.{Legal, slots_in};
+ghost use Rattle.meaning.specs.Layout.{free};
+ghost use Rattle.graph.specs.Hosts.{host_in, slots_of};
 ghost use Rattle.writing.specs.Text.{Adds};
 ghost use Rattle.lines.specs.Lines.{report_size, answer_line, node_line, edge_line, slot_line, outcome};
 ghost use Rattle.lines.specs.Tables.{line_size, slot_text, lines_from};
 ghost use Rattle.lines.specs.Rooms.{answer_size, node_size, edge_size, listing_room, Ready};
 
+use graph::Graph;
 use meaning::{Layout, Table};
 use writing::{put, put_label, put_mark, put_number, put_root};
 
@@ -31,18 +32,17 @@ fn put_answer(out: &mut [u8], answer: u32, report: &[u8]) -> usize
 }
 
 // The line of a node's slot, where it is live.
-fn put_node(l: Layout, nodes: &[u8], edges: &[u8], x: usize, out: &mut [u8], at: usize) -> usize
-    requires legal { Legal l nodes.now edges.now }
-    requires x_in_bounds { x < length (read_nodes l nodes.now) }
+fn put_node(host: &Graph, x: usize, out: &mut [u8], at: usize) -> usize
+    requires x_in_bounds { x < length (host_in host.now).nodes }
     requires node_size_in_bounds { at + node_size ≤ length out.old }
-    ensures { Adds node_size (slot_line node_line x (get_or (read_nodes l nodes.now) x free)) out.old at out.new result }
+    ensures { Adds node_size (slot_line node_line x (get_or (host_in host.now).nodes x free)) out.old at out.new result }
 {
-    if !graph::node_live(l, nodes, edges, x) {
+    if !host.node_live(x) {
         return at;
     }
-    let mark = graph::node_mark(l, nodes, edges, x);
-    let root = graph::node_root(l, nodes, edges, x);
-    let label = graph::node_label(l, nodes, edges, x);
+    let mark = host.node_mark(x);
+    let root = host.node_root(x);
+    let label = host.node_label(x);
     let a = put(out, at, b"node");
     let b = put_number(out, a, x);
     let c = put_mark(out, b, mark);
@@ -51,19 +51,18 @@ fn put_node(l: Layout, nodes: &[u8], edges: &[u8], x: usize, out: &mut [u8], at:
 }
 
 // The line of an edge's slot, where it is live.
-fn put_edge(l: Layout, nodes: &[u8], edges: &[u8], x: usize, out: &mut [u8], at: usize) -> usize
-    requires legal { Legal l nodes.now edges.now }
-    requires x_in_bounds { x < length (read_edges l edges.now) }
+fn put_edge(host: &Graph, x: usize, out: &mut [u8], at: usize) -> usize
+    requires x_in_bounds { x < length (host_in host.now).edges }
     requires edge_size_in_bounds { at + edge_size ≤ length out.old }
-    ensures { Adds edge_size (slot_line edge_line x (get_or (read_edges l edges.now) x free)) out.old at out.new result }
+    ensures { Adds edge_size (slot_line edge_line x (get_or (host_in host.now).edges x free)) out.old at out.new result }
 {
-    if !graph::edge_live(l, nodes, edges, x) {
+    if !host.edge_live(x) {
         return at;
     }
-    let mark = graph::edge_mark(l, nodes, edges, x);
-    let source = graph::edge_source(l, nodes, edges, x);
-    let target = graph::edge_target(l, nodes, edges, x);
-    let label = graph::edge_label(l, nodes, edges, x);
+    let mark = host.edge_mark(x);
+    let source = host.edge_source(x);
+    let target = host.edge_target(x);
+    let label = host.edge_label(x);
     let a = put(out, at, b"edge");
     let b = put_number(out, a, x);
     let c = put_number(out, b, source);
@@ -73,42 +72,25 @@ fn put_edge(l: Layout, nodes: &[u8], edges: &[u8], x: usize, out: &mut [u8], at:
 }
 
 // The line of a slot of a table, where it is live.
-fn put_slot(
-    l: Layout,
-    nodes: &[u8],
-    edges: &[u8],
-    table: Table,
-    x: usize,
-    out: &mut [u8],
-    at: usize,
-) -> usize
-    requires legal { Legal l nodes.now edges.now }
-    requires x_bound { x < slots_in l nodes.now edges.now table }
+fn put_slot(host: &Graph, table: Table, x: usize, out: &mut [u8], at: usize) -> usize
+    requires x_bound { x < slots_of host.now table }
     requires table_in_bounds { at + line_size table ≤ length out.old }
-    ensures { Adds (line_size table) (slot_text l nodes.now edges.now table x) out.old at out.new result }
+    ensures { Adds (line_size table) (slot_text host.now.layout host.now.nodes.now host.now.edges.now table x) out.old at out.new result }
 {
     match table {
-        Table::Nodes => put_node(l, nodes, edges, x, out, at),
-        Table::Edges => put_edge(l, nodes, edges, x, out, at),
+        Table::Nodes => put_node(host, x, out, at),
+        Table::Edges => put_edge(host, x, out, at),
     }
 }
 
 // The lines of the live slots of a table.
-fn put_table(
-    l: Layout,
-    nodes: &[u8],
-    edges: &[u8],
-    table: Table,
-    out: &mut [u8],
-    start: usize,
-) -> usize
-    requires legal { Legal l nodes.now edges.now }
-    requires table_in_bounds { start + line_size table * slots_in l nodes.now edges.now table ≤ length out.old }
-    ensures { Adds (line_size table * slots_in l nodes.now edges.now table) (lines_from l nodes.now edges.now table 0) out.old start out.new result }
+fn put_table(host: &Graph, table: Table, out: &mut [u8], start: usize) -> usize
+    requires { start + line_size table * slots_of host.now table ≤ length out.old }
+    ensures { Adds (line_size table * slots_of host.now table) (lines_from host.now.layout host.now.nodes.now host.now.edges.now table 0) out.old start out.new result }
 {
     let mut at = start;
-    for x in 0..graph::slots_in(l, nodes, edges, table) {
-        at = put_slot(l, nodes, edges, table, x, out, at);
+    for x in 0..host.slots_in(table) {
+        at = put_slot(host, table, x, out, at);
     }
     at
 }
@@ -131,6 +113,11 @@ pub fn put_outcome(
     if answer != 0 {
         return at;
     }
-    let end = put_table(l, nodes, edges, Table::Nodes, out, at);
-    put_table(l, nodes, edges, Table::Edges, out, end)
+    let host = Graph {
+        layout: l,
+        nodes,
+        edges,
+    };
+    let end = put_table(&host, Table::Nodes, out, at);
+    put_table(&host, Table::Edges, out, end)
 }

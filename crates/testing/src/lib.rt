@@ -19,8 +19,8 @@ ghost use Rattle.testing.specs.Lent.{OperandIn, ConditionIn, TestIn};
 use agreeing::Trial;
 use fields::Field;
 use graph::Graph;
-use meaning::tags::{Relation, Tag};
 use meaning::Room;
+use meaning::tags::{Relation, Tag};
 use plan::{At, PlannedRule, Sorted};
 
 // One test, from its bytes.

@@ -9,40 +9,25 @@ use Rattle.carrying.proofs.Free.{live-there}
 use Rattle.carrying.proofs.Slots.{edge-again, edge-gone}
 use Rattle.carrying.proofs.carry_edge.Goals as goal
 
-pub is_live-requires : goal.is_live-requires
-is_live-requires c = c.requires.legal.sized
-
 pub edge_mark-mark-requires : goal.edge_mark-mark-requires
 edge_mark-mark-requires c =
     let a = c.args in
-    record {
-      legal = c.requires.legal;
-      x_in_bounds = live-there a.from a.nodes.now a.edges.now Edges a.x (sym c.is_live.ensures ∙ c.if-is_live.true);
-    }
+    (live-there a.host.now.layout a.host.now.nodes.now a.host.now.edges.now Edges a.x (sym c.is_live.ensures ∙ c.if-is_live.true))
 
 pub edge_source-source-requires : goal.edge_source-source-requires
 edge_source-source-requires c =
     let a = c.args in
-    record {
-      legal = c.requires.legal;
-      x_in_bounds = live-there a.from a.nodes.now a.edges.now Edges a.x (sym c.is_live.ensures ∙ c.if-is_live.true);
-    }
+    (live-there a.host.now.layout a.host.now.nodes.now a.host.now.edges.now Edges a.x (sym c.is_live.ensures ∙ c.if-is_live.true))
 
 pub edge_target-target-requires : goal.edge_target-target-requires
 edge_target-target-requires c =
     let a = c.args in
-    record {
-      legal = c.requires.legal;
-      x_in_bounds = live-there a.from a.nodes.now a.edges.now Edges a.x (sym c.is_live.ensures ∙ c.if-is_live.true);
-    }
+    (live-there a.host.now.layout a.host.now.nodes.now a.host.now.edges.now Edges a.x (sym c.is_live.ensures ∙ c.if-is_live.true))
 
 pub edge_label-requires : goal.edge_label-requires
 edge_label-requires c =
     let a = c.args in
-    record {
-      legal = c.requires.legal;
-      x_in_bounds = live-there a.from a.nodes.now a.edges.now Edges a.x (sym c.is_live.ensures ∙ c.if-is_live.true);
-    }
+    (live-there a.host.now.layout a.host.now.nodes.now a.host.now.edges.now Edges a.x (sym c.is_live.ensures ∙ c.if-is_live.true))
 
 pub slice_bounds-store_edge-end : goal.slice_bounds-store_edge-end
 slice_bounds-store_edge-end c = sym (held-length c.in_hand-len.result c.in_hand-len.ensures.held)
@@ -61,9 +46,9 @@ free_slot-requires c =
 pub returns-then-is_live : goal.returns-then-is_live
 returns-then-is_live c =
     let a = c.args in
-    c.store_edge.ensures ∙ ap (λ (s : Slot Edge). stored (edge_length a.to) a.x (write_edge a.to s) a.out.now) (edge-again (get_or (read_edges a.from a.edges.now) a.x free) c.edge_mark-mark.result c.edge_source-source.result c.edge_target-target.result (atoms_in c.in_hand-len.result) (sym c.is_live.ensures ∙ c.if-is_live.true) c.edge_mark-mark.ensures c.edge_source-source.ensures c.edge_target-target.ensures (c.in_hand-len.ensures.atoms ∙ c.edge_label.ensures.0))
+    c.store_edge.ensures ∙ ap (λ (s : Slot Edge). stored (edge_length a.to) a.x (write_edge a.to s) a.out.now) (edge-again (get_or (read_edges a.host.now.layout a.host.now.edges.now) a.x free) c.edge_mark-mark.result c.edge_source-source.result c.edge_target-target.result (atoms_in c.in_hand-len.result) (sym c.is_live.ensures ∙ c.if-is_live.true) c.edge_mark-mark.ensures c.edge_source-source.ensures c.edge_target-target.ensures (c.in_hand-len.ensures.atoms ∙ c.edge_label.ensures.0))
 
 pub returns-else-is_live : goal.returns-else-is_live
 returns-else-is_live c =
     let a = c.args in
-    c.free_slot.ensures ∙ (λ i. stored (c.requires.sized.edge i) a.x (replicate (c.requires.sized.edge i) 0) a.out.now) ∙ ap (λ (b : List ℕ). stored (edge_length a.to) a.x b a.out.now) (edge-gone a.to (get_or (read_edges a.from a.edges.now) a.x free) (sym c.is_live.ensures ∙ c.if-is_live.false))
+    c.free_slot.ensures ∙ (λ i. stored (c.requires.sized.edge i) a.x (replicate (c.requires.sized.edge i) 0) a.out.now) ∙ ap (λ (b : List ℕ). stored (edge_length a.to) a.x b a.out.now) (edge-gone a.to (get_or (read_edges a.host.now.layout a.host.now.edges.now) a.x free) (sym c.is_live.ensures ∙ c.if-is_live.false))

@@ -9,32 +9,20 @@ use Rattle.carrying.proofs.Free.{live-there}
 use Rattle.carrying.proofs.Slots.{node-again, node-gone}
 use Rattle.carrying.proofs.carry_node.Goals as goal
 
-pub is_live-requires : goal.is_live-requires
-is_live-requires c = c.requires.legal.sized
-
 pub node_mark-mark-requires : goal.node_mark-mark-requires
 node_mark-mark-requires c =
     let a = c.args in
-    record {
-      legal = c.requires.legal;
-      x_in_bounds = live-there a.from a.nodes.now a.edges.now Nodes a.x (sym c.is_live.ensures ∙ c.if-is_live.true);
-    }
+    (live-there a.host.now.layout a.host.now.nodes.now a.host.now.edges.now Nodes a.x (sym c.is_live.ensures ∙ c.if-is_live.true))
 
 pub node_root-root-requires : goal.node_root-root-requires
 node_root-root-requires c =
     let a = c.args in
-    record {
-      legal = c.requires.legal;
-      x_in_bounds = live-there a.from a.nodes.now a.edges.now Nodes a.x (sym c.is_live.ensures ∙ c.if-is_live.true);
-    }
+    (live-there a.host.now.layout a.host.now.nodes.now a.host.now.edges.now Nodes a.x (sym c.is_live.ensures ∙ c.if-is_live.true))
 
 pub node_label-requires : goal.node_label-requires
 node_label-requires c =
     let a = c.args in
-    record {
-      legal = c.requires.legal;
-      x_in_bounds = live-there a.from a.nodes.now a.edges.now Nodes a.x (sym c.is_live.ensures ∙ c.if-is_live.true);
-    }
+    (live-there a.host.now.layout a.host.now.nodes.now a.host.now.edges.now Nodes a.x (sym c.is_live.ensures ∙ c.if-is_live.true))
 
 pub slice_bounds-store_node-end : goal.slice_bounds-store_node-end
 slice_bounds-store_node-end c = sym (held-length c.in_hand-len.result c.in_hand-len.ensures.held)
@@ -53,9 +41,9 @@ free_slot-requires c =
 pub returns-then-is_live : goal.returns-then-is_live
 returns-then-is_live c =
     let a = c.args in
-    c.store_node.ensures ∙ ap (λ (s : Slot Node). stored (node_length a.to) a.x (write_node a.to s) a.out.now) (node-again (get_or (read_nodes a.from a.nodes.now) a.x free) c.node_mark-mark.result c.node_root-root.result (atoms_in c.in_hand-len.result) (sym c.is_live.ensures ∙ c.if-is_live.true) c.node_mark-mark.ensures c.node_root-root.ensures (c.in_hand-len.ensures.atoms ∙ c.node_label.ensures.0))
+    c.store_node.ensures ∙ ap (λ (s : Slot Node). stored (node_length a.to) a.x (write_node a.to s) a.out.now) (node-again (get_or (read_nodes a.host.now.layout a.host.now.nodes.now) a.x free) c.node_mark-mark.result c.node_root-root.result (atoms_in c.in_hand-len.result) (sym c.is_live.ensures ∙ c.if-is_live.true) c.node_mark-mark.ensures c.node_root-root.ensures (c.in_hand-len.ensures.atoms ∙ c.node_label.ensures.0))
 
 pub returns-else-is_live : goal.returns-else-is_live
 returns-else-is_live c =
     let a = c.args in
-    c.free_slot.ensures ∙ (λ i. stored (c.requires.sized.node i) a.x (replicate (c.requires.sized.node i) 0) a.out.now) ∙ ap (λ (b : List ℕ). stored (node_length a.to) a.x b a.out.now) (node-gone a.to (get_or (read_nodes a.from a.nodes.now) a.x free) (sym c.is_live.ensures ∙ c.if-is_live.false))
+    c.free_slot.ensures ∙ (λ i. stored (c.requires.sized.node i) a.x (replicate (c.requires.sized.node i) 0) a.out.now) ∙ ap (λ (b : List ℕ). stored (node_length a.to) a.x b a.out.now) (node-gone a.to (get_or (read_nodes a.host.now.layout a.host.now.nodes.now) a.x free) (sym c.is_live.ensures ∙ c.if-is_live.false))

@@ -10,6 +10,13 @@ returns-in-Err c =
     let a = c.args in
     left-refused a.manner a.from a.to (lending_tables a.nodes.now a.edges.now a.to_nodes.now a.to_edges.now) _ c.in-Err.ensures
 
+pub invariant_of-host : goal.invariant_of-host
+unfolding refusal_of
+invariant_of-host c =
+    let a = c.args in
+    let x = lending_tables a.nodes.now a.edges.now a.to_nodes.now a.to_edges.now in
+    record { legal = taken-legal a.manner a.from a.to x c.in_default.ensures c.requires.sized c.requires.atoms_le_most_atoms }
+
 pub carry_slots-requires : goal.carry_slots-requires
 unfolding refusal_of
 carry_slots-requires c =
@@ -17,7 +24,6 @@ carry_slots-requires c =
     let x = lending_tables a.nodes.now a.edges.now a.to_nodes.now a.to_edges.now in
     let e = c.in_default.ensures in
     record {
-      legal = taken-legal a.manner a.from a.to x e c.requires.sized c.requires.atoms_le_most_atoms;
       sized = c.requires.sized_2;
       out_len = nodes-size a.manner a.from a.to x e c.requires.sized_2;
       atoms_value = nodes-labels a.manner a.from a.to x e;
@@ -30,7 +36,6 @@ carry_slots-requires-2 c =
     let x = lending_tables a.nodes.now a.edges.now a.to_nodes.now a.to_edges.now in
     let e = c.in_default.ensures in
     record {
-      legal = taken-legal a.manner a.from a.to x e c.requires.sized c.requires.atoms_le_most_atoms;
       sized = c.requires.sized_2;
       out_len = edges-size a.manner a.from a.to x e c.requires.sized_2;
       atoms_value = edges-labels a.manner a.from a.to x e;

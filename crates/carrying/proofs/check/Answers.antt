@@ -4,12 +4,7 @@ use Rattle.meaning.specs.Carrying.{lending_tables}
 use Rattle.carrying.proofs.Checks.{legal}
 use Rattle.carrying.proofs.check.Goals as goal
 
-pub fits-requires : goal.fits-requires
-fits-requires c =
+pub invariant_of-host : goal.invariant_of-host
+invariant_of-host c =
     let a = c.args in
-    legal a.manner a.from a.to (lending_tables a.nodes.now a.edges.now a.to_nodes.now a.to_edges.now) c.requires.sized c.requires.sized_2 (sym c.lengths_agree.ensures ∙ c.if-not-lengths_agree.false) (sym c.lengths_agree-2.ensures ∙ c.if-not-lengths_agree-2.false) (sym c.keeps_layout.ensures ∙ c.if-not-keeps_layout.false) c.requires.atoms_le_most_atoms
-
-pub fits-requires-2 : goal.fits-requires-2
-fits-requires-2 c =
-    let a = c.args in
-    legal a.manner a.from a.to (lending_tables a.nodes.now a.edges.now a.to_nodes.now a.to_edges.now) c.requires.sized c.requires.sized_2 (sym c.lengths_agree.ensures ∙ c.if-not-lengths_agree.false) (sym c.lengths_agree-2.ensures ∙ c.if-not-lengths_agree-2.false) (sym c.keeps_layout.ensures ∙ c.if-not-keeps_layout.false) c.requires.atoms_le_most_atoms
+    record { legal = legal a.manner a.from a.to (lending_tables a.nodes.now a.edges.now a.to_nodes.now a.to_edges.now) c.requires.sized c.requires.sized_2 (sym c.lengths_agree.ensures ∙ c.if-not-lengths_agree.false) (sym c.lengths_agree-2.ensures ∙ c.if-not-lengths_agree-2.false) (sym c.keeps_layout.ensures ∙ c.if-not-keeps_layout.false) c.requires.atoms_le_most_atoms }

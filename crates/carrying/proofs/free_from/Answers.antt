@@ -10,5 +10,5 @@ returns c =
     let a = c.args in
     let end = c.slots_in-end.result in
     let found = all-between _ _ a.n end c.all.result
-    (cases_from_all _ _ c.all.result (λ x. live_in a.l a.nodes.now a.edges.now a.which x ≡ false) (λ x. live_in a.l a.nodes.now a.edges.now a.which x ≡ true) c.all.ensures.ran (YieldsList-from_range a.n end _ refl refl) (λ x q k. search (rules, tests)) (λ x q k. search (rules, tests))) in
-    free_told a.l a.nodes.now a.edges.now a.which a.n c.all.result (rw (← c.slots_in-end.ensures) found)
+    (cases_from_all _ _ c.all.result (λ x. live_in a.host.now.layout a.host.now.nodes.now a.host.now.edges.now a.which x ≡ false) (λ x. live_in a.host.now.layout a.host.now.nodes.now a.host.now.edges.now a.which x ≡ true) c.all.ensures.ran (YieldsList-from_range a.n end _ refl refl) (λ x q k. search (rules, tests)) (λ x q k. search (rules, tests))) in
+    free_told a.host.now.layout a.host.now.nodes.now a.host.now.edges.now a.which a.n c.all.result (rw (← c.slots_in-end.ensures) found)

@@ -8,9 +8,9 @@ use Rattle.carrying.proofs.is_live.Goals as goal
 pub returns-in-Nodes : goal.returns-in-Nodes
 returns-in-Nodes c =
     let a = c.args in
-    rw c.in-Nodes.is (c.live_slot.ensures ∙ ap (λ (w : ℕ). live_at (states w a.nodes.now) a.x) c.requires.node ∙ sym (live-nodes a.l a.nodes.now a.x))
+    rw c.in-Nodes.is (c.live_slot.ensures ∙ ap (λ (w : ℕ). live_at (states w a.host.now.nodes.now) a.x) c.args.host.now.legal.sized.node ∙ sym (live-nodes a.host.now.layout a.host.now.nodes.now a.x))
 
 pub returns-in-Edges : goal.returns-in-Edges
 returns-in-Edges c =
     let a = c.args in
-    rw c.in-Edges.is (c.live_slot-in-Edges.ensures ∙ ap (λ (w : ℕ). live_at (states w a.edges.now) a.x) c.requires.edge ∙ sym (live-edges a.l a.edges.now a.x))
+    rw c.in-Edges.is (c.live_slot-in-Edges.ensures ∙ ap (λ (w : ℕ). live_at (states w a.host.now.edges.now) a.x) c.args.host.now.legal.sized.edge ∙ sym (live-edges a.host.now.layout a.host.now.edges.now a.x))

@@ -11,5 +11,5 @@ returns c =
     let a = c.args in
     let n = c.slots_in-n.result in
     let found = all-below _ _ n c.all.result
-    (cases_from_all _ _ c.all.result (λ x. length (label_in a.l a.nodes.now a.edges.now a.which x) ≤ a.most) (λ x. a.most < length (label_in a.l a.nodes.now a.edges.now a.which x)) c.all.ensures.ran (YieldsList-from_range 0 n n refl (omega arith)) (λ x q k. search (rules, tests)) (λ x q k. search (rules, tests))) in
-    fit_told a.l a.nodes.now a.edges.now a.most a.which c.all.result (rw (← c.slots_in-n.ensures) found)
+    (cases_from_all _ _ c.all.result (λ x. length (label_in a.host.now.layout a.host.now.nodes.now a.host.now.edges.now a.which x) ≤ a.most) (λ x. a.most < length (label_in a.host.now.layout a.host.now.nodes.now a.host.now.edges.now a.which x)) c.all.ensures.ran (YieldsList-from_range 0 n n refl (omega arith)) (λ x q k. search (rules, tests)) (λ x q k. search (rules, tests))) in
+    fit_told a.host.now.layout a.host.now.nodes.now a.host.now.edges.now a.most a.which c.all.result (rw (← c.slots_in-n.ensures) found)

@@ -7,11 +7,11 @@ pub returns-in-Err : goal.returns-in-Err
 unfolding refusal_of
 returns-in-Err c = let a = c.args in left-refused a.l a.nodes.now a.edges.now a.buffer.now _ c.in-Err.ensures
 
-pub export_host-requires : goal.export_host-requires
+pub invariant_of-host : goal.invariant_of-host
 unfolding refusal_of
-export_host-requires c =
+invariant_of-host c =
     let a = c.args in
-    record { legal = taken-legal a.l a.nodes.now a.edges.now c.in_default.ensures c.requires.sized c.requires.few.atoms; few = c.requires.few }
+    record { legal = taken-legal a.l a.nodes.now a.edges.now c.in_default.ensures c.requires.sized c.requires.few.atoms }
 
 pub returns : goal.returns
 unfolding refusal_of

@@ -5,7 +5,6 @@ pub put_node-requires : goal.put_node-requires
 put_node-requires c =
     let q = c.in-Nodes.is in
     record {
-      legal = c.requires.legal;
       x_in_bounds = rw q at c.requires.x_bound;
       node_size_bound = rw q at c.requires.table_bound;
     }
@@ -14,7 +13,6 @@ pub put_edge-requires : goal.put_edge-requires
 put_edge-requires c =
     let q = c.in-Edges.is in
     record {
-      legal = c.requires.legal;
       x_in_bounds = rw q at c.requires.x_bound;
       edge_size_bound = rw q at c.requires.table_bound;
     }

@@ -6,18 +6,12 @@ use Rattle.lines.proofs.put_outcome.Goals as goal
 pub put_table-end-requires : goal.put_table-end-requires
 put_table-end-requires c =
     let ready = c.requires.ready c.if-answer-ne0.false in
-    record {
-      legal = ready.legal;
-      table_in_bounds = omega (arith, ready.room, c.requires.listing_room_in_bounds, c.put_answer-at.ensures.short);
-    }
+    omega (arith, ready.room, c.requires.listing_room_in_bounds, c.put_answer-at.ensures.short)
 
 pub put_table-requires : goal.put_table-requires
 put_table-requires c =
     let ready = c.requires.ready c.if-answer-ne0.false in
-    record {
-      legal = ready.legal;
-      table_in_bounds = omega (arith, ready.room, c.requires.listing_room_in_bounds, c.put_answer-at.ensures.short, c.put_table-end.ensures.short);
-    }
+    omega (arith, ready.room, c.requires.listing_room_in_bounds, c.put_answer-at.ensures.short, c.put_table-end.ensures.short)
 
 pub returns : goal.returns
 returns c =

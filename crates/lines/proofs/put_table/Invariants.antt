@@ -6,4 +6,4 @@ use Rattle.lines.proofs.put_table.Given as goal
 
 abbrev pub invariant-loop-x : goal.invariant-loop-x
 invariant-loop-x l =
-    Coming (lines_from l.l l.nodes l.edges l.table 0) (lines_from l.l l.nodes l.edges l.table l.x) l.initial.out l.start l.out l.at (line_size l.table * l.x)
+    Coming (lines_from l.host.layout l.host.nodes.now l.host.edges.now l.table 0) (lines_from l.host.layout l.host.nodes.now l.host.edges.now l.table l.x) l.initial.out l.start l.out l.at (line_size l.table * l.x)
