@@ -34,9 +34,9 @@ fn carry_lent(case: &[u8], to_nodes: &mut [u8], to_edges: &mut [u8]) {
         to_nodes,
         to_edges,
     );
-    io::print_decimal(1, number as u64);
-    cases::write_hex(&to_nodes[..]);
-    cases::write_hex(&to_edges[..]);
+    io::print_decimal(1, u64::from(number));
+    cases::write_hex(to_nodes);
+    cases::write_hex(to_edges);
     io::write_all(1, b"\n");
 }
 
@@ -49,21 +49,6 @@ fn carry_case(case: &[u8]) {
     carry_lent(case, &mut to_nodes[..n], &mut to_edges[..e]);
 }
 
-// Carries the next case, and says whether there was one.
-fn carry_next() -> bool {
-    let mut buffer = io::large_buffer();
-    let n = cases::read_case(&mut buffer);
-    if n == 0 {
-        return false;
-    }
-    carry_case(&buffer[..n]);
-    true
-}
-
-// A proved loop has to end, and nothing says that the input does: the turns are counted down, from a number that no run uses up.
 fn main() {
-    let mut turns = u64::MAX;
-    while turns > 0 && carry_next() {
-        turns -= 1;
-    }
+    cases::each_case(carry_case);
 }

@@ -18,36 +18,39 @@ impl Tag {
 fn list_image(core: Core, n: usize) -> bool {
     let mut image = io::large_buffer();
     let mut out = listing::buffer();
-    if n <= image.len() {
-        let got = io::read_full(0, &mut image[..n]);
-        if got == n {
-            let end = listing::list_image(core, &image[..n], &mut out);
-            return io::write_all(1, &out[..end]);
-        }
+    if n > image.len() || io::read_full(0, &mut image[..n]) != n {
+        return false;
     }
-    false
+    let end = listing::list_image(core, &image[..n], &mut out);
+    io::write_all(1, &out[..end])
+}
+
+// The core of an image's tag.
+fn core_of(tag: u8) -> Option<Core> {
+    match tag {
+        Tag::WIDE => Some(Core::Wide),
+        Tag::SMALL => Some(Core::Small),
+        _ => None,
+    }
 }
 
 // Lists the next image, and says whether there was one.
 fn list_next() -> bool {
     let mut head = [0u8; 3];
-    let got = io::read_full(0, &mut head);
-    if got == 3 {
-        let n = fields::number2(&head, 1);
-        if head[0] == Tag::WIDE {
-            return list_image(Core::Wide, n);
-        }
-        if head[0] == Tag::SMALL {
-            return list_image(Core::Small, n);
-        }
+    if io::read_full(0, &mut head) != 3 {
+        return false;
     }
-    false
+    let Some(core) = core_of(head[0]) else {
+        return false;
+    };
+    list_image(core, fields::number2(&head, 1))
 }
 
-// A proved loop has to end, and nothing says that the input does: the turns are counted down, from a number that no run uses up.
+// A proved loop has to end, and nothing says that the input does: it takes turns up to a number that no run uses up.
 fn main() {
-    let mut turns = u64::MAX;
-    while turns > 0 && list_next() {
-        turns -= 1;
+    for _ in 0..u64::MAX {
+        if !list_next() {
+            return;
+        }
     }
 }

@@ -4,7 +4,6 @@ ghost use Rattle.std.proofs.Math.Option.{none};
 ghost use Rattle.meaning.specs.Calls.{answer_number, run_refusal, run, lending, Yields};
 ghost use Rattle.interpreter.specs.Run.{RunLayout};
 
-use answers::Checked;
 use meaning::{Answer, Layout, Tally};
 
 // Runs the program of input that is not refused, from an empty journal.
@@ -23,10 +22,16 @@ fn start(
 {
     slots::bytes::clear(journal);
     let ran = commands::run_program(l, image, nodes, edges, journal, Tally::new(fuel as usize));
-    let end = ran.end;
-    let steps = ran.tally.steps;
-    let records = ran.tally.records;
-    finishing::finish(l, nodes, edges, journal, end, steps, records, report)
+    finishing::finish(
+        l,
+        nodes,
+        edges,
+        journal,
+        ran.end,
+        ran.tally.steps,
+        ran.tally.records,
+        report,
+    )
 }
 
 // Run: refuses with the lowest applicable number, or runs the image's program on the tables.
@@ -42,22 +47,9 @@ pub fn run_call(
     requires { RunLayout l }
     ensures { Yields (run l (lending nodes.old edges.old journal.old image.now fuel report.old)) (answer_number result) nodes.new edges.new journal.new report.new }
 {
-    let check = refusal::run_check(
-        l,
-        &nodes[..],
-        &edges[..],
-        &journal[..],
-        image,
-        fuel,
-        &report[..],
-    );
-    match check {
-        Checked::Refused(why) => {
-            answers::refuse(report);
-            return Answer::Refused(why);
-        }
-        Checked::Fine => {
-            return start(l, nodes, edges, journal, image, fuel, report);
-        }
+    if let Err(why) = refusal::run_check(l, nodes, edges, journal, image, fuel, report) {
+        answers::refuse(report);
+        return Answer::Refused(why);
     }
+    start(l, nodes, edges, journal, image, fuel, report)
 }

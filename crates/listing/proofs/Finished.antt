@@ -1,7 +1,7 @@
 -- A run that came to a result leaves tables whose lines have room; and what a listed run puts in the buffer.
 -- Rests on Listing and Rooms, on lines' Rooms and on laws' Calls and Undoing.
 use mathlib.Core.Path.{◌≡◌, refl, ◌∙◌, ap}
-use mathlib.Core.Option.{Option, some, none}
+use mathlib.Core.Option.{Option as Maybe, some, none}
 use mathlib.Core.List.{List}
 use Prim.Native.Nat.{ℕ, ◌*◌, ◌≤◌}
 use native.Mathlib.Nat.{mul_comm}
@@ -28,8 +28,7 @@ use Rattle.listing.specs.Listing.{run_outcome, listed, listing}
 use Rattle.listing.specs.Rooms.{Listable}
 use Rattle.lines.specs.Rooms.{listing_room, Ready}
 use Rattle.run_input.specs.declared.Ends.{Ends}
-use Rattle.run_input.specs.declared.Read.{Read}
-use Rattle.run_input.specs.declared.Read.TheVariants.{Accepted as accepting, Refused as refusing}
+use Rattle.std.specs.Prelude.{Option, Some, None}
 
 -- no refusal answers 0
 refusal-answers : (w : Refusal) → refusal_number w ≡ 0 → ⊥
@@ -65,7 +64,7 @@ module _ (L : Layout) (nodes edges journal image : List ℕ) (fuel : ℕ) (repor
   unfolding run program run_on refused answer_number
   result-accepted e = at (run_refusal L lent) refl e
     where
-      at : (w : Option Refusal) → run_refusal L lent ≡ w → answer_number (run_on L w (program image) lent).answer ≡ 0 → Accepted L lent
+      at : (w : Maybe Refusal) → run_refusal L lent ≡ w → answer_number (run_on L w (program image) lent).answer ≡ 0 → Accepted L lent
       at (some w) q z = absurd (refusal-answers w z)
       at none q z = accepted L lent q
 
@@ -103,16 +102,16 @@ module _ {before out : List ℕ} {r : ℕ} where
       let k : L.change * count ≡ count * record_length L = mul_comm L.change count ∙ ap (λ (n : ℕ). count * n) s.runs.sized.change in
       rw (← a, ← b, ← c, ← f, ← p, ← k, ← d) w
 
-  module _ (c : Core) (bs : List ℕ) (x : Read) (w : Reading bs x) where
-    pub image-listed : (L : Layout) → L ≡ layout_of c → (e : Ends) → x ≡ accepting e
-        → Lists (listed L (input_in bs (accepting e))) before out r → Lists (listing c bs) before out r
+  module _ (c : Core) (bs : List ℕ) (x : Option Ends) (w : Reading bs x) where
+    pub image-listed : (L : Layout) → L ≡ layout_of c → (e : Ends) → x ≡ Some e
+        → Lists (listed L (input_in bs (Some e))) before out r → Lists (listing c bs) before out r
     unfolding listing
     image-listed L i e q l = rw (← w.same, q, ← i) l
 
-    pub image-refused : {most : ℕ} → x ≡ refusing → Adds most (letters "input refused\n") before 0 out r → most ≤ listing_room
+    pub image-refused : {most : ℕ} → x ≡ None → Adds most (letters "input refused\n") before 0 out r → most ≤ listing_room
         → listing_room ≤ length out → Lists (listing c bs) before out r
     unfolding listing listed
     image-refused {most} q a m h = rw (← w.same, q) (lists (letters "input refused\n") most a (omega arith))
 
-pub reading-inside : (bs : List ℕ) (x : Read) (e : Ends) → x ≡ accepting e → Reading bs x → Inside bs e
+pub reading-inside : (bs : List ℕ) (x : Option Ends) (e : Ends) → x ≡ Some e → Reading bs x → Inside bs e
 reading-inside bs x e q w = rw q at w.within

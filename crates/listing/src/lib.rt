@@ -4,13 +4,12 @@
 ghost use Rattle.std.specs.Prelude.{◌≤◌, length};
 ghost use Rattle.writing.specs.Text.{Lists};
 ghost use Rattle.run_input.specs.Reading.{Inside, input_in};
-ghost use Rattle.run_input.specs.declared.Read.{Read};
 ghost use Rattle.listing.specs.Listing.{run_outcome, listed, listing};
 ghost use Rattle.lines.specs.Rooms.{listing_room};
 ghost use Rattle.listing.specs.Rooms.{full_journal, Zeros, Listable};
 
 use meaning::{Core, JournalTable, Layout};
-use run_input::{Ends, Read};
+use run_input::Ends;
 use writing::put;
 
 // Rooms: the bytes that every listing has room in, those of the longest journal, and those of a report.
@@ -50,7 +49,7 @@ fn list_run(
         &mut report,
     );
     let number = answers::answer_number(answer);
-    lines::put_outcome(l, &nodes[..], &edges[..], number, &report, out)
+    lines::put_outcome(l, nodes, edges, number, &report, out)
 }
 
 // The longest journal, all zero.
@@ -65,7 +64,7 @@ fn list_parts(l: Layout, image: &[u8], e: Ends, out: &mut [u8]) -> usize
     requires listable { Listable l }
     requires listing_room_in_bounds { listing_room ≤ length out.old }
     requires inside { Inside image.now e }
-    ensures { Lists (listed l (input_in image.now (Read.Accepted e))) out.old out.new result }
+    ensures { Lists (listed l (input_in image.now (Some e))) out.old out.new result }
 {
     let mut nodes = io::large_buffer();
     let mut edges = io::large_buffer();
@@ -98,9 +97,8 @@ pub fn list_image(core: Core, image: &[u8], out: &mut [u8]) -> usize
     requires { listing_room ≤ length out.old }
     ensures { Lists (listing core image.now) out.old out.new result }
 {
-    let input = run_input::read_input(image);
-    match input {
-        Read::Accepted(ends) => list_parts(Layout::of(core), image, ends, out),
-        Read::Refused => put(out, 0, b"input refused\n"),
+    match run_input::read_input(image) {
+        Some(ends) => list_parts(Layout::of(core), image, ends, out),
+        None => put(out, 0, b"input refused\n"),
     }
 }

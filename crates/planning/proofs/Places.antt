@@ -16,10 +16,10 @@ use Rattle.parts.specs.Rows.{rule_parted, preserving-is}
 use Rattle.parts.proofs.Loops.{no_part}
 use Rattle.plan.specs.Plan.{Part}
 use Rattle.plan.specs.Places.{place-there}
-use Rattle.planning.specs.Planning.{NumberAt, LiesAt, ModeAt}
+use Rattle.planning.specs.Planning.{NumberAt, Lying, ModeAt}
 
 -- what is read at a place, unless it is cut short
-pub lies-ok : (bs : List ℕ) (at : ℕ) (x : Result Field CutShort) → Some x ≡ field_at bs at → LiesAt bs at (result_ok x)
+pub lies-ok : (bs : List ℕ) (at : ℕ) (x : Result Field CutShort) → Some x ≡ field_at bs at → Lying bs at (result_ok x)
 lies-ok bs at (Ok f) e = sym e
 lies-ok bs at (Err x) e = λ tag start end g. let z : Some (Err x) ≡ found tag start end = e ∙ g in cc
 
@@ -29,21 +29,21 @@ unfolding nth_field
 number-first bs = refl
 
 module _ (bs : List ℕ) (n at : ℕ) (q : NumberAt bs n at) where
-  pub number-next : {f : Field} → LiesAt bs at (Some f) → NumberAt bs (suc n) f.end
+  pub number-next : {f : Field} → Lying bs at (Some f) → NumberAt bs (suc n) f.end
   number-next g = nth-next n bs 0 (q ∙ g)
 
   -- its part lies in the bytes
-  pub number-part : {f : Field} → LiesAt bs at (Some f) → Part bs n f.start f.end
+  pub number-part : {f : Field} → Lying bs at (Some f) → Part bs n f.start f.end
   number-part g = place-there bs n (sym q) g
 
   -- the first five parts of a rule are there
-  pub number-there : {r : Rule} → rule bs ≡ some r → n < 5 → LiesAt bs at None → ⊥
+  pub number-there : {r : Rule} → rule bs ≡ some r → n < 5 → Lying bs at None → ⊥
   number-there {r} e h k = let t = (rule_parted bs r e).there n h in k t.0 t.1 t.2 (sym q ∙ t.3)
 
 -- the mode, which may be missing
 module _ (bs : List ℕ) (at : ℕ) where
-  pub mode-read : {f : Field} {mode : ℕ} → LiesAt bs at (Some f) → mode ≡ get_or (take (f.end - f.start) (drop f.start bs)) 0 0 → ModeAt bs at mode
+  pub mode-read : {f : Field} {mode : ℕ} → Lying bs at (Some f) → mode ≡ get_or (take (f.end - f.start) (drop f.start bs)) 0 0 → ModeAt bs at mode
   mode-read {mode = mode} g m r e q = sym (preserving-is bs _ (eqb mode 1) (number-part bs 5 at q g).is (ap (λ (n : ℕ). eqb n 1) m) r e)
 
-  pub mode-none : LiesAt bs at None → ModeAt bs at 0
+  pub mode-none : Lying bs at None → ModeAt bs at 0
   mode-none k r e q = sym (preserving-is bs [] (eqb 0 1) (no_part bs _ _ refl (λ tag start end g. k tag start end (sym q ∙ g))) refl r e)

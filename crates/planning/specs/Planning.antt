@@ -29,9 +29,9 @@ abbrev pub NumberAt : List ℕ → ℕ → ℕ → Type 0
 NumberAt bs n at = nth_field n bs 0 ≡ field_at bs at
 
 -- the field at a place, if there is one
-abbrev pub LiesAt : List ℕ → ℕ → Option Field → Type 0
-LiesAt bs at (Some f) = field_at bs at ≡ Some (Ok f)
-LiesAt bs at None = (tag start end : ℕ) → field_at bs at ≡ found tag start end → ⊥
+abbrev pub Lying : List ℕ → ℕ → Option Field → Type 0
+Lying bs at (Some f) = field_at bs at ≡ Some (Ok f)
+Lying bs at None = (tag start end : ℕ) → field_at bs at ≡ found tag start end → ⊥
 
 -- the parts of a rule that its plan speaks of are the fields of their numbers, and the mode is the one behind them
 pub record PartsLie (bs : List ℕ) (p : Parts) : Type 0 where

@@ -7,7 +7,7 @@ ghost use Rattle.meaning.specs.Image.{Rule, RuleGraph, rule_graph, label};
 ghost use Rattle.meaning.specs.Assigned.{is_variable};
 ghost use Rattle.meaning.specs.declared.Element.{Element};
 ghost use Rattle.plan.specs.Plan.{plan_length, Placed, Items, Planned, IsLaid, For, Labelled, IsRule, edges_at, nodes_at};
-ghost use Rattle.planning.specs.Planning.{LiesAt, ModeAt, PartsOf, Named, HasGraph, IsNamed, Valued, decided_by, Decides, Plans, operand_decided, Occurring, FirstFound, Sorts, OnlyLabel, AllLabelled, IsLabelled};
+ghost use Rattle.planning.specs.Planning.{Lying, ModeAt, PartsOf, Named, HasGraph, IsNamed, Valued, decided_by, Decides, Plans, operand_decided, Occurring, FirstFound, Sorts, OnlyLabel, AllLabelled, IsLabelled};
 
 use fields::{Field, Fields};
 use meaning::tags::Tag;
@@ -224,7 +224,7 @@ fn plan_tests(rule: &[u8], plan: &mut [usize; At::LENGTH])
 
 // The field at a place.
 fn place(rule: &[u8], at: usize) -> Option<Field>
-    ensures { LiesAt rule.now at result }
+    ensures { Lying rule.now at result }
 {
     fields::read_field(rule, at)?.ok()
 }

@@ -14,9 +14,9 @@ impl Way {
 // Imports a text into tables that are lent, and writes what is left in them.
 fn import_lent(text: &[u8], nodes: &mut [u8], edges: &mut [u8]) {
     let number = interpreter::nhiemavut_import(text, nodes, edges);
-    io::print_decimal(1, number as u64);
-    cases::write_hex(&nodes[..]);
-    cases::write_hex(&edges[..]);
+    io::print_decimal(1, u64::from(number));
+    cases::write_hex(nodes);
+    cases::write_hex(edges);
     io::write_all(1, b"\n");
 }
 
@@ -24,10 +24,10 @@ fn import_lent(text: &[u8], nodes: &mut [u8], edges: &mut [u8]) {
 fn export_lent(nodes: &[u8], edges: &[u8], buffer: &mut [u8]) {
     let mut length: u64 = 0;
     let number = interpreter::nhiemavut_export(nodes, edges, buffer, &mut length);
-    io::print_decimal(1, number as u64);
+    io::print_decimal(1, u64::from(number));
     io::write_all(1, b" ");
     io::print_decimal(1, length);
-    cases::write_hex(&buffer[..]);
+    cases::write_hex(buffer);
     io::write_all(1, b"\n");
 }
 
@@ -47,27 +47,15 @@ fn export_case(case: &[u8]) {
     export_lent(cases::part(case, 1), cases::part(case, 2), &mut buffer[..n]);
 }
 
-// Tries the next case, and says whether there was one.
-fn try_next() -> bool {
-    let mut buffer = io::large_buffer();
-    let n = cases::read_case(&mut buffer);
-    if n == 0 {
-        return false;
-    }
-    let case = &buffer[..n];
-    let way = parts::byte_at(cases::part(case, 0), 0);
-    if way == Way::EXPORT {
+// Imports or exports a case, by its byte.
+fn try_case(case: &[u8]) {
+    if parts::byte_at(cases::part(case, 0), 0) == Way::EXPORT {
         export_case(case);
     } else {
         import_case(case);
     }
-    true
 }
 
-// A proved loop has to end, and nothing says that the input does: the turns are counted down, from a number that no run uses up.
 fn main() {
-    let mut turns = u64::MAX;
-    while turns > 0 && try_next() {
-        turns -= 1;
-    }
+    cases::each_case(try_case);
 }

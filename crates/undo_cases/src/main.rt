@@ -8,9 +8,10 @@ use meaning::Core;
 // The core of a case.
 fn core_of(case: &[u8]) -> Core {
     if parts::flag(cases::part(case, 5)) {
-        return Core::Small;
+        Core::Small
+    } else {
+        Core::Wide
     }
-    Core::Wide
 }
 
 // The call of a core.
@@ -38,11 +39,11 @@ fn undo_lent(
     report: &mut [u8],
 ) {
     let number = undo(core, nodes, edges, journal, count, report);
-    io::print_decimal(1, number as u64);
-    cases::write_hex(&report[..]);
-    cases::write_hex(&nodes[..]);
-    cases::write_hex(&edges[..]);
-    cases::write_hex(&journal[..]);
+    io::print_decimal(1, u64::from(number));
+    cases::write_hex(report);
+    cases::write_hex(nodes);
+    cases::write_hex(edges);
+    cases::write_hex(journal);
     io::write_all(1, b"\n");
 }
 
@@ -67,21 +68,6 @@ fn undo_case(case: &[u8]) {
     );
 }
 
-// Undoes the next case, and says whether there was one.
-fn undo_next() -> bool {
-    let mut buffer = io::large_buffer();
-    let n = cases::read_case(&mut buffer);
-    if n == 0 {
-        return false;
-    }
-    undo_case(&buffer[..n]);
-    true
-}
-
-// A proved loop has to end, and nothing says that the input does: the turns are counted down, from a number that no run uses up.
 fn main() {
-    let mut turns = u64::MAX;
-    while turns > 0 && undo_next() {
-        turns -= 1;
-    }
+    cases::each_case(undo_case);
 }

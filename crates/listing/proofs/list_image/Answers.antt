@@ -7,21 +7,21 @@ use Rattle.listing.proofs.list_image.Goals as goal
 
 pub list_parts-requires : goal.list_parts-requires
 list_parts-requires c =
-    let read-input = c.read_input-input in
+    let read-input = c.read_input in
     record {
       listable = rw c.of.ensures (core_listable c.args.core);
       listing_room_in_bounds = omega (arith, c.requires);
-      inside = reading-inside c.args.image.now read-input.result _ c.in-Accepted.is read-input.ensures;
+      inside = reading-inside c.args.image.now read-input.result _ c.in-Some.is read-input.ensures;
     }
 
-pub returns-in-Accepted : goal.returns-in-Accepted
-returns-in-Accepted c =
-    let read-input = c.read_input-input in
-    image-listed c.args.core c.args.image.now read-input.result read-input.ensures _ c.of.ensures _ c.in-Accepted.is c.list_parts.ensures
+pub returns-in-Some : goal.returns-in-Some
+returns-in-Some c =
+    let read-input = c.read_input in
+    image-listed c.args.core c.args.image.now read-input.result read-input.ensures _ c.of.ensures _ c.in-Some.is c.list_parts.ensures
 
-pub returns-in-Refused : goal.returns-in-Refused
+pub returns-in-None : goal.returns-in-None
 unfolding letters
-returns-in-Refused c =
-    let read-input = c.read_input-input in
+returns-in-None c =
+    let read-input = c.read_input in
     let put = c.put in
-    image-refused c.args.core c.args.image.now read-input.result read-input.ensures c.in-Refused.is put.ensures (omega arith) (omega (arith, c.requires, put.auto.out))
+    image-refused c.args.core c.args.image.now read-input.result read-input.ensures c.in-None.is put.ensures (omega arith) (omega (arith, c.requires, put.auto.out))
