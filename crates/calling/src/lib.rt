@@ -2,37 +2,35 @@
 #![tactic(auto)]
 
 ghost use Rattle.std.specs.Prelude.{◌≡◌, length};
-ghost use Rattle.graph.specs.Graph.{Legal};
 ghost use Rattle.values.specs.Values.{Stored};
 ghost use Rattle.ledger.specs.Running.{Running};
 ghost use Rattle.calling.specs.Called.{Listed, Called};
 ghost use Rattle.calling.specs.Choosing.{IsChoice, ran_after};
 ghost use Rattle.plan.specs.Plan.{plan_length};
 
+use graph::Graph;
 use meaning::{End, Layout, Ran, Room, Stop, Tally};
 use plan::At;
 
 // The number of the first of the rules of these numbers that has a match, with the slots of that match. Room is lent for the plan of
 // a rule and for the values of the match's variables.
 pub fn first_rule(
-    l: Layout,
+    host: &Graph,
     image: &[u8],
     numbers: &[u8],
-    nodes: &[u8],
-    edges: &[u8],
     plan: &mut [usize; At::LENGTH],
     lens: &mut [usize; Room::VARIABLES],
     atoms: &mut [u32; Room::ATOMS],
 ) -> Option<(usize, [usize; Room::ITEMS])>
-    requires legal { Legal l nodes.now edges.now }
     requires listed { Listed image.now numbers.now }
     requires plan_len { (length plan.old ≡ plan_length) × Stored lens.old atoms.old }
-    ensures { IsChoice l image.now numbers.now nodes.now edges.now result lens.new atoms.new }
+    ensures { IsChoice host.now.layout image.now numbers.now host.now.nodes.now host.now.edges.now result lens.new atoms.new }
 {
-    for &number in numbers {
-        let rule = parts::rule_part(image, usize::from(number));
-        if let Some(slots) = matching::first_match(l, nodes, edges, rule, plan, lens, atoms) {
-            return Some((usize::from(number), slots));
+    for &byte in numbers {
+        let number = usize::from(byte);
+        let rule = parts::rule_part(image, number);
+        if let Some(slots) = matching::first_match(host, rule, plan, lens, atoms) {
+            return Some((number, slots));
         }
     }
     None
@@ -72,16 +70,21 @@ pub fn call(
     let mut plan = [0usize; At::LENGTH];
     let mut lens = [0usize; Room::VARIABLES];
     let mut atoms = [0u32; Room::ATOMS];
-    let chosen = first_rule(
-        l, image, numbers, nodes, edges, &mut plan, &mut lens, &mut atoms,
-    );
-    let Some((number, slots)) = chosen else {
+    let host = Graph {
+        layout: l,
+        nodes,
+        edges,
+    };
+    let Some(chosen) = first_rule(&host, image, numbers, &mut plan, &mut lens, &mut atoms) else {
         return Ran {
             end: End::Failed,
             tally: t,
         };
     };
-    let rule = parts::rule_part(image, number);
-    let applied = applying::apply(l, nodes, edges, journal, t.records, rule, &slots, &lens, &atoms);
+
+    let rule = parts::rule_part(image, chosen.0);
+    let applied = applying::apply(
+        l, nodes, edges, journal, t.records, rule, &chosen.1, &lens, &atoms,
+    );
     after(t, applied)
 }

@@ -9,6 +9,7 @@ ghost use Rattle.pairs.specs.Pairs.{is_match, starts as doesStart, Answers};
 ghost use Rattle.plan.specs.Plan.{plan_length};
 
 use answers::Report;
+use graph::Graph;
 use meaning::{Layout, Room};
 use plan::At;
 
@@ -36,7 +37,12 @@ pub fn rule_match(
     ensures { (length plan.new ≡ plan_length) × Answers nodes.now edges.now image.now i result lens.new atoms.new }
 {
     let rule = parts::rule_part(image, i);
-    matching::first_match(Layout::base(), nodes, edges, rule, plan, lens, atoms)
+    let host = Graph {
+        layout: Layout::base(),
+        nodes,
+        edges,
+    };
+    matching::first_match(&host, rule, plan, lens, atoms)
 }
 
 // Writing.

@@ -2,10 +2,12 @@
 use Rattle.pairs.proofs.Starting.{legal, is-rule, answers}
 use Rattle.pairs.proofs.rule_match.Goals as goal
 
+pub invariant_of-host : goal.invariant_of-host
+invariant_of-host c = record { legal = legal _ _ _ c.requires.image_value _ c.base.ensures }
+
 pub first_match-requires : goal.first_match-requires
 first_match-requires c =
     record {
-      legal = legal _ _ _ c.requires.image_value _ c.base.ensures;
       rule = is-rule _ _ _ c.requires.image_value _ c.requires.fact _ c.rule_part-rule.ensures;
       plan_len = c.requires.plan_len;
     }
