@@ -9,34 +9,31 @@ ghost use Rattle.values.specs.Values.{Stored};
 ghost use Rattle.pairs.specs.Pairs.{starts as doesStart, Answers};
 ghost use Rattle.plan.specs.Plan.{plan_length};
 
-use matching::Matched;
 use meaning::Room;
 use plan::At;
 
 // The first match of the first rule, asked for n times, and at least once.
-fn repeated<'a>(
-    nodes: &'a [u8],
-    edges: &'a [u8],
+fn repeated(
+    nodes: &[u8],
+    edges: &[u8],
     image: &[u8],
     n: u32,
     plan: &mut [usize; At::LENGTH],
     lens: &mut [usize; Room::VARIABLES],
     atoms: &mut [u32; Room::ATOMS],
-) -> Matched
+) -> Option<[usize; Room::ITEMS]>
     requires image_value { doesStart nodes.now edges.now image.now ≡ true }
     requires fact { For (raw_program image.now) (λ p. 0 < length p.rules) }
     requires plan_len { (length plan.old ≡ plan_length) × Stored lens.old atoms.old }
     ensures { Answers nodes.now edges.now image.now 0 result lens.new atoms.new }
 {
-    let mut left = n;
-    while left > 1 {
+    for _ in 1..n {
         pairs::rule_match(nodes, edges, image, 0, plan, lens, atoms);
-        left -= 1;
     }
     pairs::rule_match(nodes, edges, image, 0, plan, lens, atoms)
 }
 
-fn match_first<'a>(nodes: &'a [u8], edges: &'a [u8], image: &[u8], n: u32)
+fn match_first(nodes: &[u8], edges: &[u8], image: &[u8], n: u32)
     requires image_value { doesStart nodes.now edges.now image.now ≡ true }
     requires fact { For (raw_program image.now) (λ p. 0 < length p.rules) }
 {
@@ -51,10 +48,8 @@ fn match_case(case: &[u8]) {
     let nodes = cases::part(case, 0);
     let edges = cases::part(case, 1);
     let image = cases::part(case, 2);
-    if pairs::starts(nodes, edges, image) {
-        if parts::rule_count(image) > 0 {
-            match_first(nodes, edges, image, cases::word(case, 3));
-        }
+    if pairs::starts(nodes, edges, image) && parts::rule_count(image) > 0 {
+        match_first(nodes, edges, image, cases::word(case, 3));
     }
 }
 

@@ -10,7 +10,7 @@ ghost use Rattle.pairs.specs.Pairs.{starts as doesStart};
 use meaning::Room;
 use plan::At;
 
-fn match_rule<'a>(nodes: &'a [u8], edges: &'a [u8], image: &[u8], i: usize)
+fn match_rule(nodes: &[u8], edges: &[u8], image: &[u8], i: usize)
     requires image_value { doesStart nodes.now edges.now image.now ≡ true }
     requires fact { For (raw_program image.now) (λ p. i < length p.rules) }
 {
@@ -21,14 +21,11 @@ fn match_rule<'a>(nodes: &'a [u8], edges: &'a [u8], image: &[u8], i: usize)
     pairs::write_match(parts::rule_part(image, i), found, lens, atoms);
 }
 
-fn match_rules<'a>(nodes: &'a [u8], edges: &'a [u8], image: &[u8])
+fn match_rules(nodes: &[u8], edges: &[u8], image: &[u8])
     requires { doesStart nodes.now edges.now image.now ≡ true }
 {
-    let n = parts::rule_count(image);
-    let mut i: usize = 0;
-    while i < n {
+    for i in 0..parts::rule_count(image) {
         match_rule(nodes, edges, image, i);
-        i += 1;
     }
 }
 
@@ -38,9 +35,9 @@ fn match_case(case: &[u8]) {
     let image = cases::part(case, 2);
     if pairs::starts(nodes, edges, image) {
         match_rules(nodes, edges, image);
-        return;
+    } else {
+        io::write_all(1, b"refused\n");
     }
-    io::write_all(1, b"refused\n");
 }
 
 // Matches the rules of the next case, and says whether there was one.

@@ -3,6 +3,8 @@
 use mathlib.Core.Path.{◌≡◌, refl, sym, ◌∙◌, ap}
 use mathlib.Core.Bool.{true, false}
 use mathlib.Core.Option.{Option, some, none}
+use Rattle.std.specs.Prelude as Rust
+use Rattle.std.specs.Result.{is_ok}
 use mathlib.Core.List.{List, []}
 use Prim.Native.Nat.{ℕ, ◌<◌}
 use native.Mathlib.Omega.{arith}
@@ -17,24 +19,18 @@ use Rattle.meaning.specs.declared.Layout.{Layout}
 use Rattle.meaning.specs.declared.Refusal.{Refusal}
 use Rattle.answers.specs.Answers.{refusal_of}
 use Rattle.laws.specs.Layout.{base-sized}
-use Rattle.answers.specs.declared.Checked.{Checked}
-use Rattle.answers.specs.declared.Checked.TheVariants.{Fine, Refused}
 use Rattle.parts.specs.Series.{For}
 use Rattle.graph.specs.Graph.{Legal}
 use Rattle.plan.specs.Plan.{IsRule}
 use Rattle.matching.specs.Values.{IsFirst}
-use Rattle.matching.specs.declared.Matched.{Matched}
 use Rattle.pairs.specs.Pairs.{is_fine, starts, Answers}
 
 module _ (nodes edges image : List ℕ) where
-  module _ (check : Checked) (right : refusal_of check ≡ run_refusal base (lending nodes edges [] image 0 (report_of 0 0))) where
-    pub starts-fine : check ≡ Fine → true ≡ starts nodes edges image
-    unfolding starts refusal_of is_fine
-    starts-fine e = ap is_fine (sym (ap refusal_of e) ∙ right)
-
-    pub starts-refused : (w : Refusal) → check ≡ Refused w → false ≡ starts nodes edges image
-    unfolding starts refusal_of is_fine
-    starts-refused w e = ap is_fine (sym (ap refusal_of e) ∙ right)
+  pub starts-is : (check : Rust.Result (Unit {0}) Refusal) → refusal_of check ≡ run_refusal base (lending nodes edges [] image 0 (report_of 0 0))
+      → is_ok check ≡ starts nodes edges image
+  unfolding starts refusal_of is_fine
+  starts-is (Rust.Ok u) e = ap is_fine e
+  starts-is (Rust.Err w) e = ap is_fine e
 
   fine : (o : Option Refusal) → is_fine o ≡ true → o ≡ none
   unfolding is_fine
@@ -64,7 +60,7 @@ module _ (nodes edges image : List ℕ) where
             holds = every_true rule_holds p.rules none_left (both_true _ _ taken.references).0 i below;
           }
 
-      pub answers : (l : Layout) → l ≡ base → (x : Matched) (lens atoms : List ℕ) → IsFirst l nodes edges part x lens atoms
+      pub answers : (l : Layout) → l ≡ base → (x : Rust.Option (List ℕ)) (lens atoms : List ℕ) → IsFirst l nodes edges part x lens atoms
           → Answers nodes edges image i x lens atoms
       answers l e x lens atoms first = let w : IsFirst base nodes edges part x lens atoms = rw e at first in record {
         arrays = w.arrays;

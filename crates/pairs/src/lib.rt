@@ -1,16 +1,14 @@
 // A host and a rule of an image: whether a run of the image on the host would start, and then the rule's first match.
 #![tactic(auto)]
 
-ghost use Rattle.std.specs.Prelude.{◌≡◌, true, length, ◌+◌, ◌<◌, ◌≤◌};
-ghost use Rattle.meaning.specs.Layout.{most_atoms};
+ghost use Rattle.std.specs.Prelude.{◌≡◌, true, length, ◌<◌};
 ghost use Rattle.meaning.specs.Image.{raw_program};
 ghost use Rattle.parts.specs.Series.{For};
-ghost use Rattle.values.specs.Values.{Stored, values_room};
+ghost use Rattle.values.specs.Values.{Stored};
 ghost use Rattle.pairs.specs.Pairs.{is_match, starts as doesStart, Answers};
 ghost use Rattle.plan.specs.Plan.{plan_length};
 
-use answers::{Checked, Report};
-use matching::{Matched, Outcome};
+use answers::Report;
 use meaning::{Layout, Room};
 use plan::At;
 
@@ -19,23 +17,19 @@ pub fn starts(nodes: &[u8], edges: &[u8], image: &[u8]) -> bool
     ensures { result ≡ doesStart nodes.now edges.now image.now }
 {
     let report = [0u8; Report::LENGTH];
-    let check = refusal::run_refusal(nodes, edges, &nodes[..0], image, 0, &report);
-    match check {
-        Checked::Fine => true,
-        Checked::Refused(why) => false,
-    }
+    refusal::run_refusal(nodes, edges, &nodes[..0], image, 0, &report).is_ok()
 }
 
-// The first match of the rule of number i. Room is lent for the rule's plan and for the values of its variables.
-pub fn rule_match<'a>(
-    nodes: &'a [u8],
-    edges: &'a [u8],
+// The slots of the first match of the rule of number i. Room is lent for the rule's plan and for the values of its variables.
+pub fn rule_match(
+    nodes: &[u8],
+    edges: &[u8],
     image: &[u8],
     i: usize,
     plan: &mut [usize; At::LENGTH],
     lens: &mut [usize; Room::VARIABLES],
     atoms: &mut [u32; Room::ATOMS],
-) -> Matched
+) -> Option<[usize; Room::ITEMS]>
     requires image_value { doesStart nodes.now edges.now image.now ≡ true }
     requires fact { For (raw_program image.now) (λ p. i < length p.rules) }
     requires plan_len { (length plan.old ≡ plan_length) × Stored lens.old atoms.old }
@@ -47,50 +41,29 @@ pub fn rule_match<'a>(
 
 // Writing.
 
-fn wide(x: u32) -> u64 {
-    x as u64
-}
-
 // Writes a number behind a blank.
 fn write_number(x: u64) {
     io::write_all(1, b" ");
     io::print_decimal(1, x);
 }
 
-fn write_slots(slots: [usize; Room::ITEMS], n: usize) {
-    let mut i: usize = 0;
-    while i < Room::ITEMS {
-        if i >= n {
-            return;
-        }
-        write_number(slots[i] as u64);
-        i += 1;
+fn write_slots(slots: &[usize; Room::ITEMS], n: usize) {
+    for slot in slots.iter().take(n) {
+        write_number(*slot as u64);
     }
 }
 
-// Writes the value of a variable: as many atoms from a place on.
-fn write_value(atoms: [u32; Room::ATOMS], start: usize, n: usize)
-    requires { start + most_atoms ≤ values_room }
-{
+// Writes the value of a variable: the first n of its atoms.
+fn write_value(atoms: &[u32], n: usize) {
     io::write_all(1, b" =");
-    let mut j: usize = 0;
-    while j < labels::MOST {
-        if j >= n {
-            return;
-        }
-        write_number(wide(atoms[start + j]));
-        j += 1;
+    for atom in atoms.iter().take(n) {
+        write_number(u64::from(*atom));
     }
 }
 
-fn write_values(lens: [usize; Room::VARIABLES], atoms: [u32; Room::ATOMS], n: usize) {
-    let mut v: usize = 0;
-    while v < Room::VARIABLES {
-        if v >= n {
-            return;
-        }
-        write_value(atoms, labels::MOST * v, lens[v]);
-        v += 1;
+fn write_values(lens: &[usize; Room::VARIABLES], atoms: &[u32; Room::ATOMS], n: usize) {
+    for (len, value) in lens.iter().zip(atoms.chunks(labels::MOST)).take(n) {
+        write_value(value, *len);
     }
 }
 
@@ -98,27 +71,19 @@ fn write_values(lens: [usize; Room::VARIABLES], atoms: [u32; Room::ATOMS], n: us
 // none. Says whether there is one.
 pub fn write_match(
     rule: &[u8],
-    found: Matched,
+    found: Option<[usize; Room::ITEMS]>,
     lens: [usize; Room::VARIABLES],
     atoms: [u32; Room::ATOMS],
 ) -> bool
-    ensures { result ≡ is_match found.outcome }
+    ensures { result ≡ is_match found }
 {
-    let items = parts::count_fields(parts::left_part(rule));
-    let variables = parts::variables_part(rule);
-    let outcome = found.outcome;
-    match outcome {
-        Outcome::Match => {
-            let slots = found.slots;
-            io::write_all(1, b"match");
-            write_slots(slots, items);
-            write_values(lens, atoms, variables.len());
-            io::write_all(1, b"\n");
-            return true;
-        }
-        Outcome::NoMatch => {
-            io::write_all(1, b"none\n");
-            return false;
-        }
-    }
+    let Some(slots) = found else {
+        io::write_all(1, b"none\n");
+        return false;
+    };
+    io::write_all(1, b"match");
+    write_slots(&slots, parts::count_fields(parts::left_part(rule)));
+    write_values(&lens, &atoms, parts::variables_part(rule).len());
+    io::write_all(1, b"\n");
+    true
 }

@@ -3,10 +3,10 @@ use Rattle.std.proofs.Common.{rules}
 use Rattle.pairs.specs.Pairs.{is_match}
 use Rattle.pairs.proofs.write_match.Goals as goal
 
-pub returns-in-Match : goal.returns-in-Match
+pub returns : goal.returns
 unfolding is_match
-returns-in-Match c = search rules
+returns c = search rules
 
-pub returns-in-NoMatch : goal.returns-in-NoMatch
+pub returns-in_default : goal.returns-in_default
 unfolding is_match
-returns-in-NoMatch c = search rules
+returns-in_default c = search rules

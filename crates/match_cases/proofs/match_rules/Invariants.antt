@@ -1,9 +1,0 @@
--- `match_rules` ends, and asks for rules that there are.
-use Rattle.std.proofs.Common.{◌-◌}
-use Rattle.match_cases.proofs.match_rules.Given as goal
-
-abbrev pub invariant-loop-i : goal.invariant-loop-i
-invariant-loop-i l = Unit {0}
-
-abbrev pub decreases-loop-i : goal.decreases-loop-i
-decreases-loop-i l = l.n - l.i
