@@ -10,6 +10,8 @@ use borrow.Author.Tests.{ltb-true}
 use lib.Dec.{ltb}
 use lib.ListN.{length, get_or, drop}
 use lib.Seq.{drop-cons, drop-length}
+use Rattle.std.specs.Prelude.{Some, None}
+use Rattle.std.specs.Prelude as Rust
 use Rattle.meaning.specs.Layout.{Host, host_of}
 use Rattle.meaning.specs.Image.{Rule, RawProgram, rule, raw_program}
 use Rattle.meaning.specs.FirstMatch.{first_match}
@@ -20,8 +22,6 @@ use Rattle.meaning.specs.declared.Layout.{Layout}
 use Rattle.parts.specs.Series.{For}
 use Rattle.plan.specs.Plan.{IsRule}
 use Rattle.matching.specs.Values.{IsFirst}
-use Rattle.matching.specs.declared.Matched.{Matched}
-use Rattle.matching.specs.declared.Outcome.TheVariants.{Match, NoMatch}
 use Rattle.calling.specs.Called.{Listed}
 use Rattle.calling.specs.Choosing.{IsChoice}
 
@@ -72,12 +72,11 @@ module _ (L : Layout) (image numbers nodes edges : List ℕ) where
       (λ p. first_rule p.rules (host_of L nodes edges) numbers ≡ first_rule p.rules (host_of L nodes edges) (drop i numbers))
 
   -- all were passed
-  pub none-chosen : (i : ℕ) → i ≤ length numbers → length numbers ≤ i → Passed i → (m : Matched) → m.outcome ≡ NoMatch
-      → (lens atoms : List ℕ) → IsChoice L image numbers nodes edges (record { number = 0; matched = m }) lens atoms
-  none-chosen i a b passed m q lens atoms =
+  pub none-chosen : (i : ℕ) → i ≤ length numbers → length numbers ≤ i → Passed i → (lens atoms : List ℕ) → IsChoice L image numbers nodes edges None lens atoms
+  none-chosen i a b passed lens atoms =
       record {
-        right = λ p e. rw q (sym (passed p e ∙ none_left p.rules (host_of L nodes edges) numbers i a b));
-        match = λ p e w. let z : ◌≡◌ {A = ℕ} 0 1 = cc in absurd (omega arith);
+        right = λ p e. sym (passed p e ∙ none_left p.rules (host_of L nodes edges) numbers i a b);
+        match = λ p e j s w. absurd (cc);
       }
 
 -- the bytes are the part of the rule of number n, which is listed at place i
@@ -103,29 +102,30 @@ module _ {image numbers bs : List ℕ} {i n : ℕ} (t : Tried image numbers bs i
         holds = (legal-rule p.tree.rules p.legal n).holds;
       }
 
-  module _ {L : Layout} {nodes edges lens atoms : List ℕ} {m : Matched} (passed : Passed L image numbers nodes edges i)
+  module _ {L : Layout} {nodes edges lens atoms : List ℕ} {m : Rust.Option (List ℕ)} (passed : Passed L image numbers nodes edges i)
       (first : IsFirst L nodes edges bs m lens atoms)
     where
       -- it has a match
-      pub chosen : m.outcome ≡ Match → IsChoice L image numbers nodes edges (record { number = n; matched = m }) lens atoms
-      chosen q =
+      pub chosen : (slots : List ℕ) → m ≡ Some slots → IsChoice L image numbers nodes edges (Some (n, slots)) lens atoms
+      chosen slots q =
           record {
             right = λ p e.
                 let k = rw q at (first.right (rule_at p.rules n) (there p e)) in
-                rw q
-                (sym
-                (passed p e ∙ tried-some p.rules (host_of L nodes edges) numbers i n t.inside t.number _ (sym k)));
-            match = λ p e w.
-                record {
+                sym (passed p e ∙ tried-some p.rules (host_of L nodes edges) numbers i n t.inside t.number _ (sym k));
+            match = λ p e j s w.
+                let a : n ≡ j = cc in
+                let b : slots ≡ s = cc in
+                rw (← a, ← b)
+                (record {
                   there = exists p e;
-                  room = first.room;
+                  room = first.room slots q;
                   arrays = first.arrays;
-                  values = first.values (rule_at p.rules n) (there p e) w;
-                };
+                  values = first.values (rule_at p.rules n) (there p e) slots q;
+                });
           }
 
       -- it has none
-      pub passes : m.outcome ≡ NoMatch → Passed L image numbers nodes edges (i + 1)
+      pub passes : m ≡ None → Passed L image numbers nodes edges (i + 1)
       passes q p e =
           let k = rw q at (first.right (rule_at p.rules n) (there p e)) in
           passed p e ∙ tried-none p.rules (host_of L nodes edges) numbers i n t.inside t.number (sym k)

@@ -55,6 +55,7 @@ fn match_case(case: &[u8]) {
 
 fn main() {
     let mut buffer = io::large_buffer();
-    let n = cases::read_case(&mut buffer);
-    match_case(&buffer[..n]);
+    if let Some(n) = cases::read_case(&mut buffer) {
+        match_case(&buffer[..n]);
+    }
 }

@@ -40,21 +40,6 @@ fn match_case(case: &[u8]) {
     }
 }
 
-// Matches the rules of the next case, and says whether there was one.
-fn match_next() -> bool {
-    let mut buffer = io::large_buffer();
-    let n = cases::read_case(&mut buffer);
-    if n == 0 {
-        return false;
-    }
-    match_case(&buffer[..n]);
-    true
-}
-
-// A proved loop has to end, and nothing says that the input does: the turns are counted down, from a number that no run uses up.
 fn main() {
-    let mut turns = u64::MAX;
-    while turns > 0 && match_next() {
-        turns -= 1;
-    }
+    cases::each_case(match_case);
 }

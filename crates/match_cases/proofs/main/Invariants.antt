@@ -1,8 +1,0 @@
--- `main` ends: the turns that are left fall. Nothing has to hold from turn to turn.
-use Rattle.match_cases.proofs.main.Given as goal
-
-abbrev pub invariant-loop-turns : goal.invariant-loop-turns
-invariant-loop-turns l = Unit {0}
-
-abbrev pub decreases-loop-turns : goal.decreases-loop-turns
-decreases-loop-turns l = l.turns
