@@ -6,4 +6,4 @@ use Rattle.pairs.proofs.starts.Goals as goal
 
 pub returns : goal.returns
 unfolding bytes
-returns c = c.is_ok.ensures ∙ starts-is _ _ _ _ c.run_refusal.ensures
+returns c = c.is_ok.ensures.value ∙ starts-is _ _ _ _ c.run_refusal.ensures
