@@ -113,8 +113,9 @@ module _ {image numbers bs : List ℕ} {i n : ℕ} (t : Tried image numbers bs i
                 let k = rw q at (first.right (rule_at p.rules n) (there p e)) in
                 sym (passed p e ∙ tried-some p.rules (host_of L nodes edges) numbers i n t.inside t.number _ (sym k));
             match = λ p e j s w.
-                let a : n ≡ j = cc in
-                let b : slots ≡ s = cc in
+                let z : ◌≡◌ {A = ℕ × List ℕ} (n, slots) (j, s) = cc in
+                let a = ap (λ (x : ℕ × List ℕ). x.0) z in
+                let b = ap (λ (x : ℕ × List ℕ). x.1) z in
                 rw (← a, ← b)
                 (record {
                   there = exists p e;

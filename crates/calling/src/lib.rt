@@ -29,10 +29,11 @@ pub fn first_rule(
     requires plan_len { (length plan.old ≡ plan_length) × Stored lens.old atoms.old }
     ensures { IsChoice l image.now numbers.now nodes.now edges.now result lens.new atoms.new }
 {
-    for &number in numbers {
-        let rule = parts::rule_part(image, usize::from(number));
+    for &byte in numbers {
+        let number = usize::from(byte);
+        let rule = parts::rule_part(image, number);
         if let Some(slots) = matching::first_match(l, nodes, edges, rule, plan, lens, atoms) {
-            return Some((usize::from(number), slots));
+            return Some((number, slots));
         }
     }
     None
@@ -72,16 +73,18 @@ pub fn call(
     let mut plan = [0usize; At::LENGTH];
     let mut lens = [0usize; Room::VARIABLES];
     let mut atoms = [0u32; Room::ATOMS];
-    let chosen = first_rule(
+    let Some(chosen) = first_rule(
         l, image, numbers, nodes, edges, &mut plan, &mut lens, &mut atoms,
-    );
-    let Some((number, slots)) = chosen else {
+    ) else {
         return Ran {
             end: End::Failed,
             tally: t,
         };
     };
-    let rule = parts::rule_part(image, number);
-    let applied = applying::apply(l, nodes, edges, journal, t.records, rule, &slots, &lens, &atoms);
+
+    let rule = parts::rule_part(image, chosen.0);
+    let applied = applying::apply(
+        l, nodes, edges, journal, t.records, rule, &chosen.1, &lens, &atoms,
+    );
     after(t, applied)
 }

@@ -16,6 +16,7 @@ use Rattle.laws.specs.Fuel.{exec_spending, rounds_bound}
 use Rattle.meaning.specs.declared.Stop.TheVariants.{OutOfFuel}
 use Rattle.meaning.specs.declared.End.{End}
 use Rattle.meaning.specs.declared.End.TheVariants.{Done, Failed, Broke, Stopped}
+use Rattle.std.specs.Prelude.{Some, None}
 use Rattle.ends.specs.Ends.{LeafTag, is_done, part_after, settled, closed}
 use Rattle.commands.specs.Cycle.{in_order}
 
@@ -113,28 +114,28 @@ module _ (most room : ℕ) (rules : List Rule) where
   -- Guarded commands: the guard came to o.
 
   module _ (keep : Bool) (l : List Command) (s : State) where
-    decide-runs : (e : End) (t u : State) (which : ℕ) → which ≡ part_after e → (which ≡ 0 → ⊥) → u ≡ settled e keep s t
+    decide-runs : (e : End) (t u : State) (which : ℕ) → part_after e ≡ Some which → u ≡ settled e keep s t
         → exec most room rules (get_or l which skip) u ≡ decide e keep s t (exec most room rules (get_or l 1 skip)) (exec most room rules (get_or l 2 skip))
     unfolding part_after settled decide
-    decide-runs Done t u which q n h = rw (q, h)
-    decide-runs Failed t u which q n h = rw (q, h)
-    decide-runs Broke t u which q n h = absurd (n q)
-    decide-runs (Stopped w) t u which q n h = absurd (n q)
+    decide-runs Done t u which q h = let z : ◌≡◌ {A = ℕ} 1 which = cc in rw (← z, h)
+    decide-runs Failed t u which q h = let z : ◌≡◌ {A = ℕ} 2 which = cc in rw (← z, h)
+    decide-runs Broke t u which q h = let z : ◌≡◌ {A = ℕ} 0 1 = cc in absurd (omega arith)
+    decide-runs (Stopped w) t u which q h = let z : ◌≡◌ {A = ℕ} 0 1 = cc in absurd (omega arith)
 
-    decide-stops : (e : End) (t : State) (a b : State → Out) → part_after e ≡ 0 → ends e t ≡ decide e keep s t a b
+    decide-stops : (e : End) (t : State) (a b : State → Out) → part_after e ≡ None → ends e t ≡ decide e keep s t a b
     unfolding part_after decide
-    decide-stops Done t a b q = absurd (omega arith)
-    decide-stops Failed t a b q = absurd (omega arith)
+    decide-stops Done t a b q = let z : ◌≡◌ {A = ℕ} 0 1 = cc in absurd (omega arith)
+    decide-stops Failed t a b q = let z : ◌≡◌ {A = ℕ} 0 1 = cc in absurd (omega arith)
     decide-stops Broke t a b q = refl
     decide-stops (Stopped w) t a b q = refl
 
     module _ (o : Out) (p : o ≡ exec most room rules (get_or l 0 skip) s) where
-      pub guarded-runs : (u : State) (which : ℕ) → which ≡ part_after o.end → (which ≡ 0 → ⊥) → u ≡ settled o.end keep s o.state
+      pub guarded-runs : (u : State) (which : ℕ) → part_after o.end ≡ Some which → u ≡ settled o.end keep s o.state
           → exec most room rules (get_or l which skip) u ≡ work most room rules (guarded keep (get_or l 0 skip) (get_or l 1 skip) (get_or l 2 skip)) s
       unfolding work
-      guarded-runs u which q n h = rw (← p) (decide-runs o.end o.state u which q n h)
+      guarded-runs u which q h = rw (← p) (decide-runs o.end o.state u which q h)
 
-      pub guarded-stops : part_after o.end ≡ 0 → o ≡ work most room rules (guarded keep (get_or l 0 skip) (get_or l 1 skip) (get_or l 2 skip)) s
+      pub guarded-stops : part_after o.end ≡ None → o ≡ work most room rules (guarded keep (get_or l 0 skip) (get_or l 1 skip) (get_or l 2 skip)) s
       unfolding work
       guarded-stops q = rw (← p) (decide-stops o.end o.state _ _ q)
 

@@ -29,6 +29,7 @@ use Rattle.ledger.specs.Running.{ledger_of, state_of, Running, out_of}
 use Rattle.ledger.specs.Whole.{records-count, running-legal}
 use Rattle.calling.specs.Called.{Called}
 use Rattle.meaning.specs.declared.Ran.{Ran}
+use Rattle.std.specs.Prelude.{Some, None}
 use Rattle.ends.specs.declared.Kind.{Kind}
 use Rattle.commands.specs.Program.{Runnable, RunsProgram}
 use Rattle.ends.specs.Ends.{LeafTag, RowTag, Tagged, kind_of, kind_tagged, is_done, part_after, settled, Earlier, Settled, Closed}
@@ -42,15 +43,12 @@ is_kind {tag = tag} {bs} w other h k e =
     let t : Tagged tag bs (kind_of tag bs) = rw (tagged w) (kind_tagged (was w).raw bs (λ x. other (tagged w ∙ x))) in
     subst (λ (x : Kind). Tagged tag bs x) (sym h ∙ e) t
 
-pub part-less : (e : End) → part_after e < 3
+pub which-less : {which : ℕ} (e : End) → part_after e ≡ Some which → which < 3
 unfolding part_after
-part-less Done = omega arith
-part-less Failed = omega arith
-part-less Broke = omega arith
-part-less (Stopped w) = omega arith
-
-pub which-less : {which : ℕ} (e : End) → which ≡ part_after e → which < 3
-which-less e h = omega (arith, part-less e)
+which-less {which} Done h = let z : ◌≡◌ {A = ℕ} 1 which = cc in omega arith
+which-less {which} Failed h = let z : ◌≡◌ {A = ℕ} 2 which = cc in omega arith
+which-less Broke h = let z : ◌≡◌ {A = ℕ} 0 1 = cc in absurd (omega arith)
+which-less (Stopped w) h = let z : ◌≡◌ {A = ℕ} 0 1 = cc in absurd (omega arith)
 
 -- the tally with which the work of a command begins
 abbrev pub spent : Tally → Tally
@@ -262,10 +260,10 @@ module _ (L : Layout) where
       unfolding nth-known
       guard-came w = m.right (nth-known w 0 (omega arith) q p)
 
-      pub guarded-stop : 0 ≡ part_after r.end → Comes L (Row 3 image bs) (runs_guarded L keep) nodes edges journal t r nodes' edges' journal'
+      pub guarded-stop : part_after r.end ≡ None → Comes L (Row 3 image bs) (runs_guarded L keep) nodes edges journal t r nodes' edges' journal'
       guarded-stop e =
           record {
-            right = λ w. guarded-stops L.atoms (journal_room L journal) w.runnable.programmed.tree.rules keep w.cmds _ _ (guard-came w) (sym e);
+            right = λ w. guarded-stops L.atoms (journal_room L journal) w.runnable.programmed.tree.rules keep w.cmds _ _ (guard-came w) e;
             running = m.running;
           }
 
@@ -290,18 +288,18 @@ module _ (L : Layout) where
               let g : after.steps ≡ r.tally.steps = ap (λ (x : State). x.steps) was_settled ∙ settled-steps r.end keep _ _ in
               record { running = (u.again _ guard-earlier).1; sum = omega (arith, a.sum) }
 
-          pub guarded-go : {which : ℕ} → which ≡ part_after r.end → (which ≡ 0 → ⊥) → {tag' : ℕ} {part' : List ℕ} → tag' ≡ nth_tag which bs → part' ≡ nth_part which bs
+          pub guarded-go : {which : ℕ} → part_after r.end ≡ Some which → {tag' : ℕ} {part' : List ℕ} → tag' ≡ nth_tag which bs → part' ≡ nth_part which bs
               → length journal'' ≡ length journal → {r' : Ran} {nodes''' edges''' journal''' : List ℕ}
               → Comes L (Known image tag' part') (runs_command L) nodes'' edges'' journal'' after r' nodes''' edges''' journal'''
               → Comes L (Row 3 image bs) (runs_guarded L keep) nodes edges journal t r' nodes''' edges''' journal'''
           unfolding nth-known
-          guarded-go {which} e n {tag'} {part'} q' p' s {r'} {nodes'''} {edges'''} {journal'''} m' =
-              let h : which < 3 = omega (arith, part-less r.end) in
+          guarded-go {which} e {tag'} {part'} q' p' s {r'} {nodes'''} {edges'''} {journal'''} m' =
+              let h : which < 3 = which-less r.end e in
               record {
                 right = λ w.
                     subst (λ (x : ℕ). out_of L r' nodes''' edges''' journal''' ≡ exec L.atoms x w.runnable.programmed.tree.rules (at w which) (state_of L nodes'' edges'' journal'' after)) (room-same journal'' journal s)
                     (m'.right (nth-known w which h q' p'))
-                    ∙ guarded-runs L.atoms (journal_room L journal) w.runnable.programmed.tree.rules keep w.cmds _ _ (guard-came w) _ which e n was_settled;
+                    ∙ guarded-runs L.atoms (journal_room L journal) w.runnable.programmed.tree.rules keep w.cmds _ _ (guard-came w) _ which e was_settled;
                 running = m'.running;
               }
 

@@ -11,7 +11,7 @@ ghost use Rattle.ends.specs.Ends.{RowTag};
 ghost use Rattle.commands.specs.Cycle.{Begun, Known, Row, RowIn, Comes, runs_command, runs_inside, runs_guarded, runs_loop};
 
 use ends::Kind;
-use fields::Found;
+use fields::{Field, Fields};
 use meaning::tags::Tag;
 use meaning::{End, Layout, Ran, Stop, Tally};
 
@@ -20,9 +20,10 @@ fn row_in<'a>(image: &'a [u8], tag: u8, p: &'a [u8]) -> &'a [u8]
     ensures { RowIn image.now tag p.now result.now }
 {
     if tag == Tag::CALL {
-        return parts::procedure_part(image, parts::number_at(p, 0));
+        parts::procedure_part(image, parts::number_at(p, 0))
+    } else {
+        p
     }
-    p
 }
 
 // Enters and runs a rule set of these numbers.
@@ -39,15 +40,13 @@ fn run_set(
     requires known { Known image.now rule_set_tag p.now }
     ensures { Comes l (Known image.now rule_set_tag p.now) (runs_command l) nodes.old edges.old journal.old t result nodes.new edges.new journal.new }
 {
-    let fuel = t.fuel;
-    if fuel == 0 {
+    if t.fuel == 0 {
         return Ran {
             end: End::Stopped(Stop::OutOfFuel),
             tally: t,
         };
     }
-    let spent = tally::entered(t);
-    calling::call(l, image, p, nodes, edges, journal, spent)
+    calling::call(l, image, p, nodes, edges, journal, tally::entered(t))
 }
 
 // A rule set inside other commands. The compiler puts it in the place of its call, and then what it lends shares the frame of
@@ -87,16 +86,14 @@ fn run_command<'a>(
     if tag == Tag::RULE_SET {
         return run_nested_set(l, image, p, nodes, edges, journal, t);
     }
-    let fuel = t.fuel;
-    if fuel == 0 {
+    if t.fuel == 0 {
         return Ran {
             end: End::Stopped(Stop::OutOfFuel),
             tally: t,
         };
     }
     let spent = tally::entered(t);
-    let kind = ends::kind_of(tag, p);
-    match kind {
+    match ends::kind_of(tag, p) {
         Kind::InRow => run_row(l, image, tag, p, nodes, edges, journal, spent),
         Kind::Guarded(keep) => run_guarded(
             l,
@@ -110,7 +107,7 @@ fn run_command<'a>(
         ),
         Kind::Loop => run_loop(l, image, p, nodes, edges, journal, spent),
         Kind::Leaf(end) => Ran {
-            end: end,
+            end,
             tally: spent,
         },
     }
@@ -133,25 +130,20 @@ fn run_row<'a>(
     ensures { Comes l (Known image.now tag p.now) (runs_inside l) nodes.old edges.old journal.old t result nodes.new edges.new journal.new }
 {
     let row = row_in(image, tag, p);
-    let mut at: usize = 0;
     let mut now_t = t;
-    while at < row.len() {
-        let found = fields::read_field(row, at);
-        let Found::Field(inner, start, end) = found else {
+    for field in Fields::of(row) {
+        let Ok(Field { tag: inner, start, end }) = field else {
             return Ran {
                 end: End::Done,
                 tally: now_t,
             };
         };
-        let part = fields::part(row, start, end);
+        let part = &row[start..end];
         let ran = run_command(l, image, inner, part, nodes, edges, journal, now_t);
-        let how = ran.end;
-        if ends::goes_on(how) {
-            at = end;
-            now_t = ran.tally;
-        } else {
+        if !ends::goes_on(ran.end) {
             return ran;
         }
+        now_t = ran.tally;
     }
     Ran {
         end: End::Done,
@@ -187,11 +179,9 @@ fn run_guarded<'a>(
         journal,
         t,
     );
-    let how = ran.end;
-    let which = ends::part_after(how);
-    if which == 0 {
+    let Some(which) = ends::part_after(ran.end) else {
         return ran;
-    }
+    };
     let part = parts::nth_part(p, which);
     let tag = parts::nth_tag(p, which);
     let after = ends::settle(l, keep, nodes, edges, journal, ran, mark);
@@ -219,8 +209,7 @@ fn run_loop<'a>(
     while now_t.fuel > 0 {
         let mark = now_t.records;
         let ran = run_command(l, image, tag, body, nodes, edges, journal, now_t);
-        let how = ran.end;
-        if ends::goes_on(how) {
+        if ends::goes_on(ran.end) {
             now_t = ran.tally;
         } else {
             return ends::close(l, nodes, edges, journal, ran, mark);

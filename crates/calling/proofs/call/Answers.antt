@@ -6,17 +6,17 @@ use Rattle.calling.proofs.call.Goals as goal
 use Rattle.calling.proofs.call.Goals.{After-rule_part-rule}
 
 found : (c : After-rule_part-rule)
-    → let f = c.first_rule-chosen in
+    → let f = c.first_rule in
     Found c.args.l c.args.image.now c.args.numbers.now c.args.nodes.now c.args.edges.now
-    c.rule_part-rule.result.now c.in-Some.number c.in-Some.slots f.new.lens f.new.atoms
+    c.rule_part-rule.result.now c.in-Some.chosen.0 c.in-Some.chosen.1 f.new.lens f.new.atoms
 found c =
     record {
-      choice = rw c.in-Some.is at c.first_rule-chosen.ensures;
+      choice = rw c.in-Some.is at c.first_rule.ensures;
       part = c.rule_part-rule.ensures;
     }
 
-pub first_rule-chosen-requires : goal.first_rule-chosen-requires
-first_rule-chosen-requires c =
+pub first_rule-requires : goal.first_rule-requires
+first_rule-requires c =
     record {
       legal = running-searched _ _ _ _ _ c.requires.running;
       listed = c.requires.listed;
@@ -36,4 +36,4 @@ returns c =
 
 pub returns-in_default : goal.returns-in_default
 returns-in_default c =
-    fails c.args.t c.first_rule-chosen.ensures c.in_default.is c.requires.running
+    fails c.args.t c.first_rule.ensures c.in_default.is c.requires.running

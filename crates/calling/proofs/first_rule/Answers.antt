@@ -4,17 +4,17 @@ use Rattle.calling.proofs.first_rule.Goals as goal
 use Rattle.calling.proofs.first_rule.Goals.{After-rule_part-rule}
 
 tried : (c : After-rule_part-rule)
-    → Tried c.args.image.now c.args.numbers.now c.rule_part-rule.result.now c.loop-number.number-index c.number
+    → Tried c.args.image.now c.args.numbers.now c.rule_part-rule.result.now c.loop-byte.byte-index c.from-number.result
 tried c =
     record {
       listed = c.requires.listed;
-      inside = ?;
-      number = ?;
+      inside = c.loop-byte-test.true;
+      number = c.from-number.ensures;
       part = c.rule_part-rule.ensures;
     }
 
-pub loop-number-init : goal.loop-number-init
-loop-number-init c =
+pub loop-byte-init : goal.loop-byte-init
+loop-byte-init c =
     let room = c.requires.plan_len in
     (λ p e. refl, room.0, room.1)
 
@@ -23,21 +23,21 @@ first_match-requires c =
     record {
       legal = c.requires.legal;
       rule = is-rule (tried (goal.at.first_match-requires c).After-rule_part-rule);
-      plan_len = (c.loop-number.invariant.1, c.loop-number.invariant.2);
+      plan_len = (c.loop-byte.invariant.1, c.loop-byte.invariant.2);
     }
 
 pub returns-in-Some : goal.returns-in-Some
 returns-in-Some c =
-    chosen (tried (goal.at.returns-in-Some c).After-rule_part-rule) c.loop-number.invariant.0 c.first_match.ensures.1 _ c.in-Some.is
+    chosen (tried (goal.at.returns-in-Some c).After-rule_part-rule) c.loop-byte.invariant.0 c.first_match.ensures.1 _ c.in-Some.is
 
-pub loop-number-preserved : goal.loop-number-preserved
-loop-number-preserved c =
-    let t = tried (goal.at.loop-number-preserved c).After-rule_part-rule in
+pub loop-byte-preserved : goal.loop-byte-preserved
+loop-byte-preserved c =
+    let t = tried (goal.at.loop-byte-preserved c).After-rule_part-rule in
     let first = c.first_match.ensures in
-    (passes t c.loop-number.invariant.0 first.1 c.in_default.is, first.0, first.1.arrays)
+    (passes t c.loop-byte.invariant.0 first.1 c.in_default.is, first.0, first.1.arrays)
 
 pub returns : goal.returns
 returns c =
     let a = c.args in
-    let loop = c.loop-number in
-    none-chosen a.l a.image.now a.numbers.now a.nodes.now a.edges.now loop.number-index ? ? loop.invariant.0 _ _
+    let loop = c.loop-byte in
+    none-chosen a.l a.image.now a.numbers.now a.nodes.now a.edges.now loop.byte-index (omega arith) (omega arith) loop.invariant.0 _ _

@@ -5,6 +5,6 @@ use Rattle.calling.proofs.Choosing.{Passed}
 use Rattle.plan.specs.Plan.{plan_length}
 use Rattle.calling.proofs.first_rule.Given as goal
 
-abbrev pub invariant-loop-number : goal.invariant-loop-number
-invariant-loop-number l =
-    Passed l.l l.image l.numbers l.nodes l.edges l.number-index × (length l.plan ≡ plan_length) × Stored l.lens l.atoms
+abbrev pub invariant-loop-byte : goal.invariant-loop-byte
+invariant-loop-byte l =
+    Passed l.l l.image l.numbers l.nodes l.edges l.byte-index × (length l.plan ≡ plan_length) × Stored l.lens l.atoms

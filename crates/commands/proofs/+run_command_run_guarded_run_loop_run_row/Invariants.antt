@@ -1,7 +1,6 @@
 -- The cycle of `run_command`, `run_guarded`, `run_loop` and `run_row` meets its contracts. The measure is twice the fuel, and one
--- more for what has been entered. A row's invariant: the commands from the place on come to what the row comes to; its measure is
--- what is left of the bytes. A loop's invariant: from here it comes to what it comes to from its start; its measure is the fuel.
-use Rattle.std.proofs.Common.{◌*◌, ◌+◌, ◌+◌, ◌-◌, ◌*◌, length}
+-- more for what has been entered. A row's invariant: the commands from the place on come to what the row comes to. A loop's invariant: from here it comes to what it comes to from its start; its measure is the fuel.
+use Rattle.std.proofs.Common.{◌≡◌, ◌*◌, ◌+◌}
 use Rattle.commands.proofs.Turns.{Going, Looping}
 use Rattle.commands.proofs.+run_command_run_guarded_run_loop_run_row.Given as goal
 
@@ -23,8 +22,7 @@ invariant-run_loop-loop-now_t l = Looping l.l l.image l.p l.initial.nodes l.init
 abbrev pub decreases-run_loop-loop-now_t : goal.decreases-run_loop-loop-now_t
 decreases-run_loop-loop-now_t l = l.now_t.fuel
 
-abbrev pub invariant-run_row-loop-at : goal.invariant-run_row-loop-at
-invariant-run_row-loop-at l = Going l.l l.image l.row l.initial.nodes l.initial.edges l.initial.journal l.initial.now_t l.at l.nodes l.edges l.journal l.now_t
-
-abbrev pub decreases-run_row-loop-at : goal.decreases-run_row-loop-at
-decreases-run_row-loop-at l = length l.row - l.at
+abbrev pub invariant-run_row-loop-field : goal.invariant-run_row-loop-field
+invariant-run_row-loop-field l =
+    (l.field-iterator.bytes.now ≡ l.row)
+    × Going l.l l.image l.row l.initial.nodes l.initial.edges l.initial.journal l.initial.now_t l.field-iterator.place l.nodes l.edges l.journal l.now_t

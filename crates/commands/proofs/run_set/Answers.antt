@@ -4,14 +4,14 @@ use Rattle.commands.proofs.Parts.{listed}
 use Rattle.commands.proofs.Turns.{out-of-fuel, begun-spent, paid-set}
 use Rattle.commands.proofs.run_set.Goals as goal
 
-pub returns-then-fuel-eq0 : goal.returns-then-fuel-eq0
-returns-then-fuel-eq0 c = out-of-fuel _ c.if-fuel-eq0.true c.requires.begun
+pub returns-then-t-eq0 : goal.returns-then-t-eq0
+returns-then-t-eq0 c = out-of-fuel _ c.if-t-eq0.true c.requires.begun
 
 pub call-requires : goal.call-requires
 call-requires c = record {
-  running = (begun-spent _ c.entered-spent.ensures c.if-fuel-eq0.false c.requires.begun).running;
+  running = (begun-spent _ c.entered.ensures c.if-t-eq0.false c.requires.begun).running;
   listed = listed c.requires.known refl;
 }
 
 pub returns : goal.returns
-returns c = paid-set _ c.entered-spent.ensures c.if-fuel-eq0.false refl c.call.ensures
+returns c = paid-set _ c.entered.ensures c.if-t-eq0.false refl c.call.ensures

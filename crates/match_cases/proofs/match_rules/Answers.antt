@@ -5,5 +5,5 @@ use Rattle.match_cases.proofs.match_rules.Goals as goal
 pub match_rule-requires : goal.match_rule-requires
 match_rule-requires c = record {
   image_value = c.requires;
-  fact = λ p e. omega (arith, c.rule_count.ensures p e);
+  fact = λ p e. omega (arith, c.rule_count-i-end.ensures p e);
 }
