@@ -1,4 +1,4 @@
-use Rattle.std.proofs.Common.{◌-◌, refl, arith}
+use Rattle.std.proofs.Common.{refl, arith}
 use Rattle.calling.proofs.Choosing.{none-chosen, Tried, is-rule, chosen, passes}
 use Rattle.calling.proofs.first_rule.Goals as goal
 use Rattle.calling.proofs.first_rule.Goals.{After-rule_part-rule}
