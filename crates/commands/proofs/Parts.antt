@@ -15,7 +15,7 @@ use Rattle.meaning.specs.Basics.{every}
 use Rattle.meaning.specs.Image as Image
 use Rattle.meaning.specs.Image.{Rule, limits, Raw, RawProgram, only, passes_all, command, raw_program}
 use Rattle.meaning.specs.References.{names_exist, references}
-use Rattle.meaning.specs.Procedures.{Command, rule_set, sequence, guarded, loop, skip, fail, break, program}
+use Rattle.meaning.specs.Procedures.{Command, rule_set, sequence, guarded, loop, skip, program}
 use Rattle.meaning.specs.Commands.{State, work, works}
 use Rattle.meaning.specs.Laws.Tests.{both_true, every_true}
 use Rattle.laws.specs.Procedures.{StandsFor, put_in_some}

@@ -106,10 +106,7 @@ fn run_command<'a>(
             spent,
         ),
         Kind::Loop => run_loop(l, image, p, nodes, edges, journal, spent),
-        Kind::Leaf(end) => Ran {
-            end,
-            tally: spent,
-        },
+        Kind::Leaf(end) => Ran { end, tally: spent },
     }
 }
 
@@ -132,7 +129,14 @@ fn run_row<'a>(
     let row = row_in(image, tag, p);
     let mut now_t = t;
     for field in Fields::of(row) {
-        let Ok(Field { tag: inner, start, end }) = field else {
+        let Ok(
+            Field {
+                tag: inner,
+                start,
+                end,
+            },
+        ) = field
+        else {
             return Ran {
                 end: End::Done,
                 tally: now_t,
