@@ -4,6 +4,7 @@
 ghost use Rattle.std.specs.Prelude.{◌≡◌};
 ghost use Rattle.meaning.specs.Layout.{base, four, small, layout_of};
 
+mod numbers;
 pub mod tags;
 
 // A sum's, a difference's or a relation test's operand. An atom is held as its 32-bit word.
@@ -38,37 +39,37 @@ pub struct Test {
     pub condition: Condition,
 }
 
-// Why a run that has started ends at once: nothing catches these.
+// Why a run that has started ends at once: nothing catches these. Each has the number of its answer.
 #[derive(Clone, Copy)]
 pub enum Stop {
-    OutOfFuel,
-    NoNodeRoom,
-    NoEdgeRoom,
-    NoRecordRoom,
-    LabelTooLarge,
+    OutOfFuel = 2,
+    NoNodeRoom = 3,
+    NoEdgeRoom = 4,
+    NoRecordRoom = 5,
+    LabelTooLarge = 6,
 }
 
-// What is wrong with the input of a call.
+// What is wrong with the input of a call, with the number of its answer.
 #[derive(Clone, Copy)]
 pub enum Refusal {
-    ReportLength,
-    NodeTableLength,
-    EdgeTableLength,
-    JournalLength,
-    TooMuchFuel,
-    ImageTooLong,
-    BadHost,
-    BadForm,
-    BadReferences,
-    BadPlacement,
-    BadDepth,
-    BadRecords,
-    BadText,
-    BadNames,
-    TextDoesNotFit,
-    BufferTooShort,
-    LabelDoesNotFit,
-    HostDoesNotFit,
+    ReportLength = 9,
+    NodeTableLength = 10,
+    EdgeTableLength = 11,
+    JournalLength = 12,
+    TooMuchFuel = 13,
+    ImageTooLong = 14,
+    BadHost = 15,
+    BadForm = 16,
+    BadReferences = 17,
+    BadPlacement = 18,
+    BadDepth = 19,
+    BadRecords = 20,
+    BadText = 22,
+    BadNames = 23,
+    TextDoesNotFit = 24,
+    BufferTooShort = 25,
+    LabelDoesNotFit = 26,
+    HostDoesNotFit = 29,
 }
 
 // The answer of a call.
