@@ -1,13 +1,13 @@
-// What both calls share: the check of the lengths (answers 9 to 12), the report, and the numbers of the answers.
+// What both calls share: the check of the lengths (answers 9 to 12) and the report.
 #![tactic(auto)]
 
 ghost use Rattle.std.specs.Prelude.{◌≡◌, eqb, length};
 ghost use Rattle.meaning.specs.Basics.{choose, first_failing};
 ghost use Rattle.meaning.specs.Layout.{Sized};
-ghost use Rattle.meaning.specs.Calls.{length_checks, report_of, answer_number, refusal_number, stop_number};
+ghost use Rattle.meaning.specs.Calls.{length_checks, report_of};
 ghost use Rattle.answers.specs.Answers.{refusal_of, report_length};
 
-use meaning::{Answer, Layout, Refusal, Stop};
+use meaning::{Layout, Refusal};
 
 // A report: two numbers, the steps and the records.
 #[derive(Drop)]
@@ -63,58 +63,5 @@ pub fn refuse(report: &mut [u8])
 {
     if report.len() == Report::LENGTH {
         put_report(report, 0, 0);
-    }
-}
-
-// The numbers of the answers.
-
-#[tactic(auto, unfolding(meaning::specs::Calls::refusal_number))]
-fn refusal_number(why: Refusal) -> u32
-    ensures { result ≡ refusal_number why }
-{
-    match why {
-        Refusal::ReportLength => 9,
-        Refusal::NodeTableLength => 10,
-        Refusal::EdgeTableLength => 11,
-        Refusal::JournalLength => 12,
-        Refusal::TooMuchFuel => 13,
-        Refusal::ImageTooLong => 14,
-        Refusal::BadHost => 15,
-        Refusal::BadForm => 16,
-        Refusal::BadReferences => 17,
-        Refusal::BadPlacement => 18,
-        Refusal::BadDepth => 19,
-        Refusal::BadRecords => 20,
-        Refusal::BadText => 22,
-        Refusal::BadNames => 23,
-        Refusal::TextDoesNotFit => 24,
-        Refusal::BufferTooShort => 25,
-        Refusal::LabelDoesNotFit => 26,
-        Refusal::HostDoesNotFit => 29,
-    }
-}
-
-#[tactic(auto, unfolding(meaning::specs::Calls::stop_number))]
-fn stop_number(why: Stop) -> u32
-    ensures { result ≡ stop_number why }
-{
-    match why {
-        Stop::OutOfFuel => 2,
-        Stop::NoNodeRoom => 3,
-        Stop::NoEdgeRoom => 4,
-        Stop::NoRecordRoom => 5,
-        Stop::LabelTooLarge => 6,
-    }
-}
-
-#[tactic(auto, unfolding(meaning::specs::Calls::answer_number))]
-pub fn answer_number(a: Answer) -> u32
-    ensures { result ≡ answer_number a }
-{
-    match a {
-        Answer::Result => 0,
-        Answer::Fail => 1,
-        Answer::Stopped(why) => stop_number(why),
-        Answer::Refused(why) => refusal_number(why),
     }
 }

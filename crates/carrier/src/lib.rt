@@ -89,7 +89,7 @@ fn carry_to(
     slots::bytes::clear(to_nodes);
     slots::bytes::clear(to_edges);
     let answer = carrying::carry_tables(Manner::Exact, from, to, nodes, edges, to_nodes, to_edges);
-    let number = answers::answer_number(answer) as usize;
+    let number = u32::from(answer) as usize;
     if number == 0 {
         put_tables(to_nodes, to_edges, out)
     } else {

@@ -24,15 +24,7 @@ pub extern "C" fn nhiemavut_run(
 ) -> u32
     ensures { RunPromise base (lending nodes.old edges.old journal.old image.now fuel report.old) result nodes.new edges.new journal.new report.new }
 {
-    answers::answer_number(running::run_call(
-        Layout::base(),
-        nodes,
-        edges,
-        journal,
-        image,
-        fuel,
-        report,
-    ))
+    u32::from(running::run_call(Layout::base(), nodes, edges, journal, image, fuel, report))
 }
 
 // Stores the counted records of the journal back from last to first, zeros them, and reports 0 steps and the count.
@@ -46,7 +38,7 @@ pub extern "C" fn nhiemavut_undo(
 ) -> u32
     ensures { UndoPromise base (lending_undo nodes.old edges.old journal.old count report.old) result nodes.new edges.new journal.new report.new }
 {
-    answers::answer_number(undo::undo_call(Layout::base(), nodes, edges, journal, count, report))
+    u32::from(undo::undo_call(Layout::base(), nodes, edges, journal, count, report))
 }
 
 // The small core: labels of at most one atom, slot numbers of one byte.
@@ -63,15 +55,7 @@ pub extern "C" fn nhiemavut_small_run(
 ) -> u32
     ensures { RunPromise small (lending nodes.old edges.old journal.old image.now fuel report.old) result nodes.new edges.new journal.new report.new }
 {
-    answers::answer_number(running::run_call(
-        Layout::small(),
-        nodes,
-        edges,
-        journal,
-        image,
-        fuel,
-        report,
-    ))
+    u32::from(running::run_call(Layout::small(), nodes, edges, journal, image, fuel, report))
 }
 
 // Stores the counted records of a small journal back to small tables.
@@ -85,7 +69,7 @@ pub extern "C" fn nhiemavut_small_undo(
 ) -> u32
     ensures { UndoPromise small (lending_undo nodes.old edges.old journal.old count report.old) result nodes.new edges.new journal.new report.new }
 {
-    answers::answer_number(undo::undo_call(Layout::small(), nodes, edges, journal, count, report))
+    u32::from(undo::undo_call(Layout::small(), nodes, edges, journal, count, report))
 }
 
 // Between layouts, slot numbers kept.
@@ -100,7 +84,7 @@ pub extern "C" fn nhiemavut_widen(
 ) -> u32
     ensures { Carries (widen (lending_tables nodes.now edges.now to_nodes.old to_edges.old)) result to_nodes.new to_edges.new }
 {
-    answers::answer_number(carrying::carry_tables(
+    u32::from(carrying::carry_tables(
         Manner::Exact,
         Layout::four(),
         Layout::base(),
@@ -121,7 +105,7 @@ pub extern "C" fn nhiemavut_narrow(
 ) -> u32
     ensures { Carries (narrow (lending_tables nodes.now edges.now to_nodes.old to_edges.old)) result to_nodes.new to_edges.new }
 {
-    answers::answer_number(carrying::carry_tables(
+    u32::from(carrying::carry_tables(
         Manner::Exact,
         Layout::base(),
         Layout::four(),
@@ -142,7 +126,7 @@ pub extern "C" fn nhiemavut_pack(
 ) -> u32
     ensures { Carries (pack (lending_tables nodes.now edges.now to_nodes.old to_edges.old)) result to_nodes.new to_edges.new }
 {
-    answers::answer_number(carrying::carry_tables(
+    u32::from(carrying::carry_tables(
         Manner::Packing,
         Layout::base(),
         Layout::small(),
@@ -163,7 +147,7 @@ pub extern "C" fn nhiemavut_unpack(
 ) -> u32
     ensures { Carries (unpack (lending_tables nodes.now edges.now to_nodes.old to_edges.old)) result to_nodes.new to_edges.new }
 {
-    answers::answer_number(carrying::carry_tables(
+    u32::from(carrying::carry_tables(
         Manner::Packing,
         Layout::small(),
         Layout::base(),
@@ -181,7 +165,7 @@ pub extern "C" fn nhiemavut_unpack(
 pub extern "C" fn nhiemavut_import(text: &[u8], nodes: &mut [u8], edges: &mut [u8]) -> u32
     ensures { Carries (import_text base text.now nodes.old edges.old) result nodes.new edges.new }
 {
-    answers::answer_number(importing::import_text(Layout::base(), text, nodes, edges))
+    u32::from(importing::import_text(Layout::base(), text, nodes, edges))
 }
 
 // Writes the graph of tables as text, in slot order and under slot numbers, and says how long the text is, also where the buffer is too
@@ -195,5 +179,5 @@ pub extern "C" fn nhiemavut_export(
 ) -> u32
     ensures { Exports (export_text base nodes.now edges.now text.old) result length.new text.new }
 {
-    answers::answer_number(exporting::export_tables(Layout::base(), nodes, edges, text, length))
+    u32::from(exporting::export_tables(Layout::base(), nodes, edges, text, length))
 }

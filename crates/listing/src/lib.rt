@@ -48,7 +48,7 @@ fn list_run(
         fuel,
         &mut report,
     );
-    let number = answers::answer_number(answer);
+    let number = u32::from(answer);
     lines::put_outcome(l, nodes, edges, number, &report, out)
 }
 

@@ -7,7 +7,7 @@ use meaning::{Answer, Refusal};
 fn number_of(check: Result<(), Refusal>) -> u32 {
     match check {
         Ok(()) => 0,
-        Err(why) => answers::answer_number(Answer::Refused(why)),
+        Err(why) => u32::from(why),
     }
 }
 

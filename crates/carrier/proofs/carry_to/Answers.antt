@@ -10,7 +10,7 @@ carry_tables-answer-requires c = let b = c.requires.between in record {
 }
 
 pub returns-then-number-eq0 : goal.returns-then-number-eq0
-returns-then-number-eq0 c = carried-listed _ c.answer_number-number.result _ _ _ c.answer_number-number.ensures (rw (c.clear.ensures, c.clear-2.ensures) at c.carry_tables-answer.ensures) c.if-number-eq0.true c.put_tables.ensures
+returns-then-number-eq0 c = carried-listed _ c.from-number.result _ _ _ c.from-number.ensures (rw (c.clear.ensures, c.clear-2.ensures) at c.carry_tables-answer.ensures) c.if-number-eq0.true c.put_tables.ensures
 
 pub returns-else-number-eq0 : goal.returns-else-number-eq0
-returns-else-number-eq0 c = not_carried _ c.answer_number-number.result _ _ _ c.answer_number-number.ensures (rw (c.clear.ensures, c.clear-2.ensures) at c.carry_tables-answer.ensures) c.if-number-eq0.false c.put_refused.ensures
+returns-else-number-eq0 c = not_carried _ c.from-number.result _ _ _ c.from-number.ensures (rw (c.clear.ensures, c.clear-2.ensures) at c.carry_tables-answer.ensures) c.if-number-eq0.false c.put_refused.ensures

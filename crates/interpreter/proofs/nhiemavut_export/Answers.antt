@@ -11,4 +11,4 @@ export_tables-requires c =
     }
 
 pub returns : goal.returns
-returns c = rw (← c.base.ensures, c.answer_number.ensures) c.export_tables.ensures
+returns c = rw (← c.base.ensures, c.from.ensures) c.export_tables.ensures

@@ -12,4 +12,4 @@ import_text-requires c =
     }
 
 pub returns : goal.returns
-returns c = rw (← c.base.ensures, c.answer_number.ensures) c.import_text.ensures
+returns c = rw (← c.base.ensures, c.from.ensures) c.import_text.ensures

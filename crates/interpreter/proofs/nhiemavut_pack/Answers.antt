@@ -13,4 +13,4 @@ carry_tables-requires c =
 
 pub returns : goal.returns
 returns c =
-    rw (← c.base.ensures, ← c.small.ensures, c.answer_number.ensures) c.carry_tables.ensures
+    rw (← c.base.ensures, ← c.small.ensures, c.from.ensures) c.carry_tables.ensures

@@ -6,4 +6,4 @@ pub run_call-requires : goal.run_call-requires
 run_call-requires c = rw c.base.ensures base-runs
 
 pub returns : goal.returns
-returns c = rw (← c.base.ensures, c.answer_number.ensures) c.run_call.ensures
+returns c = rw (← c.base.ensures, c.from.ensures) c.run_call.ensures

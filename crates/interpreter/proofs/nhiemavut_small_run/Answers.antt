@@ -6,4 +6,4 @@ pub run_call-requires : goal.run_call-requires
 run_call-requires c = rw c.small.ensures small-runs
 
 pub returns : goal.returns
-returns c = rw (← c.small.ensures, c.answer_number.ensures) c.run_call.ensures
+returns c = rw (← c.small.ensures, c.from.ensures) c.run_call.ensures

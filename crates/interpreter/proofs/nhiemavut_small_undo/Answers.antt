@@ -6,4 +6,4 @@ pub undo_call-requires : goal.undo_call-requires
 undo_call-requires c = rw c.small.ensures small-sized
 
 pub returns : goal.returns
-returns c = rw (← c.small.ensures, c.answer_number.ensures) c.undo_call.ensures
+returns c = rw (← c.small.ensures, c.from.ensures) c.undo_call.ensures

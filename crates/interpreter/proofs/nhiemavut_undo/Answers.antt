@@ -6,4 +6,4 @@ pub undo_call-requires : goal.undo_call-requires
 undo_call-requires c = rw c.base.ensures base-sized
 
 pub returns : goal.returns
-returns c = rw (← c.base.ensures, c.answer_number.ensures) c.undo_call.ensures
+returns c = rw (← c.base.ensures, c.from.ensures) c.undo_call.ensures

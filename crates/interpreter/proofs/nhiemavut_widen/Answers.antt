@@ -13,4 +13,4 @@ carry_tables-requires c =
 
 pub returns : goal.returns
 returns c =
-    rw (← c.four.ensures, ← c.base.ensures, c.answer_number.ensures) c.carry_tables.ensures
+    rw (← c.four.ensures, ← c.base.ensures, c.from.ensures) c.carry_tables.ensures

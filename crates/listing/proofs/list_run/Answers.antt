@@ -6,7 +6,7 @@ use Rattle.listing.proofs.list_run.Goals as goal
 pub put_outcome-requires : goal.put_outcome-requires
 put_outcome-requires c =
     let run_call = c.run_call-answer in
-    let answer-number = c.answer_number-number in
+    let answer-number = c.from-number in
     record {
       listing_room_in_bounds = omega (arith, c.requires.listing_room_in_bounds);
       report_len = run_call.auto.report;
@@ -16,6 +16,6 @@ put_outcome-requires c =
 pub returns : goal.returns
 returns c =
     let run_call = c.run_call-answer in
-    let answer-number = c.answer_number-number in
+    let answer-number = c.from-number in
     let put-outcome = c.put_outcome in
     run-listed c.args.l c.args.nodes.now c.args.edges.now c.args.journal.now c.args.program.now c.args.fuel answer-number.result _ _ _ _ _ answer-number.ensures run_call.ensures put-outcome.ensures (omega (arith, c.requires.listing_room_in_bounds, put-outcome.auto.out))
