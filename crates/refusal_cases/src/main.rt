@@ -2,7 +2,7 @@
 // holds nodes, edges, journal, fuel, program and report.
 #![tactic(auto)]
 
-use meaning::{Answer, Refusal};
+use meaning::Refusal;
 
 fn number_of(check: Result<(), Refusal>) -> u32 {
     match check {
