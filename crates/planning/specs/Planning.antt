@@ -12,7 +12,7 @@ use Rattle.meaning.specs.declared.Operand.{Operand}
 use Rattle.meaning.specs.declared.Operand.TheVariants.{Constant as constant_operand, Variable as variable_operand}
 use Rattle.meaning.specs.declared.Condition.{Condition}
 use Rattle.meaning.specs.declared.Element.{Element}
-use Rattle.meaning.specs.declared.Element.TheVariants.{Constant as constant_element, Variable}
+use Rattle.meaning.specs.declared.Element.TheVariants.{Constant as constant_element, Variable, Sum, Difference}
 use Rattle.fields.specs.Fields.{field_at, found, nth_field}
 use Rattle.fields.specs.declared.Field.{Field}
 use Rattle.plan.specs.Plan.{Placed, Laid, Part, singles_before, lists_before, FirstAt, Labelled, Planned, before_at, first_at, plan_length, singles_at, constant_at, elements_at, lists_at, sort_at}
@@ -51,6 +51,13 @@ abbrev pub ModeAt : List ℕ → ℕ → ℕ → Type 0
 ModeAt bs at mode = (r : Rule) → rule bs ≡ some r → NumberAt bs 5 at → r.preserving ≡ eqb mode 1
 
 -- Where variables are.
+
+-- the variable that an element is
+abbrev pub variable_of : Element → Option ℕ
+variable_of (constant_element c) = None
+variable_of (Variable v) = Some v
+variable_of (Sum a b) = None
+variable_of (Difference a b) = None
 
 abbrev pub Occurring : Rule → ℕ → List Element → Option Behind → Type 0
 Occurring r v l (Some b) = (has v l ≡ true) × (b.singles ≡ singles_before r v l) × (b.lists ≡ lists_before r v l)

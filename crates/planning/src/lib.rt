@@ -3,24 +3,24 @@
 
 ghost use Rattle.std.specs.Prelude.{◌≡◌, List, ◌+◌, ◌<◌, length, get_or};
 ghost use Rattle.std.proofs.Math.Option.{some};
-ghost use Rattle.meaning.specs.Image.{Rule, RuleGraph, rule_graph, label};
-ghost use Rattle.meaning.specs.Assigned.{is_variable};
+ghost use Rattle.meaning.specs.Image.{Rule, RuleGraph, rule_graph, element, label};
 ghost use Rattle.meaning.specs.declared.Element.{Element};
 ghost use Rattle.plan.specs.Plan.{plan_length, Placed, Items, Planned, IsLaid, For, Labelled, IsRule, edges_at, nodes_at};
-ghost use Rattle.planning.specs.Planning.{Lying, ModeAt, PartsOf, Named, HasGraph, IsNamed, Valued, decided_by, Decides, Plans, operand_decided, Occurring, FirstFound, Sorts, OnlyLabel, AllLabelled, IsLabelled};
+ghost use Rattle.planning.specs.Planning.{Lying, ModeAt, PartsOf, Named, HasGraph, IsNamed, Valued, decided_by, Decides, Plans, operand_decided, variable_of, Occurring, FirstFound, Sorts, OnlyLabel, AllLabelled, IsLabelled};
 
 use fields::{Field, Fields};
 use meaning::tags::Tag;
 use meaning::{Condition, Element, Operand, Room};
 use plan::{At, PlannedRule, Sorted};
 
-// Whether an element is variable v.
-fn is_variable(e: Element, v: usize) -> bool
-    ensures { result ≡ is_variable v e }
+// The variable that an element is, from its tag and payload.
+fn variable_of(tag: u8, p: &[u8]) -> Option<usize>
+    ensures { (e : Element) → element tag p.now ≡ some e → result ≡ variable_of e }
 {
-    match e {
-        Element::Variable(w) => w == v,
-        _ => false,
+    if tag == Tag::VARIABLE {
+        Some(parts::number_at(p, 0))
+    } else {
+        None
     }
 }
 
@@ -40,14 +40,10 @@ fn occurrence(types: &[u8], p: &[u8], v: usize) -> Option<Behind>
         let Ok(Field { tag, start, end }) = field else {
             return None;
         };
-        let e = parts::reading::read_element(tag, &p[start..end]);
-        if is_variable(e, v) {
-            return Some(Behind { singles, lists });
-        }
-        if parts::elements::takes_list(types, e) {
-            lists += 1;
-        } else {
-            singles += 1;
+        match variable_of(tag, &p[start..end]) {
+            Some(w) if w == v => return Some(Behind { singles, lists }),
+            Some(w) if parts::elements::takes_list(types, Element::Variable(w)) => lists += 1,
+            _ => singles += 1,
         }
     }
     None
