@@ -9,7 +9,6 @@ use Rattle.meaning.specs.Image.{most_items}
 use Rattle.meaning.specs.Layout.{Host}
 use Rattle.meaning.specs.Matching.{left_nodes, total}
 use Rattle.meaning.specs.Laws.Tests.{choose_eq, choose_ne}
-pub use Rattle.slots.specs.Ranges.{all-below}
 use Rattle.agreeing.specs.Placed.{Known, Inside, slots, slot_of, Tried, Full}
 use Rattle.agreeing.specs.Candidates.{Candidate}
 use Rattle.plan.specs.Plan.{nodes_at}

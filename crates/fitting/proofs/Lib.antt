@@ -1,5 +1,4 @@
--- What the proofs share: questions of a range, edges that join, candidates by all but label and tests, and edges that dangle.
-mod Ranges
+-- What the proofs share: edges that join, candidates by all but label and tests, and edges that dangle.
 mod Joining
 mod Candidates
 mod Dangling

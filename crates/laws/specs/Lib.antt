@@ -26,3 +26,4 @@ pub mod LegalCommands
 pub mod LegalImage
 pub mod Undoing
 pub mod Calls
+pub mod Ranges

@@ -4,4 +4,3 @@ pub mod Held
 pub mod Parts
 pub mod Laid
 pub mod Comparing
-pub mod Ranges

@@ -1,7 +1,7 @@
 -- `labels_fit` meets its contract: what the tests of the labels say together.
 use Rattle.std.proofs.Common.{refl, ◌<◌, ◌≤◌, arith, rules, tests, length}
 use Rattle.std.proofs.lemmas.Iterator.{YieldsList-from_range, cases_from_all}
-use Rattle.slots.specs.Ranges.{all-below}
+use Rattle.laws.specs.Ranges.{all-below}
 use Rattle.carrying.specs.Tables.{label_in}
 use Rattle.carrying.proofs.Labels.{fit_told}
 use Rattle.carrying.proofs.labels_fit.Goals as goal

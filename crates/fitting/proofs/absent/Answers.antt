@@ -3,7 +3,7 @@ use Rattle.std.proofs.Common.{◌≡◌, ◌+◌, ◌-◌, ◌∙◌, not, eqb, 
 use Rattle.std.proofs.lemmas.Iterator.{YieldsList-from_slice}
 use Rattle.std.proofs.lemmas.Iterator.Search.{all_from_yields_List}
 use Rattle.std.proofs.lemmas.List.{drop-take}
-use Rattle.fitting.proofs.Ranges.{absent_all}
+use Rattle.laws.specs.Ranges.{absent_all}
 use Rattle.fitting.proofs.absent.Goals as goal
 
 pub returns : goal.returns

@@ -3,7 +3,7 @@ use Rattle.std.proofs.Common.{rules, tests, length, take}
 use Rattle.meaning.specs.FirstMatch.{dangles}
 use Rattle.meaning.specs.Layout.{host_of}
 use Rattle.meaning.specs.Matching.{total}
-use Rattle.fitting.proofs.Ranges.{any-is}
+use Rattle.laws.specs.Ranges.{any-is}
 use Rattle.fitting.proofs.any_dangles.Goals as goal
 
 pub returns : goal.returns

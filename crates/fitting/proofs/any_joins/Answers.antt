@@ -2,7 +2,7 @@
 use Rattle.std.proofs.Common.{rules, tests, length}
 use Rattle.meaning.specs.Layout.{host_of}
 use Rattle.fitting.specs.Fitting.{joins_at}
-use Rattle.fitting.proofs.Ranges.{any-is}
+use Rattle.laws.specs.Ranges.{any-is}
 use Rattle.fitting.proofs.any_joins.Goals as goal
 
 pub returns : goal.returns

@@ -2,7 +2,7 @@
 use Rattle.std.proofs.Common.{rules, tests}
 use Rattle.meaning.specs.FirstMatch.{left_touches}
 use Rattle.meaning.specs.Matching.{left_edges}
-use Rattle.fitting.proofs.Ranges.{count-is}
+use Rattle.laws.specs.Ranges.{count-is}
 use Rattle.fitting.proofs.left_degree.Goals as goal
 
 pub returns : goal.returns

@@ -5,7 +5,7 @@ use Rattle.meaning.specs.FirstMatch.{linked}
 use Rattle.meaning.specs.Layout.{host_of}
 use Rattle.meaning.specs.Matching.{left_edges}
 use Rattle.fitting.proofs.Joining.{tried_edge}
-use Rattle.fitting.proofs.Ranges.{all-is}
+use Rattle.laws.specs.Ranges.{all-is}
 use Rattle.fitting.proofs.linked.Goals as goal
 
 pub all-requires-clause-callable : goal.all-requires-clause-callable

@@ -2,7 +2,7 @@
 use Rattle.std.proofs.Common.{refl, rules, tests, arith, eqb, get_or}
 use Rattle.meaning.specs.Basics.{either}
 use Rattle.plan.specs.Plan.{nodes_at}
-use Rattle.fitting.proofs.Ranges.{any-onward-is}
+use Rattle.laws.specs.Ranges.{any-onward-is}
 use Rattle.fitting.proofs.touches_gone.Goals as goal
 
 pub returns : goal.returns

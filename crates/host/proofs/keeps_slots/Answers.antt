@@ -4,7 +4,7 @@ use Rattle.std.proofs.lemmas.Iterator.{YieldsList-from_range}
 use Rattle.std.proofs.lemmas.Iterator.Search.{all_from_yields_List}
 use Rattle.laws.specs.Pieces.{length-pieces}
 use Rattle.meaning.specs.Layout.{read_nodes, cut}
-use Rattle.slots.specs.Ranges.{every-below}
+use Rattle.laws.specs.Ranges.{every-below}
 use Rattle.host.specs.Tables.{keeps_slot}
 use Rattle.host.proofs.keeps_slots.Goals as goal
 

@@ -5,7 +5,7 @@ use Rattle.std.proofs.lemmas.Iterator.{YieldsList-from_range}
 use Rattle.std.proofs.lemmas.Iterator.Search.{all_from_yields_List}
 use Rattle.laws.specs.Pieces.{length-pieces}
 use Rattle.meaning.specs.Layout.{keeps_record, pieces, cut}
-use Rattle.slots.specs.Ranges.{every-below}
+use Rattle.laws.specs.Ranges.{every-below}
 use Rattle.journal.proofs.Records.{counted-at, records-over, records-kept}
 use Rattle.journal.proofs.keeps_records.Goals as goal
 

@@ -4,7 +4,7 @@ use Rattle.std.proofs.lemmas.Iterator.{serves_from_Range, YieldsList-from_range,
 use Rattle.meaning.specs.Image.{most_items}
 use Rattle.meaning.specs.Layout.{host_of}
 use Rattle.plan.specs.Plan.{tests_at}
-use Rattle.agreeing.specs.Trials.{all-below}
+use Rattle.laws.specs.Ranges.{all-below}
 use Rattle.testing.proofs.Decisions.{Told, whole-test, whole-told}
 use Rattle.testing.proofs.all_tests.Goals as goal
 

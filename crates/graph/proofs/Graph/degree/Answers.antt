@@ -1,17 +1,11 @@
--- `degree` meets its contract: what the count of the edges' numbers gives.
-use Rattle.std.proofs.Common.{◌∙◌, arith, rules, tests}
-use Rattle.std.proofs.lemmas.Iterator.{YieldsList-from_range}
-use Rattle.std.proofs.lemmas.Iterator.Consumers.{YieldsList-from_filter, count_from_yields_List}
-use Rattle.meaning.specs.Layout.{host_of}
+-- `degree` meets its contract: the edges are counted by number.
+use Rattle.std.proofs.Common.{rules, tests, length}
 use Rattle.meaning.specs.Matching.{edge_touches}
-use Rattle.slots.specs.Ranges.{count-below}
+use Rattle.graph.specs.Hosts.{host_in}
+use Rattle.laws.specs.Ranges.{count-is}
 use Rattle.graph.proofs.Graph.degree.Goals as goal
 
 pub returns : goal.returns
 returns c =
-    let f = edge_touches (host_of c.args.self.now.layout c.args.self.now.nodes.now c.args.self.now.edges.now) c.args.c in
-    let n = c.edge_slots.result in
-    rw (← c.edge_slots.ensures)
-    (count_from_yields_List c.filter.result c.count.result c.count.ensures.ran
-    (YieldsList-from_filter _ f (YieldsList-from_range 0 n n c.filter.ensures.source (omega arith)) c.filter.ensures.closure (λ x r q k. search (rules, tests)))
-    ∙ count-below f n)
+    let h = host_in c.args.self.now in
+    count-is (edge_touches h c.args.c) (length h.edges) _ _ c.filter.ensures.source c.filter.ensures.closure c.edge_slots.ensures (λ x b f k. search (rules, tests)) c.count.ensures.ran

@@ -3,7 +3,7 @@ use Rattle.std.proofs.Common.{◌≡◌, ◌≤◌, ◌<◌, ◌+◌, ◌-◌, r
 use Rattle.std.proofs.lemmas.Iterator.{YieldsList-from_range, cases_from_all}
 use Rattle.std.proofs.lemmas.Bool.{lt-leb, false≢true}
 use Rattle.slots.specs.Laid.{laid}
-use Rattle.slots.specs.Ranges.{all-below}
+use Rattle.laws.specs.Ranges.{all-below}
 use Rattle.slots.specs.Comparing.{has_short, has_tested}
 use Rattle.slots.proofs.laid.has_part.Goals as goal
 
