@@ -13,7 +13,8 @@ use parsing::BrokenAt;
 use parsing::labelling::{read_label, read_root};
 use parsing::positions::pass_position;
 
-// A node that was read: where its identifier begins, its root flag, its mark, its atoms where they can be gathered, and the place behind it.
+// A node that was read: where its identifier begins, its root flag, its mark, its atoms where they can be gathered, and the place
+// behind it.
 #[derive(Clone, Copy)]
 pub struct NodeAt {
     pub next: usize,

@@ -59,6 +59,7 @@ pub struct IntegerAt {
 }
 
 // The atom of a number behind a sign, where it is one.
+#[tactic(auto, unfolding(meaning::specs::Basics::choose))]
 fn held(n: usize, negative: bool) -> Option<u32>
     ensures { Held n negative result }
 {

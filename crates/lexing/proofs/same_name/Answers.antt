@@ -1,9 +1,6 @@
 use Rattle.std.proofs.Common.{sym, ◌∙◌, arith}
-use Rattle.lexing.proofs.Comparing.{none-some, some_same, agree-begins, agree-not, agree-ends, agree-more, agree-all}
+use Rattle.lexing.proofs.Comparing.{none-some, some_same, agree-not, agree-ends, agree-more, agree-all}
 use Rattle.lexing.proofs.same_name.Goals as goal
-
-pub loop-k-init : goal.loop-k-init
-loop-k-init c = agree-begins c.args.text.now c.args.a c.args.b
 
 pub returns-in-None-None : goal.returns-in-None-None
 returns-in-None-None c =

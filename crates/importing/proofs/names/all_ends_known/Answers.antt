@@ -1,10 +1,7 @@
-use Rattle.std.proofs.Common.{refl, sym, ◌∙◌, arith}
+use Rattle.std.proofs.Common.{sym, ◌∙◌, arith}
 use Rattle.meaning.specs.declared.Table.TheVariants.{Edges}
 use Rattle.importing.proofs.Places.{listed_at, every_more, every-found, every-all}
 use Rattle.importing.proofs.names.all_ends_known.Goals as goal
-
-pub loop-at-init : goal.loop-at-init
-loop-at-init c = λ l w. refl
 
 pub returns-then-not-ends_known : goal.returns-then-not-ends_known
 returns-then-not-ends_known c =

@@ -1,9 +1,6 @@
-use Rattle.std.proofs.Common.{refl, sym, ◌∙◌}
+use Rattle.std.proofs.Common.{sym, ◌∙◌}
 use Rattle.importing.proofs.Lookup.{apart_more, apart-found, apart-all}
 use Rattle.importing.proofs.names.apart.Goals as goal
-
-pub loop-i-init : goal.loop-i-init
-loop-i-init c = refl
 
 pub returns-then-is_some : goal.returns-then-is_some
 returns-then-is_some c =

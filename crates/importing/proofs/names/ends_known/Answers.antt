@@ -1,10 +1,7 @@
 -- `ends_known` meets its contract: the edge is the one that is read again.
 use Rattle.std.proofs.Common.{sym, ◌∙◌}
-use Rattle.importing.proofs.Ends.{edge-reads, ends-known, source_unknown}
+use Rattle.importing.proofs.Ends.{ends-known, source_unknown}
 use Rattle.importing.proofs.names.ends_known.Goals as goal
-
-pub returns-in_default : goal.returns-in_default
-returns-in_default c = let a = c.args in λ e w. absurd (edge-reads a.text.now a.node_places.now a.at e w c.in_default.ensures)
 
 pub returns-then-is_some : goal.returns-then-is_some
 returns-then-is_some c =

@@ -4,11 +4,8 @@ use Rattle.meaning.specs.Layout.{live, edge_length, write_edge}
 use Rattle.laws.specs.Pieces.{stored}
 use Rattle.importing.specs.Names.{names_at}
 use Rattle.importing.proofs.Ends.{numbered}
-use Rattle.importing.proofs.Held.{edge-reads, edge-there, edge-label, edge-held}
+use Rattle.importing.proofs.Held.{edge-there, edge-label, edge-held}
 use Rattle.importing.proofs.storing.store_edge.Goals as goal
-
-pub returns-in_default : goal.returns-in_default
-returns-in_default c = let a = c.args in absurd (edge-reads a.l c.requires.sized.1 a.text.now a.at c.requires.item c.in_default.ensures)
 
 pub returns-in_default-label : goal.returns-in_default-label
 returns-in_default-label c =

@@ -2,11 +2,8 @@
 use Rattle.std.proofs.Common.{◌∙◌, ap}
 use Rattle.meaning.specs.Layout.{live, node_length, write_node}
 use Rattle.laws.specs.Pieces.{stored}
-use Rattle.importing.proofs.Held.{node-reads, node-there, node-label, node-held}
+use Rattle.importing.proofs.Held.{node-there, node-label, node-held}
 use Rattle.importing.proofs.storing.store_node.Goals as goal
-
-pub returns-in_default : goal.returns-in_default
-returns-in_default c = let a = c.args in absurd (node-reads a.l c.requires.sized.1 a.text.now a.at c.requires.item c.in_default.ensures)
 
 pub returns-in_default-label : goal.returns-in_default-label
 returns-in_default-label c =

@@ -1,20 +1,11 @@
 use Rattle.std.proofs.Common.{◌≡◌, ◌∙◌, ap, arith}
-use Rattle.importing.proofs.Filling.{has-slot, so_far, so_far-none, so_far-all, so_far_more}
+use Rattle.importing.proofs.Filling.{so_far, so_far-none, so_far-all, so_far_more}
 use Rattle.importing.proofs.storing.store_table.Goals as goal
 
 pub loop-x-init : goal.loop-x-init
 loop-x-init c =
     let a = c.args in
     λ w. so_far-none a.l a.text.now a.node_places.now a.which a.places.now a.n a.out.now w
-
-pub store_slot-requires : goal.store_slot-requires
-store_slot-requires c =
-    let a = c.args in
-    record {
-      sized = c.requires.sized;
-      x_in_bounds = has-slot a.l a.which a.n _ (c.loop-x.auto.out ∙ c.requires.places_len_bound.1) c.loop-x.x c.loop-x-test.true;
-      items = c.requires.items;
-    }
 
 pub loop-x-preserved : goal.loop-x-preserved
 loop-x-preserved c =

@@ -1,4 +1,4 @@
-use Rattle.std.proofs.Common.{◌≡◌, ◌∙◌, ap, ℕ, ◌+◌, ◌*◌, arith}
+use Rattle.std.proofs.Common.{◌∙◌, ap, ℕ, ◌+◌, ◌*◌, arith}
 use Rattle.parsing.proofs.Digits.{digit_range, capped_none, capped_more, capped_stay}
 use Rattle.parsing.proofs.integers.digits_value.Goals as goal
 use Rattle.parsing.proofs.integers.digits_value.Goals.{then-v-le-WHOLE, else-v-le-WHOLE}
@@ -8,11 +8,6 @@ loop-i-init c = capped_none c.args.text.now c.args.from
 
 pub overflow_sub-b : goal.overflow_sub-b
 overflow_sub-b c =
-    let t = digit_range c.args.text.now c.args.from c.args.to c.loop-i.i (omega arith) (omega arith) (omega arith) c.requires.text_value in
-    omega arith
-
-pub overflow_add-v : goal.overflow_add-v
-overflow_add-v c =
     let t = digit_range c.args.text.now c.args.from c.args.to c.loop-i.i (omega arith) (omega arith) (omega arith) c.requires.text_value in
     omega arith
 
@@ -26,8 +21,3 @@ loop-i-preserved c =
       | else-v-le-WHOLE w ↦
           capped_stay c.args.text.now c.args.from l.i l.v _ (omega arith) (omega arith) l.invariant w.if-v-le-WHOLE.false w.v-is
     ]
-
-pub returns : goal.returns
-returns c =
-    let z : c.loop-i.i ≡ c.args.to = omega arith in
-    rw z at c.loop-i.invariant

@@ -3,22 +3,13 @@ use Rattle.std.proofs.Common.{sym, ◌∙◌}
 use Rattle.std.proofs.lemmas.Result.{err_from_is_err_and}
 use Rattle.meaning.specs.Basics.{every}
 use Rattle.text.specs.Words.{is_digit}
-use Rattle.parsing.proofs.Tokens.{name-lies, named-yes, named-no, not-named}
+use Rattle.parsing.proofs.Tokens.{named-yes, named-no, not-named}
 use Rattle.parsing.proofs.integers.read_digits.Goals as goal
 
 pub returns-in_err-next : goal.returns-in_err-next
 returns-in_err-next c =
     let p = err_from_is_err_and c.from_residual.result c.from_residual.ensures.1 in
     rw (p.1, p.2) (not-named c.args.text.now c.args.at (every is_digit) c.in_err-next.ensures)
-
-pub all_digits-requires : goal.all_digits-requires
-all_digits-requires c = name-lies c.args.text.now c.args.at c.in_ok-next.ensures
-
-pub digits_value-number-requires : goal.digits_value-number-requires
-digits_value-number-requires c = record {
-  from_le_to = name-lies c.args.text.now c.args.at c.in_ok-next.ensures;
-  text_value = sym c.all_digits.ensures ∙ c.if-all_digits.true;
-}
 
 pub returns-then-all_digits : goal.returns-then-all_digits
 returns-then-all_digits c =
