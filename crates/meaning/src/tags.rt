@@ -1,5 +1,5 @@
 // The numbers that stand in an image, by name: its tags, the other bytes that stand for a word, and its limits; marks stand in
-// tables too, and one limit is of fuel. specs/Tags, `limits` in specs/Image and `mostFuel` in specs/Calls have the same for
+// tables too, and one limit is of fuel. specs/Tags, `limits` in specs/Image and `most_fuel` in specs/Calls have the same for
 // definitions.
 #[derive(Drop)]
 pub struct Tag {}
