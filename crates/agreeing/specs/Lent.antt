@@ -1,4 +1,5 @@
--- What contracts say of a host, of a planned rule and of a trial that are lent as structs. Rests on Placed, Agreeing and Candidates.
+-- What contracts say of a host, a planned rule and a trial that are lent as structs. Rests on Placed, Agreeing and
+-- Candidates.
 use Rattle.std.specs.Prelude.{List, ℕ}
 use Rattle.graph.specs.Hosts.{host_in}
 use Rattle.graph.specs.declared.Graph.{Graph}

@@ -24,9 +24,7 @@ use meaning::{Element, Room};
 use plan::{At, PlannedRule, Sorted};
 use slots::laid;
 
-// The label of an item.
-
-// Slots of left items, and an item that is tried at a slot.
+// Slots of left items, and an item that is tried at a slot; what holds of one is `Trial` of specs/Placed.
 #[derive(Clone, Copy)]
 pub struct Trial<'a> {
     pub at: &'a [usize; Room::ITEMS],
@@ -47,6 +45,8 @@ impl Trial<'_> {
         }
     }
 }
+
+// The label of an item.
 
 // The label in the slot of item j, where it lies.
 fn item_label<'a>(host: &Graph<'a>, plan: &[usize; At::LENGTH], j: usize, x: usize) -> &'a [u8]
@@ -178,8 +178,8 @@ pub fn label_likely(host: &Graph, rule: &PlannedRule, i: usize, c: usize) -> boo
             || laid::atom(a, 0) as usize == rule.plan[At::CONSTANT + i])
 }
 
-// Whether the label in slot c is what the pattern of item i stands for. Both are compared where they lie, the label in its table
-// and the pattern in the rule, element by element.
+// Whether the label in the slot tried is what the item's pattern stands for. Both are compared where they lie, the label in its
+// table and the pattern in the rule, element by element.
 pub fn compared(host: &Graph, rule: &PlannedRule, trial: &Trial) -> bool
     requires { TriedIn host.now rule.now trial.now }
     ensures { (w : TriedIn host.now rule.now trial.now) → result ≡ same (label_at (host_in host.now) (left_nodes w.trial.rule) trial.now.item trial.now.slot) (instance (assigned (host_in host.now) w.trial.rule w.trial.placed) (label_of w.trial.rule trial.now.item)) }

@@ -9,8 +9,8 @@ ghost use Rattle.parts.specs.Series.{For, nth_part};
 ghost use Rattle.io.specs.Counts.{IsPrefixLen};
 ghost use Rattle.cases.specs.Cases.{Copied};
 
-// Reads the next n bytes to the front of the buffer, and says whether there are so many and the buffer has room for them. What stands
-// behind them stays.
+// Reads the next n bytes to the front of the buffer, and says whether there are so many and the buffer has room for them. What
+// stands behind them stays.
 fn read_payload(buffer: &mut [u8], n: usize) -> bool
     ensures prefix_len { result ≡ true → IsPrefixLen n buffer.new }
     ensures buffer_unchanged { drop n buffer.new ≡ drop n buffer.old }
@@ -31,8 +31,8 @@ pub fn read_case(buffer: &mut [u8]) -> Option<usize>
     (n > 0 && read_payload(buffer, n)).then_some(n)
 }
 
-// Reads case after case of standard input, and calls f on each. A proved loop has to end, and nothing says that the input does: it
-// takes turns up to a number that no run uses up.
+// Reads case after case of standard input, and calls f on each. A proved loop has to end, and nothing says that the input does:
+// it takes turns up to a number that no run uses up.
 pub fn each_case<F: FnMut(&[u8])>(mut f: F)
     requires { F.IsAlwaysCallable f }
 {

@@ -1,5 +1,5 @@
--- What the search asks of lent tables beforehand, how many slots a table has, and what the bytes of a slot say. Rests on the meaning's
--- Layout and Matching and on slots' Slots.
+-- What the search asks of lent tables beforehand, how many slots a table has, and what the bytes of a slot say. Rests on the
+-- meaning's Layout and Matching and on slots' Slots.
 use Rattle.std.specs.Prelude.{◌≡◌, true, List, ℕ, ◌≤◌, length, get_or, take, drop}
 use Rattle.meaning.specs.Numbers.{number}
 use Rattle.meaning.specs.Layout.{Slot, Node, Edge, Sized, is_live, mark_place, root_place, length_place, head_length, source_place, target_place, edge_atoms, most_atoms, node_length, edge_length, fits_table, read_atoms, read_nodes, read_edges, keeps_layout}

@@ -56,8 +56,8 @@ read (One depth) tag bs = command depth tag bs
 abbrev pub main_row : Row
 main_row = One 16
 
--- What a row takes: the tag of every item (none where any may stand), how many at least and at most, and the row behind it, if one
--- follows. Rows fall by rank: those in an item, and those behind a row, are below it.
+-- What a row takes: the tag of every item (none where any may stand), how many at least and at most, and the row behind it, if
+-- one follows. Rows fall by rank: those in an item, and those behind a row, are below it.
 pub record Takes : Type 0 where
   pub tag : Choice ℕ
   pub least : ℕ

@@ -1,29 +1,29 @@
--- What iterators over a range of numbers answer, in the words of the definitions: whether each number passes a test, whether one does,
--- and how many do; and what a chain of `any`, `all` or `filter` and `count` returns, whose closure computes the test. Rests on the
--- meaning's Basics.
-use Rattle.std.specs.Prelude.{◌≡◌, refl, Bool, true, false, ◌&&◌, ◌||◌, cond, List, [], ◌∷◌, ◌++◌, filter, ℕ, zero, suc, ◌+◌, ◌<◌, length, get_or, Option, ◌-◌, ◌≤◌, not, eqb}
+-- What iterators over a range of numbers answer, in the words of the definitions: whether each number passes a test, whether
+-- one does, and how many do; and what a chain of `any`, `all` or `filter` and `count` returns, whose closure computes the test.
+-- Rests on the meaning's Basics.
 use Rattle.std.specs.Bool.{MatchBool}
-use Rattle.std.specs.List.{AllWithin, HoldsAt, list_all, list_any, count_by, range_with_len, FoldsTo}
-use Rattle.std.proofs.Common.{subst, sym, ◌∙◌, ap, arith, leb, le-leb, length-append}
-use Rattle.std.proofs.lemmas.List.FromFn.{length-range_with_len, get_or-range_with_len, fill_by_all}
-use Rattle.std.proofs.lemmas.List.Folds.{list_all-map, list_any-append, list_all-append}
-use Rattle.std.proofs.lemmas.List.Sums.{length-filter, sum_by-append}
-use Rattle.meaning.specs.Basics.{both, either, choose, exists, count, every, all, absent}
 use Rattle.std.specs.Fn.{Called, CalledAt}
-use Rattle.std.specs.Iterator.{YieldsThen, Drains}
 use Rattle.std.specs.Iterator.Adapters.{filter_steps}
+use Rattle.std.specs.Iterator.{YieldsThen, Drains}
+use Rattle.std.specs.List.{AllWithin, HoldsAt, list_all, list_any, count_by, range_with_len, FoldsTo}
 use Rattle.std.specs.Option.{MatchOption}
-use Rattle.std.specs.declared.ops.Range.{Range}
+use Rattle.std.specs.Prelude.{◌≡◌, refl, Bool, true, false, ◌&&◌, ◌||◌, cond, List, [], ◌∷◌, ◌++◌, filter, ℕ, zero, suc, ◌+◌, ◌<◌, length, get_or, Option, ◌-◌, ◌≤◌, not, eqb}
 use Rattle.std.specs.declared.iter.Filter.{Filter}
+use Rattle.std.specs.declared.ops.Range.{Range}
+use Rattle.std.proofs.Common.{subst, sym, ◌∙◌, ap, arith, leb, le-leb, length-append}
+use Rattle.std.proofs.iter.Yields.{nat_range_steps}
+use Rattle.std.proofs.lemmas.Bool.{lt-leb}
+use Rattle.std.proofs.lemmas.Iterator.Consumers.{count_from_yields_List, YieldsList-from_filter}
+use Rattle.std.proofs.lemmas.Iterator.Search.{any_from_yields_List, all_from_yields_List}
+use Rattle.std.proofs.lemmas.Iterator.{YieldsList-from_range}
+use Rattle.std.proofs.lemmas.List.Elements.{filter-append}
+use Rattle.std.proofs.lemmas.List.Folds.{list_all-map, list_any-append, list_all-append}
+use Rattle.std.proofs.lemmas.List.FromFn.{length-range_with_len, get_or-range_with_len, fill_by_all}
+use Rattle.std.proofs.lemmas.List.Sums.{length-filter, sum_by-append}
 use denote.Param.Members.{Mut}
 use denote.Ref.{Bor}
-use Rattle.std.proofs.iter.Yields.{nat_range_steps}
-use Rattle.std.proofs.lemmas.Iterator.{YieldsList-from_range}
-use Rattle.std.proofs.lemmas.Iterator.Search.{any_from_yields_List, all_from_yields_List}
-use Rattle.std.proofs.lemmas.Iterator.Consumers.{count_from_yields_List, YieldsList-from_filter}
-use Rattle.std.proofs.lemmas.Bool.{lt-leb}
 use native.Mathlib.Decide.{dec_le}
-use Rattle.std.proofs.lemmas.List.Elements.{filter-append}
+use Rattle.meaning.specs.Basics.{both, either, choose, exists, count, every, all, absent}
 use Rattle.meaning.specs.Laws.Tests.{both-no, exists-no}
 
 module _ (Yes No : ℕ → Type 0) (n : ℕ) where
