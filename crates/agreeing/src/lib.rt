@@ -49,7 +49,7 @@ impl Trial<'_> {
 // The label of an item.
 
 // The label in the slot of item j, where it lies.
-fn item_label<'a>(host: &Graph<'a>, plan: &[usize; At::LENGTH], j: usize, x: usize) -> &'a [u8]
+fn item_label<'a>(host: &Graph<'a, 'a>, plan: &[usize; At::LENGTH], j: usize, x: usize) -> &'a [u8]
     requires { (0 < length plan.now) × (x < slots (host_in host.now) (get_or plan.now nodes_at 0) j) }
     ensures { (laid result.now ≡ label_at (host_in host.now) (get_or plan.now nodes_at 0) j x) × (length (laid result.now) ≤ most_atoms) }
 {
@@ -86,7 +86,7 @@ fn part_of(rule: &PlannedRule, v: usize, len: usize) -> Part
 }
 
 // The value of variable v, where it lies: in the label of item plan[At::FIRST + v], the first to have it.
-pub fn value<'a>(host: &Graph<'a>, rule: &PlannedRule, trial: &Trial, v: usize) -> &'a [u8]
+pub fn value<'a>(host: &Graph<'a, 'a>, rule: &PlannedRule, trial: &Trial, v: usize) -> &'a [u8]
     requires { ValueIn host.now rule.now trial.now v }
     ensures { (length (laid result.now) ≤ most_atoms) × ((w : ValueIn host.now rule.now trial.now v) → laid result.now ≡ assigned (host_in host.now) w.trial.rule w.trial.placed v) }
 {

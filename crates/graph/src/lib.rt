@@ -14,14 +14,14 @@ use slots::held::Place;
 
 // A host in lent tables that keep their layout.
 #[derive(Clone, Copy)]
-pub struct Graph<'a> {
+pub struct Graph<'n, 'e> {
     pub layout: Layout,
-    pub nodes: &'a [u8],
-    pub edges: &'a [u8],
+    pub nodes: &'n [u8],
+    pub edges: &'e [u8],
     pub ghost legal: { Legal layout nodes.now edges.now },
 }
 
-impl<'a> Graph<'a> {
+impl<'n, 'e> Graph<'n, 'e> {
     ghost use Rattle.graph.specs.Hosts.{host_in};
 
     // Nodes.
@@ -34,7 +34,7 @@ impl<'a> Graph<'a> {
     }
 
     // The bytes of a node slot.
-    fn node_bytes(&self, x: usize) -> &'a [u8]
+    fn node_bytes(&self, x: usize) -> &'n [u8]
         requires { x < length (host_in self.now).nodes }
         ensures said { NodeBytes self.now.layout result.now (get_or (host_in self.now).nodes x free) }
         ensures len { length result.now ≡ node_length self.now.layout }
@@ -64,7 +64,7 @@ impl<'a> Graph<'a> {
     }
 
     // Its label, where it lies.
-    pub fn node_label(&self, x: usize) -> &'a [u8]
+    pub fn node_label(&self, x: usize) -> &'n [u8]
         requires { x < length (host_in self.now).nodes }
         ensures { (laid result.now ≡ (node_at (host_in self.now) x).label) × (length (laid result.now) ≤ most_atoms) }
     {
@@ -81,7 +81,7 @@ impl<'a> Graph<'a> {
     }
 
     // The bytes of an edge slot.
-    fn edge_bytes(&self, x: usize) -> &'a [u8]
+    fn edge_bytes(&self, x: usize) -> &'e [u8]
         requires { x < length (host_in self.now).edges }
         ensures said { EdgeBytes self.now.layout result.now (get_or (host_in self.now).edges x free) }
         ensures len { length result.now ≡ edge_length self.now.layout }
@@ -118,7 +118,7 @@ impl<'a> Graph<'a> {
     }
 
     // Its label, where it lies.
-    pub fn edge_label(&self, x: usize) -> &'a [u8]
+    pub fn edge_label(&self, x: usize) -> &'e [u8]
         requires { x < length (host_in self.now).edges }
         ensures { (laid result.now ≡ (edge_at (host_in self.now) x).label) × (length (laid result.now) ≤ most_atoms) }
     {
