@@ -11,6 +11,7 @@ ghost use Rattle.applying.specs.Application.{AtMatch, Applies};
 ghost use Rattle.applying.specs.Halves.{Unhindered, Changed, LeftChanged, Halfway, RightCame};
 
 use meaning::{Layout, Room, Stop};
+use values::Values;
 
 // The checks before any change, in order: the labels can be held; room for nodes, for edges, for records.
 fn hindrance(
@@ -21,16 +22,15 @@ fn hindrance(
     used: usize,
     rule: &[u8],
     slots: &[usize; Room::ITEMS],
-    lens: &[usize; Room::VARIABLES],
-    atoms: &[u32; Room::ATOMS],
+    values: &Values,
 ) -> Result<(), Stop>
     requires running { Running l nodes.now edges.now journal.now used }
-    requires at_match { AtMatch l nodes.now edges.now rule.now slots.now lens.now atoms.now }
-    ensures { (w : AtMatch l nodes.now edges.now rule.now slots.now lens.now atoms.now) → stop_of result ≡ hindrance l.atoms (length journal.now / record_length l) w.tree (take (total w.tree) slots.now) (ledger_of l nodes.now edges.now journal.now used) }
+    requires at_match { AtMatch l nodes.now edges.now rule.now slots.now values.now.lens values.now.atoms }
+    ensures { (w : AtMatch l nodes.now edges.now rule.now slots.now values.now.lens values.now.atoms) → stop_of result ≡ hindrance l.atoms (length journal.now / record_length l) w.tree (take (total w.tree) slots.now) (ledger_of l nodes.now edges.now journal.now used) }
 {
     let left = parts::left_part(rule);
     let right = parts::right_part(rule);
-    if !values::labels_held(l.atoms, lens, atoms, right) {
+    if !values::labels_held(l.atoms, values, right) {
         return Err(Stop::LabelTooLarge);
     }
     let k = parts::interface_of(rule);
@@ -53,11 +53,10 @@ fn change_left(
     used: usize,
     rule: &[u8],
     slots: &[usize; Room::ITEMS],
-    lens: &[usize; Room::VARIABLES],
-    atoms: &[u32; Room::ATOMS],
+    values: &Values,
 ) -> usize
-    requires { Unhindered l nodes.old edges.old journal.old used rule.now slots.now lens.now atoms.now }
-    ensures { LeftChanged l nodes.old edges.old journal.old used rule.now slots.now lens.now atoms.now result nodes.new edges.new journal.new }
+    requires { Unhindered l nodes.old edges.old journal.old used rule.now slots.now values.now.lens values.now.atoms }
+    ensures { LeftChanged l nodes.old edges.old journal.old used rule.now slots.now values.now.lens values.now.atoms result nodes.new edges.new journal.new }
 {
     let left = parts::left_part(rule);
     let right = parts::right_part(rule);
@@ -77,8 +76,7 @@ fn change_left(
         left,
         right,
         k,
-        lens,
-        atoms,
+        values,
         slots,
         n,
     );
@@ -94,11 +92,10 @@ fn add_right(
     used: usize,
     rule: &[u8],
     slots: &[usize; Room::ITEMS],
-    lens: &[usize; Room::VARIABLES],
-    atoms: &[u32; Room::ATOMS],
+    values: &Values,
 ) -> usize
-    requires { Halfway l nodes.old edges.old journal.old used rule.now slots.now lens.now atoms.now }
-    ensures { RightCame l nodes.old edges.old journal.old used rule.now slots.now lens.now atoms.now result nodes.new edges.new journal.new }
+    requires { Halfway l nodes.old edges.old journal.old used rule.now slots.now values.now.lens values.now.atoms }
+    ensures { RightCame l nodes.old edges.old journal.old used rule.now slots.now values.now.lens values.now.atoms result nodes.new edges.new journal.new }
 {
     let right = parts::right_part(rule);
     let k = parts::interface_of(rule);
@@ -113,8 +110,7 @@ fn add_right(
         used,
         right,
         k,
-        lens,
-        atoms,
+        values,
         slots,
         new,
     );
@@ -126,8 +122,7 @@ fn add_right(
         journal,
         come,
         right,
-        lens,
-        atoms,
+        values,
         &places,
         count,
     );
@@ -143,14 +138,13 @@ fn change(
     used: usize,
     rule: &[u8],
     slots: &[usize; Room::ITEMS],
-    lens: &[usize; Room::VARIABLES],
-    atoms: &[u32; Room::ATOMS],
+    values: &Values,
 ) -> usize
-    requires { Unhindered l nodes.old edges.old journal.old used rule.now slots.now lens.now atoms.now }
-    ensures { Changed l nodes.old edges.old journal.old used rule.now slots.now lens.now atoms.now result nodes.new edges.new journal.new }
+    requires { Unhindered l nodes.old edges.old journal.old used rule.now slots.now values.now.lens values.now.atoms }
+    ensures { Changed l nodes.old edges.old journal.old used rule.now slots.now values.now.lens values.now.atoms result nodes.new edges.new journal.new }
 {
-    let kept = change_left(l, nodes, edges, journal, used, rule, slots, lens, atoms);
-    add_right(l, nodes, edges, journal, kept, rule, slots, lens, atoms)
+    let kept = change_left(l, nodes, edges, journal, used, rule, slots, values);
+    add_right(l, nodes, edges, journal, kept, rule, slots, values)
 }
 
 // Applies a rule at its first match: the checks, then the changes. The answer: the records used after them, or why nothing was
@@ -163,11 +157,10 @@ pub fn apply(
     used: usize,
     rule: &[u8],
     slots: &[usize; Room::ITEMS],
-    lens: &[usize; Room::VARIABLES],
-    atoms: &[u32; Room::ATOMS],
+    values: &Values,
 ) -> Result<usize, Stop>
     requires running { Running l nodes.old edges.old journal.old used }
-    requires at_match { AtMatch l nodes.old edges.old rule.now slots.now lens.now atoms.now }
+    requires at_match { AtMatch l nodes.old edges.old rule.now slots.now values.now.lens values.now.atoms }
     ensures { Applies l nodes.old edges.old journal.old used rule.now slots.now result nodes.new edges.new journal.new }
 {
     hindrance(
@@ -178,8 +171,7 @@ pub fn apply(
         used,
         rule,
         slots,
-        lens,
-        atoms,
+        values,
     )?;
-    Ok(change(l, nodes, edges, journal, used, rule, slots, lens, atoms))
+    Ok(change(l, nodes, edges, journal, used, rule, slots, values))
 }

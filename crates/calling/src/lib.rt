@@ -2,7 +2,6 @@
 #![tactic(auto)]
 
 ghost use Rattle.std.specs.Prelude.{◌≡◌, length};
-ghost use Rattle.values.specs.Values.{Stored};
 ghost use Rattle.ledger.specs.Running.{Running};
 ghost use Rattle.calling.specs.Called.{Listed, Called};
 ghost use Rattle.calling.specs.Choosing.{IsChoice, ran_after};
@@ -11,6 +10,7 @@ ghost use Rattle.plan.specs.Plan.{plan_length};
 use graph::Graph;
 use meaning::{End, Layout, Ran, Room, Stop, Tally};
 use plan::At;
+use values::Values;
 
 // The number of the first of the rules of these numbers that has a match, with the slots of that match. Room is lent for the plan of
 // a rule and for the values of the match's variables.
@@ -19,17 +19,16 @@ pub fn first_rule(
     image: &[u8],
     numbers: &[u8],
     plan: &mut [usize; At::LENGTH],
-    lens: &mut [usize; Room::VARIABLES],
-    atoms: &mut [u32; Room::ATOMS],
+    values: &mut Values,
 ) -> Option<(usize, [usize; Room::ITEMS])>
     requires listed { Listed image.now numbers.now }
-    requires plan_len { (length plan.old ≡ plan_length) × Stored lens.old atoms.old }
-    ensures { IsChoice host.now.layout image.now numbers.now host.now.nodes.now host.now.edges.now result lens.new atoms.new }
+    requires plan_len { length plan.old ≡ plan_length }
+    ensures { IsChoice host.now.layout image.now numbers.now host.now.nodes.now host.now.edges.now result values.new.lens values.new.atoms }
 {
     for &byte in numbers {
         let number = usize::from(byte);
         let rule = parts::rule_part(image, number);
-        if let Some(slots) = matching::first_match(host, rule, plan, lens, atoms) {
+        if let Some(slots) = matching::first_match(host, rule, plan, values) {
             return Some((number, slots));
         }
     }
@@ -68,14 +67,16 @@ pub fn call(
     ensures { Called l image.now numbers.now nodes.old edges.old journal.old t result nodes.new edges.new journal.new }
 {
     let mut plan = [0usize; At::LENGTH];
-    let mut lens = [0usize; Room::VARIABLES];
-    let mut atoms = [0u32; Room::ATOMS];
+    let mut values = Values {
+        lens: [0; Room::VARIABLES],
+        atoms: [0; Room::ATOMS],
+    };
     let host = Graph {
         layout: l,
         nodes,
         edges,
     };
-    let Some(chosen) = first_rule(&host, image, numbers, &mut plan, &mut lens, &mut atoms) else {
+    let Some(chosen) = first_rule(&host, image, numbers, &mut plan, &mut values) else {
         return Ran {
             end: End::Failed,
             tally: t,
@@ -84,7 +85,7 @@ pub fn call(
 
     let rule = parts::rule_part(image, chosen.0);
     let applied = applying::apply(
-        l, nodes, edges, journal, t.records, rule, &chosen.1, &lens, &atoms,
+        l, nodes, edges, journal, t.records, rule, &chosen.1, &values,
     );
     after(t, applied)
 }

@@ -11,6 +11,7 @@ ghost use Rattle.making.specs.Making.{KeepsRoot, Takes, Comes, Joins, Changes, A
 
 use meaning::tags::{Mark, Tag};
 use meaning::{Layout, Room};
+use values::Values;
 
 // Whether interface node i, whose right node is p, keeps the host's root flag: it is no root on either side of a preserving rule.
 fn keeps_root(preserving: bool, left: &[u8], i: usize, p: &[u8]) -> bool
@@ -28,16 +29,15 @@ fn take_values(
     used: usize,
     p: &[u8],
     keeps: bool,
-    lens: &[usize; Room::VARIABLES],
-    atoms: &[u32; Room::ATOMS],
+    values: &Values,
     x: usize,
 )
     requires held { Held l nodes.old edges.now journal.old used }
     requires x_in_bounds { (x < length nodes.old / node_length l) × (used < length journal.old / record_length l) }
-    requires takes { Takes l nodes.old p.now keeps lens.now atoms.now x }
-    ensures { (w : Takes l nodes.old p.now keeps lens.now atoms.now x) → Leads l (store (of_node x (live w.made.node)) (ledger_of l nodes.old edges.now journal.old used)) nodes.new edges.now journal.new (used + 1) }
+    requires takes { Takes l nodes.old p.now keeps values.now.lens values.now.atoms x }
+    ensures { (w : Takes l nodes.old p.now keeps values.now.lens values.now.atoms x) → Leads l (store (of_node x (live w.made.node)) (ledger_of l nodes.old edges.now journal.old used)) nodes.new edges.now journal.new (used + 1) }
 {
-    let label = values::item_value(l.atoms, lens, atoms, Tag::NODE, p).unwrap();
+    let label = values::item_value(l.atoms, values, Tag::NODE, p).unwrap();
     let words = &label.atoms[..label.len];
     let before = slots::slot(&nodes[..], l.node, x);
     let mark = if p[0] == Mark::ANY {
@@ -61,16 +61,15 @@ fn come_node(
     journal: &mut [u8],
     used: usize,
     p: &[u8],
-    lens: &[usize; Room::VARIABLES],
-    atoms: &[u32; Room::ATOMS],
+    values: &Values,
 ) -> usize
     requires held { Held l nodes.old edges.now journal.old used }
     requires nonzero { (0 < free_slots (read_nodes l nodes.old)) × (used < length journal.old / record_length l) }
-    requires comes { Comes l p.now lens.now atoms.now }
+    requires comes { Comes l p.now values.now.lens values.now.atoms }
     ensures value { result ≡ lowest_free (read_nodes l nodes.old) }
-    ensures leads { (w : Comes l p.now lens.now atoms.now) → Leads l (store (of_node result (live w.made.node)) (ledger_of l nodes.old edges.now journal.old used)) nodes.new edges.now journal.new (used + 1) }
+    ensures leads { (w : Comes l p.now values.now.lens values.now.atoms) → Leads l (store (of_node result (live w.made.node)) (ledger_of l nodes.old edges.now journal.old used)) nodes.new edges.now journal.new (used + 1) }
 {
-    let label = values::item_value(l.atoms, lens, atoms, Tag::NODE, p).unwrap();
+    let label = values::item_value(l.atoms, values, Tag::NODE, p).unwrap();
     let words = &label.atoms[..label.len];
     ledger::add_node(l, nodes, edges, journal, used, p[0], p[1], words)
 }
@@ -83,17 +82,16 @@ fn come_edge(
     journal: &mut [u8],
     used: usize,
     p: &[u8],
-    lens: &[usize; Room::VARIABLES],
-    atoms: &[u32; Room::ATOMS],
+    values: &Values,
     places: &[usize; Room::ITEMS],
 ) -> usize
     requires held { Held l nodes.now edges.old journal.old used }
     requires nonzero { (0 < free_slots (read_edges l edges.old)) × (used < length journal.old / record_length l) }
-    requires joins { Joins l p.now lens.now atoms.now places.now }
+    requires joins { Joins l p.now values.now.lens values.now.atoms places.now }
     ensures value { result ≡ lowest_free (read_edges l edges.old) }
-    ensures leads { (w : Joins l p.now lens.now atoms.now places.now) → Leads l (store (of_edge result (live (between places.now w.edge))) (ledger_of l nodes.now edges.old journal.old used)) nodes.now edges.new journal.new (used + 1) }
+    ensures leads { (w : Joins l p.now values.now.lens values.now.atoms places.now) → Leads l (store (of_edge result (live (between places.now w.edge))) (ledger_of l nodes.now edges.old journal.old used)) nodes.now edges.new journal.new (used + 1) }
 {
-    let label = values::item_value(l.atoms, lens, atoms, Tag::EDGE, p).unwrap();
+    let label = values::item_value(l.atoms, values, Tag::EDGE, p).unwrap();
     let words = &label.atoms[..label.len];
     let source = places[usize::from(p[1])];
     let target = places[usize::from(p[2])];
@@ -111,20 +109,19 @@ fn change_node(
     left: &[u8],
     right: &[u8],
     k: usize,
-    lens: &[usize; Room::VARIABLES],
-    atoms: &[u32; Room::ATOMS],
+    values: &Values,
     i: usize,
     x: usize,
 )
     requires held { Held l nodes.old edges.now journal.old used }
     requires x_in_bounds { (x < length nodes.old / node_length l) × (used < length journal.old / record_length l) }
-    requires changes { Changes l nodes.old preserving left.now right.now lens.now atoms.now k i x }
-    ensures { (w : Changes l nodes.old preserving left.now right.now lens.now atoms.now k i x) → Leads l (store (of_node x (becomes (take k w.made.right.nodes) i)) (ledger_of l nodes.old edges.now journal.old used)) nodes.new edges.now journal.new (used + 1) }
+    requires changes { Changes l nodes.old preserving left.now right.now values.now.lens values.now.atoms k i x }
+    ensures { (w : Changes l nodes.old preserving left.now right.now values.now.lens values.now.atoms k i x) → Leads l (store (of_node x (becomes (take k w.made.right.nodes) i)) (ledger_of l nodes.old edges.now journal.old used)) nodes.new edges.now journal.new (used + 1) }
 {
     if i < k {
         let p = parts::node_part(right, i);
         let keeps = keeps_root(preserving, left, i, p);
-        take_values(l, nodes, edges, journal, used, p, keeps, lens, atoms, x);
+        take_values(l, nodes, edges, journal, used, p, keeps, values, x);
     } else {
         ledger::free_node(l, nodes, edges, journal, used, x);
     }
@@ -141,14 +138,13 @@ pub fn change_nodes(
     left: &[u8],
     right: &[u8],
     k: usize,
-    lens: &[usize; Room::VARIABLES],
-    atoms: &[u32; Room::ATOMS],
+    values: &Values,
     slots: &[usize; Room::ITEMS],
     n: usize,
 )
     requires held { Held l nodes.old edges.now journal.old used }
-    requires alters { Alters l nodes.old journal.old preserving left.now right.now lens.now atoms.now slots.now used k n }
-    ensures { (w : Alters l nodes.old journal.old preserving left.now right.now lens.now atoms.now slots.now used k n) → Went l (stores (nodes_change (take k w.made.right.nodes) (take n slots.now)) (ledger_of l nodes.old edges.now journal.old used)) nodes.old edges.now journal.old nodes.new edges.now journal.new (used + n) }
+    requires alters { Alters l nodes.old journal.old preserving left.now right.now values.now.lens values.now.atoms slots.now used k n }
+    ensures { (w : Alters l nodes.old journal.old preserving left.now right.now values.now.lens values.now.atoms slots.now used k n) → Went l (stores (nodes_change (take k w.made.right.nodes) (take n slots.now)) (ledger_of l nodes.old edges.now journal.old used)) nodes.old edges.now journal.old nodes.new edges.now journal.new (used + n) }
 {
     for (i, x) in slots[..n].iter().enumerate() {
         change_node(
@@ -161,8 +157,7 @@ pub fn change_nodes(
             left,
             right,
             k,
-            lens,
-            atoms,
+            values,
             i,
             *x,
         );
@@ -178,19 +173,18 @@ pub fn new_nodes(
     used: usize,
     right: &[u8],
     k: usize,
-    lens: &[usize; Room::VARIABLES],
-    atoms: &[u32; Room::ATOMS],
+    values: &Values,
     slots: &[usize; Room::ITEMS],
     new: usize,
 ) -> [usize; Room::ITEMS]
     requires held { Held l nodes.old edges.now journal.old used }
-    requires grows { Grows l nodes.old journal.old right.now lens.now atoms.now slots.now used k new }
-    ensures { (w : Grows l nodes.old journal.old right.now lens.now atoms.now slots.now used k new) → Grew l (drop k w.made.right.nodes) nodes.old edges.now journal.old slots.now used k new result nodes.new journal.new }
+    requires grows { Grows l nodes.old journal.old right.now values.now.lens values.now.atoms slots.now used k new }
+    ensures { (w : Grows l nodes.old journal.old right.now values.now.lens values.now.atoms slots.now used k new) → Grew l (drop k w.made.right.nodes) nodes.old edges.now journal.old slots.now used k new result nodes.new journal.new }
 {
     let mut places = *slots;
     for i in 0..new {
         let p = parts::node_part(right, k + i);
-        places[k + i] = come_node(l, nodes, edges, journal, used + i, p, lens, atoms);
+        places[k + i] = come_node(l, nodes, edges, journal, used + i, p, values);
     }
     places
 }
@@ -203,17 +197,16 @@ pub fn new_edges(
     journal: &mut [u8],
     used: usize,
     right: &[u8],
-    lens: &[usize; Room::VARIABLES],
-    atoms: &[u32; Room::ATOMS],
+    values: &Values,
     places: &[usize; Room::ITEMS],
     count: usize,
 )
     requires held { Held l nodes.now edges.old journal.old used }
-    requires edges { Edges l edges.old journal.old right.now lens.now atoms.now places.now used count }
-    ensures { (w : Edges l edges.old journal.old right.now lens.now atoms.now places.now used count) → Went l (add_edges (take (length w.made.tree.right.nodes) places.now) w.made.right.edges (ledger_of l nodes.now edges.old journal.old used)) nodes.now edges.old journal.old nodes.now edges.new journal.new (used + count) }
+    requires edges { Edges l edges.old journal.old right.now values.now.lens values.now.atoms places.now used count }
+    ensures { (w : Edges l edges.old journal.old right.now values.now.lens values.now.atoms places.now used count) → Went l (add_edges (take (length w.made.tree.right.nodes) places.now) w.made.right.edges (ledger_of l nodes.now edges.old journal.old used)) nodes.now edges.old journal.old nodes.now edges.new journal.new (used + count) }
 {
     for i in 0..count {
         let p = parts::edge_part(right, i);
-        come_edge(l, nodes, edges, journal, used + i, p, lens, atoms, places);
+        come_edge(l, nodes, edges, journal, used + i, p, values, places);
     }
 }

@@ -5,12 +5,12 @@
 ghost use Rattle.std.specs.Prelude.{◌≡◌, true, length, ◌<◌};
 ghost use Rattle.meaning.specs.Image.{raw_program};
 ghost use Rattle.parts.specs.Series.{For};
-ghost use Rattle.values.specs.Values.{Stored};
 ghost use Rattle.pairs.specs.Pairs.{starts as doesStart, Answers};
 ghost use Rattle.plan.specs.Plan.{plan_length};
 
 use meaning::Room;
 use plan::At;
+use values::Values;
 
 // The first match of the first rule, asked for n times, and at least once.
 fn repeated(
@@ -19,18 +19,17 @@ fn repeated(
     image: &[u8],
     n: u32,
     plan: &mut [usize; At::LENGTH],
-    lens: &mut [usize; Room::VARIABLES],
-    atoms: &mut [u32; Room::ATOMS],
+    values: &mut Values,
 ) -> Option<[usize; Room::ITEMS]>
     requires image_value { doesStart nodes.now edges.now image.now ≡ true }
     requires fact { For (raw_program image.now) (λ p. 0 < length p.rules) }
-    requires plan_len { (length plan.old ≡ plan_length) × Stored lens.old atoms.old }
-    ensures { Answers nodes.now edges.now image.now 0 result lens.new atoms.new }
+    requires plan_len { length plan.old ≡ plan_length }
+    ensures { Answers nodes.now edges.now image.now 0 result values.new.lens values.new.atoms }
 {
     for _ in 1..n {
-        pairs::rule_match(nodes, edges, image, 0, plan, lens, atoms);
+        pairs::rule_match(nodes, edges, image, 0, plan, values);
     }
-    pairs::rule_match(nodes, edges, image, 0, plan, lens, atoms)
+    pairs::rule_match(nodes, edges, image, 0, plan, values)
 }
 
 fn match_first(nodes: &[u8], edges: &[u8], image: &[u8], n: u32)
@@ -38,10 +37,12 @@ fn match_first(nodes: &[u8], edges: &[u8], image: &[u8], n: u32)
     requires fact { For (raw_program image.now) (λ p. 0 < length p.rules) }
 {
     let mut plan = [0usize; At::LENGTH];
-    let mut lens = [0usize; Room::VARIABLES];
-    let mut atoms = [0u32; Room::ATOMS];
-    let found = repeated(nodes, edges, image, n, &mut plan, &mut lens, &mut atoms);
-    pairs::write_match(parts::rule_part(image, 0), found, lens, atoms);
+    let mut values = Values {
+        lens: [0; Room::VARIABLES],
+        atoms: [0; Room::ATOMS],
+    };
+    let found = repeated(nodes, edges, image, n, &mut plan, &mut values);
+    pairs::write_match(parts::rule_part(image, 0), found, values.lens, values.atoms);
 }
 
 fn match_case(case: &[u8]) {

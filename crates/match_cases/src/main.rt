@@ -9,16 +9,19 @@ ghost use Rattle.pairs.specs.Pairs.{starts as doesStart};
 
 use meaning::Room;
 use plan::At;
+use values::Values;
 
 fn match_rule(nodes: &[u8], edges: &[u8], image: &[u8], i: usize)
     requires image_value { doesStart nodes.now edges.now image.now ≡ true }
     requires fact { For (raw_program image.now) (λ p. i < length p.rules) }
 {
     let mut plan = [0usize; At::LENGTH];
-    let mut lens = [0usize; Room::VARIABLES];
-    let mut atoms = [0u32; Room::ATOMS];
-    let found = pairs::rule_match(nodes, edges, image, i, &mut plan, &mut lens, &mut atoms);
-    pairs::write_match(parts::rule_part(image, i), found, lens, atoms);
+    let mut values = Values {
+        lens: [0; Room::VARIABLES],
+        atoms: [0; Room::ATOMS],
+    };
+    let found = pairs::rule_match(nodes, edges, image, i, &mut plan, &mut values);
+    pairs::write_match(parts::rule_part(image, i), found, values.lens, values.atoms);
 }
 
 fn match_rules(nodes: &[u8], edges: &[u8], image: &[u8])

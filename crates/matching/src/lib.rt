@@ -8,7 +8,7 @@ ghost use Rattle.slots.specs.Laid.{laid};
 ghost use Rattle.plan.specs.Plan.{IsRule, edges_at, nodes_at, plan_length, sort_at};
 ghost use Rattle.matching.specs.Next.{end_of, Meets, NextSlot, NextLikely, IsStep};
 ghost use Rattle.meaning.specs.Matching.{total};
-ghost use Rattle.values.specs.Values.{Stored, values_room};
+ghost use Rattle.values.specs.Values.{values_room};
 ghost use Rattle.matching.specs.Values.{Copied, HasValues};
 ghost use Rattle.matching.specs.Lent.{HandedIn, ReadyIn, OfRule, SoughtIn, IsFirstIn};
 
@@ -17,6 +17,7 @@ use graph::Graph;
 use meaning::Room;
 use plan::{At, PlannedRule, Side};
 use slots::laid;
+use values::Values;
 
 // What to do at a level: stop at a full match, take a slot, or go back.
 #[derive(Clone, Copy)]
@@ -214,17 +215,10 @@ fn put_atoms(atoms: &mut [u32; Room::ATOMS], start: usize, a: &[u8])
     }
 }
 
-// Writes the values that a full placement gives the variables: variable v has lens[v] atoms, from atoms[labels::MOST * v] on.
-fn assign(
-    host: &Graph,
-    rule: &PlannedRule,
-    at: &[usize; Room::ITEMS],
-    lens: &mut [usize; Room::VARIABLES],
-    atoms: &mut [u32; Room::ATOMS],
-)
-    requires ready { ReadyIn host.now rule.now at.now (get_or rule.now.plan.now nodes_at 0 + get_or rule.now.plan.now edges_at 0) }
-    requires stored { Stored lens.old atoms.old }
-    ensures { Stored lens.new atoms.new × OfRule rule.now (λ r. HasValues (host_in host.now) r (take (total r) at.now) (length r.variables) lens.new atoms.new) }
+// Writes the values that a full placement gives the variables.
+fn assign(host: &Graph, rule: &PlannedRule, at: &[usize; Room::ITEMS], values: &mut Values)
+    requires { ReadyIn host.now rule.now at.now (get_or rule.now.plan.now nodes_at 0 + get_or rule.now.plan.now edges_at 0) }
+    ensures { OfRule rule.now (λ r. HasValues (host_in host.now) r (take (total r) at.now) (length r.variables) values.new.lens values.new.atoms) }
 {
     let whole = Trial {
         at,
@@ -235,8 +229,8 @@ fn assign(
     for v in 0..rule.types().len() {
         if rule.plan[At::FIRST + v] < m {
             let a = agreeing::value(host, rule, &whole, v);
-            lens[v] = laid::count(a);
-            put_atoms(atoms, labels::MOST * v, a);
+            values.lens[v] = laid::count(a);
+            put_atoms(&mut values.atoms, labels::MOST * v, a);
         }
     }
 }
@@ -244,15 +238,9 @@ fn assign(
 // The search.
 
 // The first placement of the left items, node slots in left order and then edge slots, with the values of the variables.
-fn search(
-    host: &Graph,
-    rule: &PlannedRule,
-    lens: &mut [usize; Room::VARIABLES],
-    atoms: &mut [u32; Room::ATOMS],
-) -> Option<[usize; Room::ITEMS]>
-    requires handed { HandedIn host.now rule.now }
-    requires stored { Stored lens.old atoms.old }
-    ensures { SoughtIn host.now rule.now result lens.new atoms.new }
+fn search(host: &Graph, rule: &PlannedRule, values: &mut Values) -> Option<[usize; Room::ITEMS]>
+    requires { HandedIn host.now rule.now }
+    ensures { SoughtIn host.now rule.now result values.new }
 {
     let mut at = [0usize; Room::ITEMS];
     let mut i: usize = 0;
@@ -280,7 +268,7 @@ fn search(
         i -= 1;
         c = at[i] + 1;
     }
-    assign(host, rule, &at, lens, atoms);
+    assign(host, rule, &at, values);
     Some(at)
 }
 
@@ -290,13 +278,12 @@ pub fn first_match(
     host: &Graph,
     rule: &[u8],
     plan: &mut [usize; At::LENGTH],
-    lens: &mut [usize; Room::VARIABLES],
-    atoms: &mut [u32; Room::ATOMS],
+    values: &mut Values,
 ) -> Option<[usize; Room::ITEMS]>
     requires rule { IsRule rule.now }
-    requires plan_len { (length plan.old ≡ plan_length) × Stored lens.old atoms.old }
-    ensures { (length plan.new ≡ plan_length) × IsFirstIn host.now rule.now result lens.new atoms.new }
+    requires plan_len { length plan.old ≡ plan_length }
+    ensures { (length plan.new ≡ plan_length) × IsFirstIn host.now rule.now result values.new }
 {
     planning::make(rule, plan);
-    search(host, &PlannedRule { bytes: rule, plan }, lens, atoms)
+    search(host, &PlannedRule { bytes: rule, plan }, values)
 }

@@ -1,6 +1,6 @@
 -- Where a run would start, the tables are legal and each rule of the image is one whose references hold, so its first match can
 -- be asked for. Rests on Pairs and on laws' Calls.
-use mathlib.Core.Path.{◌≡◌, refl, sym, ◌∙◌, ap}
+use mathlib.Core.Path.{◌≡◌, refl, ap}
 use mathlib.Core.Bool.{true, false}
 use mathlib.Core.Option.{Option, some, none}
 use Rattle.std.specs.Prelude as Rust

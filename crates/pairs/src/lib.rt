@@ -4,7 +4,6 @@
 ghost use Rattle.std.specs.Prelude.{◌≡◌, true, length, ◌<◌};
 ghost use Rattle.meaning.specs.Image.{raw_program};
 ghost use Rattle.parts.specs.Series.{For};
-ghost use Rattle.values.specs.Values.{Stored};
 ghost use Rattle.pairs.specs.Pairs.{is_match, starts as doesStart, Answers};
 ghost use Rattle.plan.specs.Plan.{plan_length};
 
@@ -12,6 +11,7 @@ use answers::Report;
 use graph::Graph;
 use meaning::{Layout, Room};
 use plan::At;
+use values::Values;
 
 // Whether a run of the image on the host would start, with no fuel and no journal.
 pub fn starts(nodes: &[u8], edges: &[u8], image: &[u8]) -> bool
@@ -28,13 +28,12 @@ pub fn rule_match(
     image: &[u8],
     i: usize,
     plan: &mut [usize; At::LENGTH],
-    lens: &mut [usize; Room::VARIABLES],
-    atoms: &mut [u32; Room::ATOMS],
+    values: &mut Values,
 ) -> Option<[usize; Room::ITEMS]>
     requires image_value { doesStart nodes.now edges.now image.now ≡ true }
     requires fact { For (raw_program image.now) (λ p. i < length p.rules) }
-    requires plan_len { (length plan.old ≡ plan_length) × Stored lens.old atoms.old }
-    ensures { (length plan.new ≡ plan_length) × Answers nodes.now edges.now image.now i result lens.new atoms.new }
+    requires plan_len { length plan.old ≡ plan_length }
+    ensures { (length plan.new ≡ plan_length) × Answers nodes.now edges.now image.now i result values.new.lens values.new.atoms }
 {
     let rule = parts::rule_part(image, i);
     let host = Graph {
@@ -42,7 +41,7 @@ pub fn rule_match(
         nodes,
         edges,
     };
-    matching::first_match(&host, rule, plan, lens, atoms)
+    matching::first_match(&host, rule, plan, values)
 }
 
 // Writing.

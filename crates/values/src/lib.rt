@@ -41,56 +41,54 @@ pub fn difference(a: u32, b: u32) -> Option<u32>
     lowered(labels::height(a) + 0x100000000 - labels::height(b))
 }
 
-// The values of the variables: variable v has lens[v] atoms, from atoms[labels::MOST * v] on.
+// The values of a match's variables: of each how many atoms it has, and those atoms, from labels::MOST times its number on.
+#[derive(Drop)]
+pub struct Values {
+    pub lens: [usize; Room::VARIABLES],
+    pub atoms: [u32; Room::ATOMS],
+    pub ghost stored: { Stored lens atoms },
+}
 
 // The first atom of a variable's value, 0 if it has none.
-pub fn first_atom(lens: &[usize; Room::VARIABLES], atoms: &[u32; Room::ATOMS], v: usize) -> u32
-    requires { Stored lens.now atoms.now }
-    ensures { result ≡ get_or (values_of lens.now atoms.now v) 0 0 }
+pub fn first_atom(values: &Values, v: usize) -> u32
+    ensures { result ≡ get_or (values_of values.now.lens values.now.atoms v) 0 0 }
 {
-    if v < Room::VARIABLES && 0 < lens[v] {
-        atoms[labels::MOST * v]
+    if v < Room::VARIABLES && 0 < values.lens[v] {
+        values.atoms[labels::MOST * v]
     } else {
         0
     }
 }
 
-pub fn atom_of(lens: &[usize; Room::VARIABLES], atoms: &[u32; Room::ATOMS], o: Operand) -> u32
-    requires { Stored lens.now atoms.now }
-    ensures { result ≡ atom_of (values_of lens.now atoms.now) o }
+pub fn atom_of(values: &Values, o: Operand) -> u32
+    ensures { result ≡ atom_of (values_of values.now.lens values.now.atoms) o }
 {
     match o {
         Operand::Constant(x) => x,
-        Operand::Variable(v) => first_atom(lens, atoms, v),
+        Operand::Variable(v) => first_atom(values, v),
     }
 }
 
-pub fn value_of(lens: &[usize; Room::VARIABLES], atoms: &[u32; Room::ATOMS], v: usize) -> Label
-    requires { Stored lens.now atoms.now }
-    ensures { Holds (values_of lens.now atoms.now v) result }
+pub fn value_of(values: &Values, v: usize) -> Label
+    ensures { Holds (values_of values.now.lens values.now.atoms v) result }
 {
     if v >= Room::VARIABLES {
         return labels::none();
     }
-    labels::copied(atoms, labels::MOST * v, lens[v])
+    labels::copied(&values.atoms, labels::MOST * v, values.lens[v])
 }
 
 // An element's value, or none if it can't be held.
-pub fn element_value(
-    lens: &[usize; Room::VARIABLES],
-    atoms: &[u32; Room::ATOMS],
-    e: Element,
-) -> Option<Label>
-    requires { Stored lens.now atoms.now }
-    ensures { Kept most_atoms result × (value_in result ≡ element_value (values_of lens.now atoms.now) e) }
+pub fn element_value(values: &Values, e: Element) -> Option<Label>
+    ensures { Kept most_atoms result × (value_in result ≡ element_value (values_of values.now.lens values.now.atoms) e) }
 {
     Some(match e {
         Element::Constant(x) => labels::one(x),
-        Element::Variable(v) => value_of(lens, atoms, v),
-        Element::Sum(a, b) => labels::one(sum(atom_of(lens, atoms, a), atom_of(lens, atoms, b))?),
+        Element::Variable(v) => value_of(values, v),
+        Element::Sum(a, b) => labels::one(sum(atom_of(values, a), atom_of(values, b))?),
         Element::Difference(a, b) => labels::one(difference(
-            atom_of(lens, atoms, a),
-            atom_of(lens, atoms, b),
+            atom_of(values, a),
+            atom_of(values, b),
         )?),
     })
 }
@@ -110,19 +108,14 @@ pub fn joined(a: Label, b: Label, most: usize) -> Option<Label>
 }
 
 // The value of a label of the right side, or none if it can't be held.
-pub fn label_value(
-    most: usize,
-    lens: &[usize; Room::VARIABLES],
-    atoms: &[u32; Room::ATOMS],
-    p: &[u8],
-) -> Option<Label>
-    requires { Stored lens.now atoms.now × (most ≤ most_atoms) }
-    ensures { Kept most result × For (label p.now) (λ l. value_in result ≡ label_value most (values_of lens.now atoms.now) l) }
+pub fn label_value(most: usize, values: &Values, p: &[u8]) -> Option<Label>
+    requires { most ≤ most_atoms }
+    ensures { Kept most result × For (label p.now) (λ l. value_in result ≡ label_value most (values_of values.now.lens values.now.atoms) l) }
 {
     let mut rest = p;
     let mut so_far = labels::none();
     while let Some((e, end)) = parts::elements::first_element(rest) {
-        let next = element_value(lens, atoms, e)?;
+        let next = element_value(values, e)?;
         so_far = joined(so_far, next, most)?;
         rest = &rest[end..];
     }
@@ -130,34 +123,23 @@ pub fn label_value(
 }
 
 // The value of the label of a right node or edge, from its tag and payload.
-pub fn item_value(
-    most: usize,
-    lens: &[usize; Room::VARIABLES],
-    atoms: &[u32; Room::ATOMS],
-    tag: u8,
-    p: &[u8],
-) -> Option<Label>
-    requires { Stored lens.now atoms.now × (most ≤ most_atoms) }
-    ensures { Kept most result × For (graph_item tag p.now) (λ i. value_in result ≡ label_value most (values_of lens.now atoms.now) (item_label i)) }
+pub fn item_value(most: usize, values: &Values, tag: u8, p: &[u8]) -> Option<Label>
+    requires { most ≤ most_atoms }
+    ensures { Kept most result × For (graph_item tag p.now) (λ i. value_in result ≡ label_value most (values_of values.now.lens values.now.atoms) (item_label i)) }
 {
-    label_value(most, lens, atoms, parts::label_part(tag, p))
+    label_value(most, values, parts::label_part(tag, p))
 }
 
 // Whether all labels of a right graph can be held.
-pub fn labels_held(
-    most: usize,
-    lens: &[usize; Room::VARIABLES],
-    atoms: &[u32; Room::ATOMS],
-    right: &[u8],
-) -> bool
-    requires { Stored lens.now atoms.now × (most ≤ most_atoms) }
-    ensures { For (rule_graph right.now) (λ g. result ≡ all_held most (values_of lens.now atoms.now) g) }
+pub fn labels_held(most: usize, values: &Values, right: &[u8]) -> bool
+    requires { most ≤ most_atoms }
+    ensures { For (rule_graph right.now) (λ g. result ≡ all_held most (values_of values.now.lens values.now.atoms) g) }
 {
     for field in Fields::of(right) {
         let Ok(Field { tag, start, end }) = field else {
             return false;
         };
-        if item_value(most, lens, atoms, tag, &right[start..end]).is_none() {
+        if item_value(most, values, tag, &right[start..end]).is_none() {
             return false;
         }
     }

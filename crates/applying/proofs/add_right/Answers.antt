@@ -8,7 +8,7 @@ use Rattle.applying.proofs.add_right.Goals.{After-edge_count-count}
 abbrev Here : (c : After-edge_count-count) → Type 0
 Here c =
     let a = c.args in
-    Halfway a.l a.nodes.now a.edges.now a.journal.now a.used a.rule.now a.slots.now a.lens.now a.atoms.now
+    Halfway a.l a.nodes.now a.edges.now a.journal.now a.used a.rule.now a.slots.now a.values.now.lens a.values.now.atoms
 
 counted : (c : After-edge_count-count) (w : Here c)
     → RightCounted w.start.match.tree c.right_part-right.result.now c.interface_of-k.result (c.node_count-right_nodes.result - c.interface_of-k.result) c.edge_count-count.result

@@ -7,7 +7,7 @@ use Rattle.applying.proofs.change_left.Goals.{After-edge_count-m}
 abbrev Here : (c : After-edge_count-m) → Type 0
 Here c =
     let a = c.args in
-    Unhindered a.l a.nodes.now a.edges.now a.journal.now a.used a.rule.now a.slots.now a.lens.now a.atoms.now
+    Unhindered a.l a.nodes.now a.edges.now a.journal.now a.used a.rule.now a.slots.now a.values.now.lens a.values.now.atoms
 
 counted : (c : After-edge_count-m) (u : Here c)
     → LeftCounted u.match.tree c.left_part-left.result.now c.right_part-right.result.now c.preserving-preserving.result c.interface_of-k.result c.node_count-n.result c.edge_count-m.result

@@ -22,7 +22,7 @@ record Counted (r : Rule) (k n m right_nodes count : ℕ) : Type 0 where
 abbrev Here : (c : After-edge_count-count) → Type 0
 Here c =
     let a = c.args in
-    AtMatch a.l a.nodes.now a.edges.now a.rule.now a.slots.now a.lens.now a.atoms.now
+    AtMatch a.l a.nodes.now a.edges.now a.rule.now a.slots.now a.values.now.lens a.values.now.atoms
 
 counted : (c : After-edge_count-count) (w : Here c)
     → Counted w.tree c.interface_of-k.result c.node_count-n.result c.edge_count-m.result c.node_count-right_nodes.result c.edge_count-count.result

@@ -8,7 +8,7 @@ use Rattle.calling.proofs.call.Goals.{After-rule_part-rule}
 found : (c : After-rule_part-rule)
     → let f = c.first_rule in
     Found c.args.l c.args.image.now c.args.numbers.now c.args.nodes.now c.args.edges.now
-    c.rule_part-rule.result.now c.in-Some.chosen.0 c.in-Some.chosen.1 f.new.lens f.new.atoms
+    c.rule_part-rule.result.now c.in-Some.chosen.0 c.in-Some.chosen.1 f.new.values.lens f.new.values.atoms
 found c =
     record {
       choice = rw c.in-Some.is at c.first_rule.ensures;
@@ -18,11 +18,14 @@ found c =
 pub invariant_of-host : goal.invariant_of-host
 invariant_of-host c = record { legal = running-searched _ _ _ _ _ c.requires.running }
 
+pub invariant_of-values : goal.invariant_of-values
+invariant_of-values c = record { stored = stored-none }
+
 pub first_rule-requires : goal.first_rule-requires
 first_rule-requires c =
     record {
       listed = c.requires.listed;
-      plan_len = (refl, stored-none);
+      plan_len = refl;
     }
 
 pub apply-applied-requires : goal.apply-applied-requires

@@ -1,4 +1,4 @@
-use Rattle.std.proofs.Common.{◌-◌, refl, arith}
+use Rattle.std.proofs.Common.{refl, arith}
 use Rattle.calling.proofs.Choosing.{none-chosen, Tried, is-rule, chosen, passes}
 use Rattle.calling.proofs.first_rule.Goals as goal
 use Rattle.calling.proofs.first_rule.Goals.{After-rule_part-rule}
@@ -15,14 +15,13 @@ tried c =
 
 pub loop-byte-init : goal.loop-byte-init
 loop-byte-init c =
-    let room = c.requires.plan_len in
-    (λ p e. refl, room.0, room.1)
+    (λ p e. refl, c.requires.plan_len)
 
 pub first_match-requires : goal.first_match-requires
 first_match-requires c =
     record {
       rule = is-rule (tried (goal.at.first_match-requires c).After-rule_part-rule);
-      plan_len = (c.loop-byte.invariant.1, c.loop-byte.invariant.2);
+      plan_len = c.loop-byte.invariant.1;
     }
 
 pub returns-in-Some : goal.returns-in-Some
@@ -33,7 +32,7 @@ pub loop-byte-preserved : goal.loop-byte-preserved
 loop-byte-preserved c =
     let t = tried (goal.at.loop-byte-preserved c).After-rule_part-rule in
     let first = c.first_match.ensures in
-    (passes t c.loop-byte.invariant.0 first.1 c.in_default.is, first.0, first.1.arrays)
+    (passes t c.loop-byte.invariant.0 first.1 c.in_default.is, first.0)
 
 pub returns : goal.returns
 returns c =

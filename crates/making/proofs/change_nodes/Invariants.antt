@@ -3,4 +3,4 @@ use Rattle.making.proofs.Loops.{Altering}
 use Rattle.making.proofs.change_nodes.Given as goal
 
 abbrev pub invariant-loop-i : goal.invariant-loop-i
-invariant-loop-i l = Altering l.l l.initial.nodes l.edges l.initial.journal l.preserving l.left l.right l.lens l.atoms l.slots l.used l.k l.n l.i l.nodes l.journal
+invariant-loop-i l = Altering l.l l.initial.nodes l.edges l.initial.journal l.preserving l.left l.right l.values.lens l.values.atoms l.slots l.used l.k l.n l.i l.nodes l.journal

@@ -6,4 +6,4 @@ use Rattle.making.proofs.Loops.{Growing}
 use Rattle.making.proofs.new_nodes.Given as goal
 
 abbrev pub invariant-loop-i : goal.invariant-loop-i
-invariant-loop-i l = (length l.places ≡ most_items) × Growing l.l l.initial.nodes l.edges l.initial.journal l.right l.lens l.atoms l.slots l.used l.k l.new l.i l.nodes l.journal l.places
+invariant-loop-i l = (length l.places ≡ most_items) × Growing l.l l.initial.nodes l.edges l.initial.journal l.right l.values.lens l.values.atoms l.slots l.used l.k l.new l.i l.nodes l.journal l.places

@@ -20,7 +20,7 @@ pub bounds-p-1 : goal.bounds-p-1
 bounds-p-1 c = omega (arith, (rule_node-is _ _ c.requires.takes.made.is).long)
 
 -- the mark and the root flag that the node takes
-module _ (c : Joined-keeps) (w : Takes c.args.l c.args.nodes.now c.args.p.now c.args.keeps c.args.lens.now c.args.atoms.now c.args.x) where
+module _ (c : Joined-keeps) (w : Takes c.args.l c.args.nodes.now c.args.p.now c.args.keeps c.args.values.now.lens c.args.values.now.atoms c.args.x) where
   mark_is : c.if-p-eq-ANY.mark ≡ w.made.node.mark
   mark_is =
       let h = node-held c.requires.held.sized c.args.nodes.now c.args.x w.alive _ c.slot-before.ensures.0 in

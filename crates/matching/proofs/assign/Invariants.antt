@@ -3,10 +3,9 @@ use Rattle.std.proofs.Common.{take}
 use Rattle.meaning.specs.Layout.{host_of}
 use Rattle.matching.specs.Next.{Of}
 use Rattle.meaning.specs.Matching.{total}
-use Rattle.values.specs.Values.{Stored}
 use Rattle.matching.specs.Values.{HasValues}
 use Rattle.matching.proofs.assign.Given as goal
 
 abbrev pub invariant-loop-v : goal.invariant-loop-v
 invariant-loop-v l =
-    Stored l.lens l.atoms × Of l.rule.bytes.now l.rule.plan.now (λ r. HasValues (host_of l.host.layout l.host.nodes.now l.host.edges.now) r (take (total r) l.at) l.v l.lens l.atoms)
+    Of l.rule.bytes.now l.rule.plan.now (λ r. HasValues (host_of l.host.layout l.host.nodes.now l.host.edges.now) r (take (total r) l.at) l.v l.values.lens l.values.atoms)

@@ -6,11 +6,8 @@ pub search-requires : goal.search-requires
 search-requires c =
     let p = c.requires in
     let t = p.rule in record {
-      handed = record {
-        legal = c.args.host.now.legal;
-        known = record { rule = t.tree; planned = c.make.ensures t.tree t.is };
-      };
-      stored = p.plan_len.1;
+      legal = c.args.host.now.legal;
+      known = record { rule = t.tree; planned = c.make.ensures t.tree t.is };
     }
 
 pub returns : goal.returns

@@ -10,7 +10,7 @@ use Rattle.values.proofs.label_value.Given as goal
 
 abbrev pub invariant-loop-e : goal.invariant-loop-e
 invariant-loop-e here =
-    Short here.most here.so_far × For (label here.p) (λ l. Valuing here.most (values_of here.lens here.atoms) l here.rest (atoms_in here.so_far))
+    Short here.most here.so_far × For (label here.p) (λ l. Valuing here.most (values_of here.values.lens here.values.atoms) l here.rest (atoms_in here.so_far))
 
 abbrev pub decreases-loop-e : goal.decreases-loop-e
 decreases-loop-e l = length l.rest

@@ -11,4 +11,4 @@ use Rattle.values.proofs.labels_held.Given as goal
 abbrev pub invariant-loop-field : goal.invariant-loop-field
 invariant-loop-field l =
     (l.field-iterator.bytes.now ≡ l.right)
-    × Walk graph_item (λ i. is_some (label_value l.most (values_of l.lens l.atoms) (item_label i))) l.right (rule_graph l.right) (all_held l.most (values_of l.lens l.atoms)) l.field-iterator.place
+    × Walk graph_item (λ i. is_some (label_value l.most (values_of l.values.lens l.values.atoms) (item_label i))) l.right (rule_graph l.right) (all_held l.most (values_of l.values.lens l.values.atoms)) l.field-iterator.place
