@@ -1,5 +1,5 @@
--- Laws for the code that walks commands: a command by its tag, commands one after the other, and a test of each element of a list.
--- Rests on Asked and Demands.
+-- Laws for the code that walks commands: a command by its tag, commands one after the other, and a test of each element of a
+-- list. Rests on Asked and Demands.
 use mathlib.Core.Path.{◌≡◌, refl, sym, ◌∙◌, ap}
 use mathlib.Core.Bool.{Bool, true, false}
 use mathlib.Core.Option.{some, none}

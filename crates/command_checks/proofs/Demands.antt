@@ -1,5 +1,5 @@
--- What the walk asks, put beside References, Placement and Procedures: a law for each demand. Rests on Asked, Heights and Putting, and
--- on the meaning's References, Placement and Procedures.
+-- What the walk asks, put beside References, Placement and Procedures: a law for each demand. Rests on Asked, Heights and
+-- Putting, and on the meaning's References, Placement and Procedures.
 use mathlib.Core.Path.{◌≡◌, refl, sym, ◌∙◌}
 use mathlib.Core.Bool.{Bool, true, false}
 use mathlib.Core.Option.{Option}

@@ -70,8 +70,8 @@ unfoldable pub parts_asked : Demand → Demand → List (Option ℕ) → List Ra
 parts_asked first others t [] = true
 parts_asked first others t (c ∷ l) = both (command_asked first t c) (parts_asked others others t l)
 
--- what is asked of the first part of a command of a tag, a loop's body, a sequence's first command or a guard, from what is asked of
--- the others
+-- what is asked of the first part of a command of a tag, a loop's body, a sequence's first command or a guard, from what is asked
+-- of the others
 unfoldable pub of_first : Demand → ℕ → Demand
 of_first d tag = choose (eqb tag loop_tag) (breaking d true) (choose (eqb tag sequence_tag) d (breaking d false))
 

@@ -1,7 +1,7 @@
 // What is asked of the commands of an image that has the form, of every procedure and of the main command: that the rules and the
-// procedures they name exist (a part of answer 17), that each break lies in a loop body with no guard between (answer 18), and that
-// with procedures put in for calls they are not nested too deep (answer 19). The parts of the image are walked where they lie, and
-// no call is followed.
+// procedures they name exist (a part of answer 17), that each break lies in a loop body with no guard between (answer 18), and
+// that with procedures put in for calls they are not nested too deep (answer 19). The parts of the image are walked where they
+// lie, and no call is followed.
 #![tactic(auto)]
 
 ghost use Rattle.std.specs.Prelude.{◌≡◌, true, Some, ◌<◌, ltb, length, get_or};
@@ -102,8 +102,8 @@ fn breaking(demand: Demand, may: bool) -> Demand
     }
 }
 
-// What is asked of the first of a command's parts, from what is asked of the others: a break may stand in a loop's body, and not in a
-// guard; a sequence treats its first command as the others.
+// What is asked of the first of a command's parts, from what is asked of the others: a break may stand in a loop's body, and not
+// in a guard; a sequence treats its first command as the others.
 #[tactic(auto, unfolding(crate::specs::Asked::of_first, meaning::specs::Basics::choose))]
 fn of_first(demand: Demand, tag: u8) -> Demand
     ensures { result ≡ of_first demand tag }
@@ -214,15 +214,7 @@ fn part_holds(demand: Demand, heights: &[Option<u8>], tag: u8, p: &[u8]) -> bool
 fn all_hold(demand: Demand, heights: &[Option<u8>], image: &[u8]) -> bool
     ensures { For (raw_program image.now) (λ p. result ≡ everywhere (command_asked demand heights.now) p) }
 {
-    for field in Fields::of(image) {
-        let Ok(Field { tag, start, end }) = field else {
-            return false;
-        };
-        if !part_holds(demand, heights, tag, &image[start..end]) {
-            return false;
-        }
-    }
-    true
+    parts::every_field(image, |tag, p| part_holds(demand, heights, tag, p))
 }
 
 // The rules and the procedures that commands name exist.

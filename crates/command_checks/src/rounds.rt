@@ -1,5 +1,5 @@
-// The heights of procedures: how deep each one's command is with procedures put in for calls. They are found in rounds, lower ones
-// before higher ones, so that a call is answered by the height of its procedure.
+// The heights of procedures: how deep each one's command is with procedures put in for calls. They are found in rounds, lower
+// ones before higher ones, so that a call is answered by the height of its procedure.
 ghost use Rattle.std.specs.Prelude.{◌≡◌, ◌-◌, ◌<◌, length, get_or};
 ghost use Rattle.meaning.specs.Image.{skip, raw_program};
 ghost use Rattle.meaning.specs.Procedures.{depth_holds};
@@ -33,8 +33,8 @@ fn raise(image: &[u8], heights: &mut [Option<u8>], n: u8)
 pub fn depth_fits(image: &[u8], heights: &mut [Option<u8>]) -> bool
     ensures { For (raw_program image.now) (λ p. Heights p.procedures 0 heights.old → result ≡ depth_holds p) }
 {
-    for n in 1..Limit::DEPTH {
-        raise(image, heights, n as u8);
+    for n in 1..Limit::DEPTH as u8 {
+        raise(image, heights, n);
     }
     crate::all_hold(Demand::Depth(Limit::DEPTH), heights, image)
 }

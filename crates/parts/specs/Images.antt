@@ -1,5 +1,5 @@
--- What stands in an image as a row of fields: its rules, its procedures and its main command; and the command that a procedure is.
--- Rests on the meaning's Image, on Series and on Rows.
+-- What stands in an image as a row of fields: its rules, its procedures and its main command; and the command that a procedure
+-- is. Rests on the meaning's Image, on Series and on Rows.
 use Rattle.std.specs.Prelude.{◌≡◌, refl, ℕ, suc, ◌+◌, ◌-◌, ◌<◌, ◌≤◌, eqb, get_or, take, drop}
 use Rattle.std.proofs.Common.{sym, ◌∙◌, arith, length-append, get_or-append-add}
 use Rattle.std.proofs.Math.Path.{ap}

@@ -4,3 +4,4 @@ pub mod Images
 pub mod Reading
 pub mod Elements
 pub mod Walks
+pub mod Walked

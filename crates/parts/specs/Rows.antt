@@ -305,7 +305,8 @@ module _ (bs part : List ℕ) (i n : ℕ) (q : For (rule_graph bs) (λ g. n ≡ 
 abbrev anything : ℕ → List ℕ → Option (List ℕ)
 anything tag bs = some bs
 
--- the parts, each where the field of its number lies; the first five are there, and without a mode the part of its number is empty
+-- the parts, each where the field of its number lies; the first five are there, and without a mode the part of its number is
+-- empty
 pub record Parted (bs : List ℕ) (x : Rule) : Type 0 where
   pub variables : types (nth_part 0 bs) ≡ some x.variables
   pub left : rule_graph (nth_part 1 bs) ≡ some x.left

@@ -1,5 +1,5 @@
-// Parts of an image, of a rule and of a graph: the bytes of each where they lie, and what stands there. Readings of elements and
-// tests are in `reading`, walks along a label in `elements`.
+// Parts of an image, of a rule and of a graph: the bytes of each where they lie, and what stands there; and the walk that asks
+// the same of each. Readings of elements and tests are in `reading`, walks along a label in `elements`.
 #![tactic(auto)]
 
 ghost use Rattle.std.specs.Prelude.{◌≡◌, List, [], ℕ, ◌+◌, ◌<◌, ◌≤◌, eqb, length, get_or, drop};
@@ -9,6 +9,7 @@ ghost use Rattle.meaning.specs.Image.{Rule, only, passes_all, constant, label, r
 ghost use Rattle.parts.specs.Series.{For, Series, nth_part, nth_tag};
 ghost use Rattle.parts.specs.Rows.{tag_item, front, mark_at, graph_item, item_label};
 ghost use Rattle.parts.specs.Images.{procedure};
+ghost use Rattle.parts.specs.Walked.{Answers};
 
 use fields::{Field, Fields};
 use meaning::tags::Tag;
@@ -124,6 +125,22 @@ pub fn count_fields(p: &[u8]) -> usize
         n += 1;
     }
     n
+}
+
+// Whether bytes are fields, one after the other, of which each passes a test of its tag and payload.
+pub fn every_field<F: Fn(u8, &[u8]) -> bool>(p: &[u8], passes: F) -> bool
+    requires { F.IsAlwaysCallable passes }
+    ensures { Answers (λ tag part r. F.post passes tag part r) p.now 0 result }
+{
+    for field in Fields::of(p) {
+        let Ok(Field { tag, start, end }) = field else {
+            return false;
+        };
+        if !passes(tag, &p[start..end]) {
+            return false;
+        }
+    }
+    true
 }
 
 // A graph: its nodes, then its edges.

@@ -1,3 +1,2 @@
 mod Asks
 mod Ties
-mod Walks

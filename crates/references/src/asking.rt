@@ -9,7 +9,7 @@ ghost use Rattle.parts.specs.Series.{For};
 ghost use Rattle.parts.specs.Rows.{graph_item};
 ghost use Rattle.references.specs.Asked.{operand_asked, element_asked, lists_in, ends_below, edge_marked, item_fits, item_asked, graph_asked, condition_fits, condition_asked, test_asked};
 
-use crate::{Ask, every_field};
+use crate::Ask;
 use meaning::tags::{Mark, Tag, VariableType};
 use meaning::{Condition, Element, Operand};
 
@@ -71,7 +71,7 @@ fn element_holds(ask: Ask, e: Element, types: &[u8]) -> bool
 fn label_holds(ask: Ask, p: &[u8], types: &[u8]) -> bool
     ensures { For (label p.now) (λ l. result ≡ every (element_asked ask types.now) l) }
 {
-    every_field(
+    parts::every_field(
         p,
         |tag, part| element_holds(ask, parts::reading::read_element(tag, part), types),
     )
@@ -128,7 +128,7 @@ fn item_holds(ask: Ask, tag: u8, p: &[u8], types: &[u8]) -> bool
 pub fn graph_holds(ask: Ask, p: &[u8], types: &[u8]) -> bool
     ensures { For (rule_graph p.now) (λ g. result ≡ graph_asked ask types.now g) }
 {
-    every_field(p, |tag, part| item_holds(ask, tag, part, types))
+    parts::every_field(p, |tag, part| item_holds(ask, tag, part, types))
 }
 
 #[tactic(auto, unfolding(meaning::specs::Basics::both, meaning::specs::Basics::every, meaning::specs::References::condition_operands))]
@@ -173,7 +173,7 @@ fn condition_holds(ask: Ask, c: Condition, types: &[u8]) -> bool
 pub fn tests_hold(ask: Ask, p: &[u8], types: &[u8]) -> bool
     ensures { For (only passes_all test limits.tests p.now) (λ l. result ≡ every (test_asked ask types.now) l) }
 {
-    every_field(
+    parts::every_field(
         p,
         |tag, part| condition_holds(ask, parts::reading::read_test(tag, part).condition, types),
     )

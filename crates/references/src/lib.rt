@@ -1,5 +1,5 @@
-// References (answer 17) of the rules of an image that has the form. Each side of a rule and its tests are walked once, where they
-// lie, and once more for each variable.
+// References (answer 17) of the rules of an image that has the form. Each side of a rule and its tests are walked once, where
+// they lie, and once more for each variable.
 #![tactic(auto)]
 
 ghost use Rattle.std.specs.Prelude.{◌≡◌};
@@ -9,9 +9,7 @@ ghost use Rattle.meaning.specs.References.{rule_holds};
 ghost use Rattle.parts.specs.Series.{For};
 ghost use Rattle.parts.specs.Images.{image_part};
 ghost use Rattle.references.specs.Asked.{part_holds};
-ghost use Rattle.references.specs.Walked.{Answers};
 
-use fields::{Field, Fields};
 use meaning::tags::Tag;
 
 mod asking;
@@ -31,22 +29,6 @@ pub enum Ask {
     Lacks(usize),
 }
 
-// Whether bytes are fields, one after the other, of which each passes a test of its tag and payload.
-fn every_field<F: Fn(u8, &[u8]) -> bool>(p: &[u8], passes: F) -> bool
-    requires { F.IsAlwaysCallable passes }
-    ensures { Answers (λ tag part r. F.post passes tag part r) p.now 0 result }
-{
-    for field in Fields::of(p) {
-        let Ok(Field { tag, start, end }) = field else {
-            return false;
-        };
-        if !passes(tag, &p[start..end]) {
-            return false;
-        }
-    }
-    true
-}
-
 // A rule of the image; of the main command nothing is asked here.
 fn part_holds(tag: u8, p: &[u8]) -> bool
     ensures { For (image_part tag p.now) (λ i. result ≡ part_holds i) }
@@ -57,5 +39,5 @@ fn part_holds(tag: u8, p: &[u8]) -> bool
 pub fn rules_hold(image: &[u8]) -> bool
     ensures { For (raw_program image.now) (λ x. result ≡ every rule_holds x.rules) }
 {
-    every_field(image, part_holds)
+    parts::every_field(image, part_holds)
 }

@@ -1,4 +1,5 @@
--- `count_front` meets its contract. The loop's invariant: the fields of the tag at the front are those counted and those from the place on.
+-- `count_front` meets its contract. The loop's invariant: the fields of the tag at the front are those counted and those from the
+-- place on.
 use Rattle.std.proofs.Common.{◌≡◌}
 use Rattle.parts.specs.Rows.{Counting}
 use Rattle.parts.proofs.count_front.Given as goal

@@ -3,7 +3,7 @@ use Rattle.std.proofs.Common.{◌∙◌, rules, sym}
 use Rattle.parts.specs.Images.{image_part, image_parts, image-series}
 use Rattle.references.specs.Asked.{part_holds}
 use Rattle.references.proofs.Ties.{parts_hold}
-use Rattle.references.proofs.Walks.{every_answers}
+use Rattle.parts.specs.Walked.{every_answers}
 use Rattle.references.proofs.rules_hold.Goals as goal
 
 pub returns : goal.returns

@@ -2,7 +2,7 @@
 use Rattle.std.proofs.Common.{rules}
 use Rattle.parts.specs.Rows.{graph_item, graph-series, items}
 use Rattle.references.specs.Asked.{graph_asked, item_asked}
-use Rattle.references.proofs.Walks.{every_answers}
+use Rattle.parts.specs.Walked.{every_answers}
 use Rattle.references.proofs.asking.graph_holds.Goals as goal
 
 pub returns : goal.returns

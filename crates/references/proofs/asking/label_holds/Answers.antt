@@ -3,7 +3,7 @@ use Rattle.std.proofs.Common.{rules}
 use Rattle.meaning.specs.Image.{element}
 use Rattle.references.specs.Asked.{element_asked}
 use Rattle.references.proofs.Asks.{label-series}
-use Rattle.references.proofs.Walks.{every_answers}
+use Rattle.parts.specs.Walked.{every_answers}
 use Rattle.references.proofs.asking.label_holds.Goals as goal
 
 pub returns : goal.returns

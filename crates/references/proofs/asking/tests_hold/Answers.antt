@@ -3,7 +3,7 @@ use Rattle.std.proofs.Common.{rules}
 use Rattle.meaning.specs.Image.{passes_all, test}
 use Rattle.parts.specs.Series.{only-series}
 use Rattle.references.specs.Asked.{test_asked}
-use Rattle.references.proofs.Walks.{every_answers}
+use Rattle.parts.specs.Walked.{every_answers}
 use Rattle.references.proofs.asking.tests_hold.Goals as goal
 
 pub returns : goal.returns

@@ -1,16 +1,28 @@
--- A walk that asks a question of each field, put beside the items that the fields are read as. Rests on Walked and on parts' Series.
+-- What a walk answers that asks a question of each field of bytes, up to the first that does not pass, and what that says of the
+-- items that the fields are read as. Rests on the meaning's Image, on fields' Laws and on Series.
 use mathlib.Core.Path.{◌≡◌, sym, ◌∙◌, ap}
 use mathlib.Core.Bool.{Bool, true, false}
-use mathlib.Core.Option.{Option}
+use mathlib.Core.Option.{Option, none}
 use mathlib.Core.List.{List, []}
-use Prim.Native.Nat.{ℕ}
+use Prim.Native.Nat.{ℕ, ◌≤◌, ◌<◌, ◌-◌}
 use native.Mathlib.Omega.{arith}
-use lib.ListN.{drop}
+use lib.ListN.{length, take, drop}
 use Rattle.std.specs.Borrow.{Bor}
 use Rattle.meaning.specs.Basics.{every}
+use Rattle.meaning.specs.Image.{field}
 use Rattle.meaning.specs.Laws.Tests.{both_yes, both-no}
+use Rattle.fields.specs.Laws.{Lies}
 use Rattle.parts.specs.Series.{For, Series, series-none, series-some, series-there}
-use Rattle.references.specs.Walked.{Answers, done, cut, stop, next}
+
+-- the answer from a place on, where the question may answer r of a tag and a lent payload if `R tag payload r`
+pub data Answers (R : ℕ → Bor (List ℕ) → Bool → Type 0) (bs : List ℕ) : ℕ → Bool → Type 0 where
+  -- the bytes have ended
+  done : {at : ℕ} → length bs ≤ at → Answers R bs at true
+  -- a field is cut short
+  cut : {at : ℕ} → at < length bs → field (drop at bs) ≡ none → Answers R bs at false
+  -- the field at the place does not pass, or it passes and the walk goes on behind it
+  stop : {at tag start end : ℕ} (part : Bor (List ℕ)) → Lies bs at tag start end → part.now ≡ take (end - start) (drop start bs) → R tag part false → Answers R bs at false
+  next : {at tag start end : ℕ} {r : Bool} (part : Bor (List ℕ)) → Lies bs at tag start end → part.now ≡ take (end - start) (drop start bs) → R tag part true → Answers R bs end r → Answers R bs at r
 
 -- where the question answers what is asked of the item, the walk answers what is asked of every item
 module _ {A : Type 0} (item : ℕ → List ℕ → Option A) (f : A → Bool) {R : ℕ → Bor (List ℕ) → Bool → Type 0} {bs : List ℕ}

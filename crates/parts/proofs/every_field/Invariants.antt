@@ -1,7 +1,7 @@
 -- `every_field` meets its contract. The loop's invariant: what is answered from the place on is answered from the start.
 use Rattle.std.proofs.Common.{◌≡◌, Bool}
-use Rattle.references.specs.Walked.{Answers}
-use Rattle.references.proofs.every_field.Given as goal
+use Rattle.parts.specs.Walked.{Answers}
+use Rattle.parts.proofs.every_field.Given as goal
 
 abbrev pub invariant-loop-field : goal.invariant-loop-field
 invariant-loop-field g l =

@@ -1,7 +1,7 @@
 use Rattle.std.proofs.Common.{refl, false, true}
 use Rattle.parts.proofs.Loops.{gives-field, gives-cut, gives-end}
-use Rattle.references.specs.Walked.{done, cut, stop, next}
-use Rattle.references.proofs.every_field.Goals as goal
+use Rattle.parts.specs.Walked.{done, cut, stop, next}
+use Rattle.parts.proofs.every_field.Goals as goal
 
 pub returns-in_default : goal.returns-in_default
 returns-in_default g c =
