@@ -12,7 +12,6 @@ ghost use Rattle.parts.specs.Series.{For};
 ghost use Rattle.parts.specs.Rows.{graph_item, item_label};
 ghost use Rattle.values.specs.Values.{values_of, Stored, as_option, lowered, value_in, Kept, fitting, all_held};
 
-use fields::{Field, Fields};
 use labels::Label;
 use meaning::{Element, Operand, Room};
 
@@ -135,13 +134,5 @@ pub fn labels_held(most: usize, values: &Values, right: &[u8]) -> bool
     requires { most ≤ most_atoms }
     ensures { For (rule_graph right.now) (λ g. result ≡ all_held most (values_of values.now.lens values.now.atoms) g) }
 {
-    for field in Fields::of(right) {
-        let Ok(Field { tag, start, end }) = field else {
-            return false;
-        };
-        if item_value(most, values, tag, &right[start..end]).is_none() {
-            return false;
-        }
-    }
-    true
+    parts::every_field(right, |tag, p| item_value(most, values, tag, p).is_some())
 }
