@@ -1,5 +1,5 @@
--- Making a plan: where the parts of a rule lie, where a label first has a variable, how a label is compared, when a condition is decided, and the plan as far
--- as it is made. Rests on plan's Plan and on the meaning's FirstMatch.
+-- Making a plan: where the parts of a rule lie, where a label first has a variable, how a label is compared, when a condition is
+-- decided, and the plan as far as it is made. Rests on plan's Plan and on the meaning's FirstMatch.
 use Rattle.std.specs.Prelude.{◌≡◌, ◌⊎◌, true, false, Option, Some, None, Ok, List, [], ◌∷◌, ◌++◌, map, ℕ, suc, ◌+◌, ◌<◌, ◌≤◌, eqb, length, get_or}
 use Rattle.std.proofs.Math.Option.{some}
 use Rattle.meaning.specs.Basics.{concat}
