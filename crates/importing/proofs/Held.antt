@@ -6,7 +6,8 @@ use mathlib.Core.List.{List, map}
 use Prim.Native.Nat.{ℕ, ◌≤◌}
 use native.Mathlib.Omega.{arith}
 use borrow.Author.Tests.{le-leb, leb-true}
-use Rattle.std.specs.Prelude.{Option, Some, None, Ok, Err}
+use Rattle.std.specs.Prelude.{Option, Some, None, IsSome, Ok, Err}
+use Rattle.std.proofs.Common.{rules}
 use lib.ListN.{length, length-map}
 use Rattle.meaning.specs.Layout.{Node, Edge, most_atoms, is_node_mark, is_edge_mark}
 use Rattle.meaning.specs.Laws.Tests.{both_of, clauses-true}
@@ -45,11 +46,12 @@ module _ (L : Layout) (few : L.atoms ≤ most_atoms) where
       record { holds = k; size = omega (arith, (is-fit is_mark l e).1, ap length k.atoms, length-map l.atoms atom) }
 
   -- a label that fits is gathered
-  label-there : (is_mark : ℕ → Bool) (l : Label) {o : Option Gathered} → label_fits is_mark L.atoms l ≡ true → o ≡ None → Gathers l.atoms o → ⊥
-  label-there is_mark l e q h =
-      let k = sym (rw q at h) ∙ (is-fit is_mark l e).0 in
+  label-there : (is_mark : ℕ → Bool) (l : Label) (o : Option Gathered) → label_fits is_mark L.atoms l ≡ true → Gathers l.atoms o → IsSome o
+  label-there is_mark l (Some g) e h = search rules
+  label-there is_mark l None e h =
+      let k = sym h ∙ (is-fit is_mark l e).0 in
       let z : ◌≡◌ {A = ℕ} 0 1 = cc in
-      omega arith
+      absurd (omega arith)
 
   module _ (bs : List ℕ) (p : ℕ) where
     pub node-reads : (w : Item L bs Nodes p) {b : BrokenAt} → ReadsNode bs p (Err b) → ⊥
@@ -62,8 +64,8 @@ module _ (L : Layout) (few : L.atoms ≤ most_atoms) where
       is-node : IsNode bs p r w.item
       is-node = node-again bs r w.at reads
 
-      pub node-there : r.label ≡ None → ⊥
-      node-there q = label-there is_node_mark w.item.label w.fits q is-node.gathers
+      pub node-there : IsSome r.label
+      node-there = label-there is_node_mark w.item.label r.label w.fits is-node.gathers
 
       module _ (label : Gathered) (q : r.label ≡ Some label) where
         pub node-label : LabelHeld L w.item.label label
@@ -77,8 +79,8 @@ module _ (L : Layout) (few : L.atoms ≤ most_atoms) where
       is-edge : IsEdge bs p r w.item
       is-edge = edge-again bs r w.at reads
 
-      pub edge-there : r.label ≡ None → ⊥
-      edge-there q = label-there is_edge_mark w.item.label w.fits q is-edge.gathers
+      pub edge-there : IsSome r.label
+      edge-there = label-there is_edge_mark w.item.label r.label w.fits is-edge.gathers
 
       module _ (label : Gathered) (q : r.label ≡ Some label) where
         pub edge-label : LabelHeld L w.item.label label

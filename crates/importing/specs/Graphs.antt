@@ -1,4 +1,5 @@
--- What the code knows of a text that is a graph, and of tables whose lengths are in order. Rests on items' Items and on the text's Text.
+-- What the code knows of a text that is a graph, and of tables whose lengths are in order. Rests on items' Items and on the
+-- text's Text.
 use Rattle.std.specs.Prelude.{◌≡◌, Bool, true, List, ℕ, ◌≤◌, length}
 use Rattle.std.proofs.Math.Option.{some}
 use Rattle.meaning.specs.Layout.{Sized, most_atoms, node_length, edge_length, fits_table}

@@ -1,5 +1,5 @@
--- Names by the places where they begin, and what is asked of the names of items that are listed at places. Rests on lexing's Lexing, on
--- items' Items and on the text's Text.
+-- Names by the places where they begin, and what is asked of the names of items that are listed at places. Rests on lexing's
+-- Lexing, on items' Items and on the text's Text.
 use Rattle.std.specs.Prelude.{◌≡◌, Bool, Option, Some, None, List, map, ℕ, ◌<◌, length}
 use Rattle.meaning.specs.Basics.{every}
 use Rattle.meaning.specs.declared.Table.{Table}

@@ -1,5 +1,5 @@
--- The two tables that an import writes, by name: what a slot holds of an item, the bytes of a slot, and the table; and items that are
--- listed at places and can be held. Rests on the meaning's Layout, on the text's Text, on items' Items and on Names.
+-- The two tables that an import writes, by name: what a slot holds of an item, the bytes of a slot, and the table; and items that
+-- are listed at places and can be held. Rests on the meaning's Layout, on the text's Text, on items' Items and on Names.
 use Rattle.std.specs.Prelude.{◌≡◌, true, List, map, ℕ, get_or}
 use Rattle.meaning.specs.Basics.{every, concat}
 use Rattle.meaning.specs.Layout.{Slot, free, live, Node, Edge, write_node, write_edge}

@@ -1,5 +1,5 @@
-// A text graph as tables. All that can be refused is asked before the first byte is written, over the whole text and in the order of the
-// numbers; then slots are written one by one.
+// A text graph as tables. All that can be refused is asked before the first byte is written, over the whole text and in the order
+// of the numbers; then slots are written one by one.
 #![tactic(auto)]
 
 ghost use Rattle.std.specs.Prelude.{◌≡◌, ◌≤◌, leb, length};

@@ -16,12 +16,8 @@ fn store_node(l: Layout, text: &[u8], at: usize, x: usize, out: &mut [u8])
     requires item { Item l text.now Table.Nodes at }
     ensures { StoresItem l text.now [] Table.Nodes at x out.old out.new }
 {
-    let Ok(n) = items::read_node(text, at) else {
-        return;
-    };
-    let Some(label) = n.label else {
-        return;
-    };
+    let n = items::read_node(text, at).unwrap();
+    let label = n.label.unwrap();
     slots::store_node(l, out, x, n.mark, n.root, &label.atoms[..label.len]);
 }
 
@@ -32,12 +28,8 @@ fn store_edge(l: Layout, text: &[u8], node_places: &[usize], at: usize, x: usize
     requires item { Item l text.now Table.Edges at }
     ensures { StoresItem l text.now node_places.now Table.Edges at x out.old out.new }
 {
-    let Ok(e) = items::read_edge(text, at) else {
-        return;
-    };
-    let Some(label) = e.label else {
-        return;
-    };
+    let e = items::read_edge(text, at).unwrap();
+    let label = e.label.unwrap();
     let n = node_places.len();
     let source = find(text, node_places, e.source).unwrap_or(n);
     let target = find(text, node_places, e.target).unwrap_or(n);

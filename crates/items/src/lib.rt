@@ -1,5 +1,5 @@
-// The nodes and edges of a text graph, rows of them, and the whole graph, read where they lie. What is kept of a row is how many items it
-// has, whether their labels can be held, and where their identifiers begin, from which each can be read again.
+// The nodes and edges of a text graph, rows of them, and the whole graph, read where they lie. What is kept of a row is how many
+// items it has, whether their labels can be held, and where their identifiers begin, from which each can be read again.
 #![tactic(auto)]
 
 ghost use Rattle.std.specs.Prelude.{◌≡◌, ◌≤◌};
@@ -24,8 +24,8 @@ pub struct NodeAt {
     pub label: Option<Label>,
 }
 
-// An edge that was read: where its identifier and the names of its ends begin, its mark, its atoms where they can be gathered, and the
-// place behind it.
+// An edge that was read: where its identifier and the names of its ends begin, its mark, its atoms where they can be gathered,
+// and the place behind it.
 #[derive(Clone, Copy)]
 pub struct EdgeAt {
     pub next: usize,
@@ -140,7 +140,8 @@ pub struct ItemsAt {
     pub fits: bool,
 }
 
-// Items of a table, up to the first that no parenthesis opens. The places of their identifiers are kept, as many as there is room for.
+// Items of a table, up to the first that no parenthesis opens. The places of their identifiers are kept, as many as there is room
+// for.
 pub fn read_items(
     text: &[u8],
     at: usize,

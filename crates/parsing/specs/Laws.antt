@@ -1,5 +1,5 @@
--- Readers one after the other, one of two, and optional parts: each law takes what was read from one place to the next and gives what was
--- read, or broke, in all. Rests on Reading and on the text's Grammar.
+-- Readers one after the other, one of two, and optional parts: each law takes what was read from one place to the next and gives
+-- what was read, or broke, in all. Rests on Reading and on the text's Grammar.
 use Rattle.std.specs.Prelude.{◌≡◌, Bool, ℕ, drop}
 use Rattle.std.proofs.Math.Path.{refl, ap}
 use Rattle.std.proofs.Common.{sym, ◌∙◌, arith}

@@ -1,5 +1,5 @@
--- What a reader in code comes to at a place, beside what the grammar's reader comes to there. Rests on the text's Words and Grammar and
--- on lexing's Lexing.
+-- What a reader in code comes to at a place, beside what the grammar's reader comes to there. Rests on the text's Words and
+-- Grammar and on lexing's Lexing.
 use Rattle.std.specs.Prelude.{◌≡◌, Result, Ok, Err, List, ℕ, ◌<◌, ◌≤◌, length, drop}
 use Rattle.std.proofs.Math.Seq.{slice}
 use Rattle.text.specs.Words.{Word, words}

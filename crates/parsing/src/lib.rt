@@ -1,5 +1,6 @@
-// The parts of an item of a text graph, read where they lie: signs and names here, integers, labels and positions in files of their own.
-// Each reader takes a place and answers with what it read and the place behind it, or with the place at which the text broke.
+// The parts of an item of a text graph, read where they lie: signs and names here, integers, labels and positions in files of
+// their own. Each reader takes a place and answers with what it read and the place behind it, or with the place at which the text
+// broke.
 #![tactic(auto)]
 
 ghost use Rattle.text.specs.Words.{name, sign};

@@ -1,5 +1,5 @@
--- Making a plan: where the parts of a rule lie, where a label first has a variable, how a label is compared, when a condition is decided, and the plan as far
--- as it is made. Rests on plan's Plan and on the meaning's FirstMatch.
+-- Making a plan: where the parts of a rule lie, where a label first has a variable, how a label is compared, when a condition is
+-- decided, and the plan as far as it is made. Rests on plan's Plan and on the meaning's FirstMatch.
 use Rattle.std.specs.Prelude.{◌≡◌, ◌⊎◌, true, false, Option, Some, None, Ok, List, [], ◌∷◌, ◌++◌, map, ℕ, suc, ◌+◌, ◌<◌, ◌≤◌, eqb, length, get_or}
 use Rattle.std.proofs.Math.Option.{some}
 use Rattle.meaning.specs.Basics.{concat}
@@ -28,10 +28,15 @@ use Rattle.planning.specs.declared.Sort.TheVariants.{Length, Constant, Elements}
 abbrev pub NumberAt : List ℕ → ℕ → ℕ → Type 0
 NumberAt bs n at = nth_field n bs 0 ≡ field_at bs at
 
+-- the payload of the field at a place, whatever its number, and the next field behind it
+pub record Lying (bs : List ℕ) (at start end : ℕ) : Type 0 where
+  pub part : (n : ℕ) → NumberAt bs n at → Part bs n start end
+  pub next : (n tag s e : ℕ) → NumberAt bs n at → nth_field n bs 0 ≡ found tag s e → NumberAt bs (suc n) end
+
 -- the field at a place, if there is one
-abbrev pub Lying : List ℕ → ℕ → Option Field → Type 0
-Lying bs at (Some f) = field_at bs at ≡ Some (Ok f)
-Lying bs at None = (tag start end : ℕ) → field_at bs at ≡ found tag start end → ⊥
+abbrev pub FieldAt : List ℕ → ℕ → Option Field → Type 0
+FieldAt bs at (Some f) = field_at bs at ≡ Some (Ok f)
+FieldAt bs at None = (tag start end : ℕ) → field_at bs at ≡ found tag start end → ⊥
 
 -- the parts of a rule that its plan speaks of are the fields of their numbers, and the mode is the one behind them
 pub record PartsLie (bs : List ℕ) (p : Parts) : Type 0 where

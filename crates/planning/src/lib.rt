@@ -6,7 +6,7 @@ ghost use Rattle.std.proofs.Math.Option.{some};
 ghost use Rattle.meaning.specs.Image.{Rule, RuleGraph, rule_graph, element, label};
 ghost use Rattle.meaning.specs.declared.Element.{Element};
 ghost use Rattle.plan.specs.Plan.{plan_length, Placed, Items, Planned, IsLaid, For, Labelled, IsRule, edges_at, nodes_at};
-ghost use Rattle.planning.specs.Planning.{Lying, ModeAt, PartsOf, Named, HasGraph, IsNamed, Valued, decided_by, Decides, Plans, operand_decided, variable_of, Occurring, FirstFound, Sorts, OnlyLabel, AllLabelled, IsLabelled};
+ghost use Rattle.planning.specs.Planning.{FieldAt, ModeAt, PartsOf, Named, HasGraph, IsNamed, Valued, decided_by, Decides, Plans, operand_decided, variable_of, Occurring, FirstFound, Sorts, OnlyLabel, AllLabelled, IsLabelled};
 
 use fields::{Field, Fields};
 use meaning::tags::Tag;
@@ -119,8 +119,8 @@ fn items(rule: &[u8], start: usize, end: usize, plan: &mut [usize; At::LENGTH])
     plan[At::EDGES] = j - nodes;
 }
 
-// The first item with each variable, and where its label has it. Of a variable that no item has, the plan says how many items there
-// are.
+// The first item with each variable, and where its label has it. Of a variable that no item has, the plan says how many items
+// there are.
 fn plan_variables(rule: &[u8], plan: &mut [usize; At::LENGTH])
     requires { IsLaid rule.now plan.old }
     ensures { For rule.now plan.old (λ r. Named rule.now r plan.new (length r.variables)) }
@@ -156,8 +156,10 @@ fn sort_of(types: &[u8], plan: &[usize; At::LENGTH], j: usize, p: &[u8]) -> Sort
     let Some((e, end)) = parts::elements::first_element(p) else {
         return Sort::Length;
     };
+    if end < p.len() {
+        return Sort::Elements;
+    }
     match e {
-        _ if end < p.len() => Sort::Elements,
         Element::Constant(x) => Sort::Constant(x),
         Element::Variable(v)
             if v < types.len() && v < Room::VARIABLES && plan[At::FIRST + v] == j => Sort::Length,
@@ -220,7 +222,7 @@ fn plan_tests(rule: &[u8], plan: &mut [usize; At::LENGTH])
 
 // The field at a place.
 fn place(rule: &[u8], at: usize) -> Option<Field>
-    ensures { Lying rule.now at result }
+    ensures { FieldAt rule.now at result }
 {
     fields::read_field(rule, at)?.ok()
 }
@@ -267,9 +269,7 @@ pub fn make(rule: &[u8], plan: &mut [usize; At::LENGTH])
     requires plan_len { length plan.old ≡ plan_length }
     ensures { Plans rule.now plan.new }
 {
-    let Some(parts) = parts_of(rule) else {
-        return;
-    };
+    let parts = parts_of(rule).unwrap();
     items(rule, parts.left.start, parts.left.end, plan);
     plan[At::INTERFACE] = usize::from(rule[parts.interface.start]);
     plan[At::TESTS_START] = parts.tests.start;

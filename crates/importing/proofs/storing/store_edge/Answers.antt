@@ -7,17 +7,17 @@ use Rattle.importing.proofs.Ends.{numbered}
 use Rattle.importing.proofs.Held.{edge-there, edge-label, edge-held}
 use Rattle.importing.proofs.storing.store_edge.Goals as goal
 
-pub returns-in_default-label : goal.returns-in_default-label
-returns-in_default-label c =
+pub unwrap-label-requires : goal.unwrap-label-requires
+unwrap-label-requires c =
     let a = c.args in
-    absurd (edge-there a.l c.requires.sized.1 a.text.now a.at c.in-Ok.e c.in-Ok.ensures c.requires.item c.in_default-label.is)
+    edge-there a.l c.requires.sized.1 a.text.now a.at c.unwrap-e.result (rw c.unwrap-e.ensures at c.read_edge.ensures) c.requires.item
 
 pub store_edge-requires : goal.store_edge-requires
 store_edge-requires c =
     let a = c.args in
     record {
       sized = c.requires.sized.0;
-      i_in_bounds = (c.requires.x_in_bounds, (edge-label a.l c.requires.sized.1 a.text.now a.at c.in-Ok.e c.in-Ok.ensures c.requires.item c.in-Some.label c.in-Some.is).size);
+      i_in_bounds = (c.requires.x_in_bounds, (edge-label a.l c.requires.sized.1 a.text.now a.at c.unwrap-e.result (rw c.unwrap-e.ensures at c.read_edge.ensures) c.requires.item c.unwrap-label.result c.unwrap-label.ensures).size);
     }
 
 pub returns : goal.returns
@@ -27,4 +27,4 @@ returns c =
     let ps = a.node_places.now in
     let s = c.unwrap_or-source.ensures ∙ numbered bs ps _ c.find.result c.find.ensures in
     let t = c.unwrap_or-target.ensures ∙ numbered bs ps _ c.find-2.result c.find-2.ensures in
-    λ w. c.store_edge.ensures ∙ ap (λ e. stored (edge_length a.l) a.x (write_edge a.l (live e)) a.out.now) (edge-held a.l c.requires.sized.1 bs a.at c.in-Ok.e c.in-Ok.ensures w c.in-Some.label c.in-Some.is (names_at bs ps) _ _ s t)
+    λ w. c.store_edge.ensures ∙ ap (λ e. stored (edge_length a.l) a.x (write_edge a.l (live e)) a.out.now) (edge-held a.l c.requires.sized.1 bs a.at c.unwrap-e.result (rw c.unwrap-e.ensures at c.read_edge.ensures) w c.unwrap-label.result c.unwrap-label.ensures (names_at bs ps) _ _ s t)
