@@ -228,7 +228,8 @@ fn assign(host: &Graph, rule: &PlannedRule, at: &[usize; Room::ITEMS], values: &
     let m = rule.plan[At::NODES] + rule.plan[At::EDGES];
     for v in 0..rule.types().len() {
         if rule.plan[At::FIRST + v] < m {
-            let a = agreeing::value(host, rule, &whole, v);
+            // lent again, since a label lives as long as its own table
+            let a = agreeing::value(&*host, rule, &whole, v);
             values.lens[v] = laid::count(a);
             put_atoms(&mut values.atoms, labels::MOST * v, a);
         }
