@@ -1,7 +1,7 @@
--- Laws of labels in hand: filling one.
+-- Laws of labels in hand: filling one, and copying a part of an array to one.
 -- Rests on Labels and on the meaning's Laws/Tests.
-use Rattle.std.specs.Prelude.{◌≡◌, refl, List, ℕ, ◌+◌, ◌<◌, ◌≤◌, length, get_or, set, take, replicate}
-use Rattle.std.proofs.Common.{◌∙◌, arith, add-one, length-set, length-take-le, take_all, take-suc, take-suc-set, get_or-set_same, get_or-set_other}
+use Rattle.std.specs.Prelude.{◌≡◌, refl, List, ℕ, ◌+◌, ◌<◌, ◌≤◌, length, get_or, set, take, drop, replicate}
+use Rattle.std.proofs.Common.{sym, ◌∙◌, arith, add-one, length-drop, length-set, length-take-le, take_all, take-suc, take-suc-set, get_or-set_same, get_or-set_other, get_or-take, get_or-drop}
 use Rattle.std.proofs.Math.Decide.{ℕ_discrete}
 use Rattle.meaning.specs.Numbers.{whole}
 use Rattle.meaning.specs.Layout.{most_atoms}
@@ -44,3 +44,19 @@ filled-all m l n f h e =
 -- how many atoms a label in hand has
 pub held-length : (a : Label) → Held a → length (atoms_in a) ≡ a.len
 held-length a h = let f = h.few in let r = h.room in length-take-le a.len a.atoms (omega arith)
+
+-- copying a part of an array
+module _ (atoms : List ℕ) (from n j : ℕ) (l : List ℕ) (few : n ≤ most_atoms) (fits : from + n ≤ length atoms) (f : Filled (take n (drop from atoms)) j l) where
+  copied-length : length (take n (drop from atoms)) ≡ n
+  copied-length =
+      let d = length-drop from atoms in
+      length-take-le n (drop from atoms) (omega arith)
+
+  pub copied_more : j < n → get_or atoms (from + j) 0 < whole → Filled (take n (drop from atoms)) (j + 1) (set l j (get_or atoms (from + j) 0))
+  copied_more k s =
+      let e = copied-length in
+      filled_more _ l j _ f (omega arith) (omega arith) s
+      (sym (get_or-take n (drop from atoms) j 0 k ∙ get_or-drop from atoms j 0))
+
+  pub copied_all : j ≡ n → Holds (take n (drop from atoms)) (record { len = n; atoms = l })
+  copied_all e = filled-all _ l n (rw e at f) few (sym copied-length)

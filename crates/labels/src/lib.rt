@@ -39,7 +39,9 @@ pub fn copied(atoms: &[u32], from: usize, n: usize) -> Label
     ensures { Holds (take n (drop from atoms.now)) result }
 {
     let mut out = [0u32; MOST];
-    out[..n].copy_from_slice(&atoms[from..from + n]);
+    for j in 0..n {
+        out[j] = atoms[from + j];
+    }
     Label { len: n, atoms: out }
 }
 

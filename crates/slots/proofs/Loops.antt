@@ -1,4 +1,4 @@
--- Laws for the loops over bytes: testing for zeros, writing a number.
+-- Laws for the loops over bytes: copying, testing for zeros, writing a number.
 use Prim.Native.Nat.{ℕ, zero, suc, ◌+◌, ◌-◌, ◌/◌, ◌%◌, ◌^◌, ◌<◌, ◌≤◌}
 use mathlib.Core.Path.{◌≡◌, refl, sym, ◌∙◌, ap}
 use mathlib.Core.List.{List, [], ◌∷◌, ◌++◌, append-nil}
@@ -11,6 +11,20 @@ use lib.ListN.{length, get_or, set, take, drop, drop_of_length-le}
 use lib.Seq.{drop-cons, take_all}
 use Rattle.meaning.specs.Basics.{both, zeros}
 use Rattle.meaning.specs.Numbers.{number, bytes}
+
+-- Copying: after i stores the bytes are the first i of s, then d's.
+
+copy_suc : (i : ℕ) (s d : List ℕ) → i < length s → i < length d → set (take i s ++ drop i d) i (get_or s i 0) ≡ take (suc i) s ++ drop (suc i) d
+copy_suc i [] d h k = absurd (omega arith)
+copy_suc i (a ∷ s) [] h k = absurd (omega arith)
+copy_suc zero (a ∷ s) (b ∷ d) h k = refl
+copy_suc (suc i) (a ∷ s) (b ∷ d) h k = ap (λ (l : List ℕ). a ∷ l) (copy_suc i s d (omega arith) (omega arith))
+
+pub copy_more : (i : ℕ) (s d : List ℕ) → i < length s → i < length d → set (take i s ++ drop i d) i (get_or s i 0) ≡ take (i + 1) s ++ drop (i + 1) d
+copy_more i s d h k = rw (add-one i) (copy_suc i s d h k)
+
+pub copy_all : (i : ℕ) (s d : List ℕ) → length s ≤ i → length d ≤ i → take i s ++ drop i d ≡ s
+copy_all i s d h k = rw (take_all i s h, drop_of_length-le d k) (append-nil s)
 
 -- Zeros.
 

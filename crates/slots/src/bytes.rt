@@ -3,12 +3,15 @@ ghost use Rattle.std.specs.Prelude.{◌≡◌, ◌+◌, ◌≤◌, length, take,
 ghost use Rattle.meaning.specs.Basics.{zeros};
 ghost use Rattle.meaning.specs.Numbers.{number, bytes};
 
-// Copies bytes into a part of the same length.
+// Copies bytes into a part of the same length. The compiler makes a memcpy of the loop; of `copy_from_slice` it makes a memmove, which a
+// driver would have to bring too.
 pub fn copy(to: &mut [u8], from: &[u8])
     requires { length to.old ≡ length from.now }
     ensures { to.new ≡ from.now }
 {
-    to.copy_from_slice(from);
+    for k in 0..from.len() {
+        to[k] = from[k];
+    }
 }
 
 // Zeros all bytes: of a slot or of records that go, or of a journal before a run.

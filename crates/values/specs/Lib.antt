@@ -3,3 +3,4 @@ pub mod Laws
 pub mod Right
 pub mod Items
 pub mod Zeros
+pub mod Joining

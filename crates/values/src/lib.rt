@@ -102,7 +102,9 @@ pub fn joined(a: Label, b: Label, most: usize) -> Option<Label>
         return None;
     }
     let mut atoms = a.atoms;
-    atoms[a.len..len].copy_from_slice(&b.atoms[..b.len]);
+    for j in 0..b.len {
+        atoms[a.len + j] = b.atoms[j];
+    }
     Some(Label { len, atoms })
 }
 
