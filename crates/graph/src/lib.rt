@@ -12,6 +12,24 @@ use meaning::{Layout, Table};
 use slots::held;
 use slots::held::Place;
 
+// Tables of any bytes.
+
+// How many slots a node table of a layout has.
+pub fn node_slots(l: Layout, nodes: &[u8]) -> usize
+    requires { Sized l }
+    ensures { result ≡ length (read_nodes l nodes.now) }
+{
+    nodes.len() / l.node
+}
+
+// How many slots an edge table of a layout has.
+pub fn edge_slots(l: Layout, edges: &[u8]) -> usize
+    requires { Sized l }
+    ensures { result ≡ length (read_edges l edges.now) }
+{
+    edges.len() / l.edge
+}
+
 // A host in lent tables that keep their layout.
 #[derive(Clone, Copy)]
 pub struct Graph<'n, 'e> {
@@ -30,7 +48,7 @@ impl<'n, 'e> Graph<'n, 'e> {
     pub fn node_slots(&self) -> usize
         ensures { result ≡ length (host_in self.now).nodes }
     {
-        self.nodes.len() / self.layout.node
+        node_slots(self.layout, self.nodes)
     }
 
     // The bytes of a node slot.
@@ -77,7 +95,7 @@ impl<'n, 'e> Graph<'n, 'e> {
     pub fn edge_slots(&self) -> usize
         ensures { result ≡ length (host_in self.now).edges }
     {
-        self.edges.len() / self.layout.edge
+        edge_slots(self.layout, self.edges)
     }
 
     // The bytes of an edge slot.
@@ -171,7 +189,7 @@ impl<'n, 'e> Graph<'n, 'e> {
         self.edge_leaves(c, x) || self.edge_arrives(c, x)
     }
 
-    // What the edges do.
+    // What the edges do. The walks of a degree test, most of what it costs, go over a copy of their own, whose lengths are read once.
 
     // Whether some edge runs from slot s to slot t.
     pub fn any_runs(&self, s: usize, t: usize) -> bool
@@ -184,18 +202,28 @@ impl<'n, 'e> Graph<'n, 'e> {
     pub fn out_degree(&self, s: usize) -> usize
         ensures { result ≡ out_degree (host_in self.now) s }
     {
-        (0..self.edge_slots())
-            .filter(|x| self.edge_leaves(s, *x))
-            .count()
+        let host = *self;
+        let mut leaving = 0;
+        for x in 0..host.edge_slots() {
+            if host.edge_leaves(s, x) {
+                leaving += 1;
+            }
+        }
+        leaving
     }
 
     // How many edges arrive at slot t.
     pub fn in_degree(&self, t: usize) -> usize
         ensures { result ≡ in_degree (host_in self.now) t }
     {
-        (0..self.edge_slots())
-            .filter(|x| self.edge_arrives(t, *x))
-            .count()
+        let host = *self;
+        let mut arriving = 0;
+        for x in 0..host.edge_slots() {
+            if host.edge_arrives(t, x) {
+                arriving += 1;
+            }
+        }
+        arriving
     }
 
     // How many edges touch slot c, a loop counted once.

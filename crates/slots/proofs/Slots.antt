@@ -1,16 +1,14 @@
 -- Laws of slots: whether one is live, and the search for free ones.
 use Prim.Native.Nat.{ℕ, zero, suc, ◌+◌, ◌/◌, ◌<◌, ◌≤◌}
 use mathlib.Core.Path.{◌≡◌, refl, sym, ◌∙◌, ap}
-use mathlib.Core.List.{List, [], ◌∷◌, map, map-map}
-use mathlib.Core.Bool.{Bool, true, false}
+use mathlib.Core.List.{List, [], ◌∷◌}
+use mathlib.Core.Bool.{true, false}
 use native.Mathlib.Omega.{arith}
-use lib.ListN.{length, get_or, get_or-eq_default, length-map}
-use Rattle.std.specs.Prelude.{Option, Some, None, not, cond, filter, sum}
-use Rattle.std.specs.List.{count_by, range_with_len}
+use native.Mathlib.Numerals.{add-one}
+use lib.ListN.{length, get_or, drop, get_or-eq_default, length-map, drop_of_length-le}
+use lib.Seq.{drop-cons}
+use Rattle.std.specs.Prelude.{Option, Some, None}
 use Rattle.std.specs.Option.{MatchOption, unwrap_or}
-use Rattle.std.proofs.lemmas.List.Recursion.{is_count_by}
-use Rattle.std.proofs.lemmas.List.Sums.{length-filter, sum-map}
-use Rattle.std.proofs.lemmas.List.FromFn.{fill_by_all}
 use Rattle.meaning.specs.Layout.{Slot, free, live, is_live, live_at, cut}
 use Rattle.meaning.specs.Applying.{lowest_free, free_slots}
 use Rattle.laws.specs.Pieces.{length-pieces}
@@ -42,28 +40,28 @@ module _ {A : Type 0} where
   lowest-found l n None e h = lowest-at l n (omega arith) (λ k j. h k (omega arith) j) (λ j. absurd (omega arith))
   lowest-found l n (Some i) e h = lowest-at l i (omega (arith, h.1)) (λ k j. h.3 k (omega arith) j) (λ j. h.2)
 
--- How many are free.
+-- How many are free, slot by slot.
 
-count-map : {X Y : Type 0} (p : X → Bool) (h : Y → X) (ys : List Y) → count_by p (map h ys) ≡ count_by (λ y. p (h y)) ys
-count-map p h ys =
-    sym (sum-map (λ x. cond (p x) 1 0) (map h ys)) ∙ ap sum (map-map (λ x. cond (p x) 1 0) h ys) ∙ sum-map (λ y. cond (p (h y)) 1 0) ys
-
-module _ {A : Type 0} (l : List (Slot A)) where
-  free-listed : free_slots l ≡ count_by (λ s. not (is_live s)) l
+module _ {A : Type 0} (l : List (Slot A)) (i : ℕ) (h : i < length l) where
+  pub slots-live : live_at l i ≡ true → free_slots (drop i l) ≡ free_slots (drop (i + 1) l)
   unfolding is_live free_slots
-  free-listed = is_count_by free_slots (λ s. not (is_live s)) refl at l
+  slots-live e = rw (add-one i, drop-cons l i free h) (at (get_or l i free) e)
     where
-      at : (s : Slot A) (m : List (Slot A)) → free_slots (s ∷ m) ≡ cond (not (is_live s)) (1 + free_slots m) (free_slots m)
-      at free m = omega arith
-      at (live a) m = refl
+      at : (s : Slot A) → is_live s ≡ true → free_slots (s ∷ drop (suc i) l) ≡ free_slots (drop (suc i) l)
+      at free q = let z : ◌≡◌ {A = ℕ} 0 1 = cc in absurd (omega arith)
+      at (live a) q = refl
 
-  -- what a count of the slots' numbers gives
-  pub free-counted : length (filter (λ i. not (live_at l i)) (range_with_len 0 (length l))) ≡ free_slots l
-  free-counted =
-      length-filter (λ i. not (live_at l i)) (range_with_len 0 (length l))
-      ∙ sym (count-map (λ s. not (is_live s)) (λ i. get_or l i free) (range_with_len 0 (length l)))
-      ∙ ap (count_by (λ s. not (is_live s))) (sym (fill_by_all (λ i. get_or l i free) l (length l) free refl (λ k h. refl)))
-      ∙ sym free-listed
+  pub slots-free : live_at l i ≡ false → free_slots (drop i l) ≡ suc (free_slots (drop (i + 1) l))
+  unfolding is_live free_slots
+  slots-free e = rw (add-one i, drop-cons l i free h) (at (get_or l i free) e)
+    where
+      at : (s : Slot A) → is_live s ≡ false → free_slots (s ∷ drop (suc i) l) ≡ suc (free_slots (drop (suc i) l))
+      at free q = refl
+      at (live a) q = let z : ◌≡◌ {A = ℕ} 0 1 = cc in absurd (omega arith)
+
+pub slots_end : {A : Type 0} (l : List (Slot A)) (i : ℕ) → length l ≤ i → free_slots (drop i l) ≡ 0
+unfolding free_slots
+slots_end l i h = rw (drop_of_length-le l h)
 
 pub length-states : (w : ℕ) (bs : List ℕ) → length (states w bs) ≡ length bs / w
 length-states w bs = length-map (cut w bs) state_of ∙ length-pieces w (length bs / w) bs

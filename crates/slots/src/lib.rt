@@ -127,5 +127,11 @@ pub fn free_slots(table: &[u8], w: usize) -> usize
     ensures { result ≡ free_slots (states w table.now) }
 {
     let n = table.len() / w;
-    (0..n).filter(|i| !live_slot(table, w, *i)).count()
+    let mut free = 0;
+    for i in 0..n {
+        if !live_slot(table, w, i) {
+            free += 1;
+        }
+    }
+    free
 }

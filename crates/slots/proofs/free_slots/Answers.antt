@@ -1,18 +1,24 @@
--- `free_slots` meets its contract: what the count of the free slots' numbers gives.
-use Rattle.std.proofs.Common.{◌∙◌, ap, ◌/◌, not, sym, rules, tests, arith, length, filter}
-use Rattle.std.specs.List.{range_with_len}
-use Rattle.std.proofs.lemmas.Iterator.{YieldsList-from_range}
-use Rattle.std.proofs.lemmas.Iterator.Consumers.{YieldsList-from_filter, count_from_yields_List}
-use Rattle.meaning.specs.Layout.{live_at}
+use Rattle.std.proofs.Common.{◌<◌, sym, ◌∙◌, arith, rules, length}
 use Rattle.slots.specs.Slots.{states}
-use Rattle.slots.proofs.Slots.{free-counted, length-states}
+use Rattle.slots.proofs.Slots.{slots-live, slots-free, slots_end, length-states}
 use Rattle.slots.proofs.free_slots.Goals as goal
+use Rattle.slots.proofs.free_slots.Goals.{then-not-live_slot, else-not-live_slot}
+
+pub loop-i-preserved : goal.loop-i-preserved
+loop-i-preserved c =
+    let s = states c.args.w c.args.table.now in
+    let j : c.loop-i.i < length s = rw length-states (search rules) in
+    elim c.if-not-live_slot.branch [
+      | then-not-live_slot b ↦
+          let e = slots-free s c.loop-i.i j (sym c.live_slot.ensures ∙ b.if-not-live_slot.true) in
+          (omega (arith, b.free-is, c.loop-i.invariant.0), omega (arith, b.free-is, e, c.loop-i.invariant.1))
+      | else-not-live_slot b ↦
+          let e = slots-live s c.loop-i.i j (sym c.live_slot.ensures ∙ b.if-not-live_slot.false) in
+          (omega (arith, b.free-is, c.loop-i.invariant.0), omega (arith, b.free-is, e, c.loop-i.invariant.1))
+    ]
 
 pub returns : goal.returns
 returns c =
     let s = states c.args.w c.args.table.now in
-    let n = length c.args.table.now / c.args.w in
-    count_from_yields_List c.filter.result c.count.result c.count.ensures.ran
-    (YieldsList-from_filter _ (λ i. not (live_at s i)) (YieldsList-from_range 0 n n c.filter.ensures.source (omega arith)) c.filter.ensures.closure (λ x r q k. search (rules, tests)))
-    ∙ ap (λ m. length (filter (λ i. not (live_at s i)) (range_with_len 0 m))) (sym (length-states c.args.w c.args.table.now))
-    ∙ free-counted s
+    let e = slots_end s c.loop-i.i (rw length-states (search rules)) in
+    omega (arith, e, c.loop-i.invariant.1)

@@ -1,12 +1,22 @@
--- `in_degree` meets its contract: the edges are counted by number.
-use Rattle.std.proofs.Common.{rules, tests, length}
+use Rattle.std.proofs.Common.{refl, ◌∙◌, arith}
+use Rattle.meaning.specs.Basics.{count}
 use Rattle.meaning.specs.Matching.{edge_arrives, in_degree}
-use Rattle.graph.specs.Hosts.{host_in}
-use Rattle.laws.specs.Ranges.{count-is}
+use Rattle.meaning.specs.Laws.Loops.{count_yes, count_no, count-end}
 use Rattle.graph.proofs.Graph.in_degree.Goals as goal
+use Rattle.graph.proofs.Graph.in_degree.Goals.{then-edge_arrives, else-edge_arrives}
+
+pub loop-x-init : goal.loop-x-init
+unfolding count
+loop-x-init c = (omega arith, refl)
+
+pub loop-x-preserved : goal.loop-x-preserved
+loop-x-preserved c =
+    let e = c.edge_arrives.ensures in
+    elim c.if-edge_arrives.branch [
+      | then-edge_arrives b ↦ (omega (arith, b.arriving-is, c.loop-x.invariant.0), b.arriving-is ∙ count_yes _ _ e b.if-edge_arrives.true _ c.loop-x.invariant.1)
+      | else-edge_arrives b ↦ (omega (arith, b.arriving-is, c.loop-x.invariant.0), b.arriving-is ∙ count_no _ _ e b.if-edge_arrives.false _ c.loop-x.invariant.1)
+    ]
 
 pub returns : goal.returns
 unfolding in_degree
-returns c =
-    let h = host_in c.args.self.now in
-    count-is (edge_arrives h c.args.t) (length h.edges) _ _ c.filter.ensures.source c.filter.ensures.closure c.edge_slots.ensures (λ x b f k. search (rules, tests)) c.count.ensures.ran
+returns c = rw (← c.edge_slots-x-end.ensures) (count-end _ _ _ (omega arith) _ c.loop-x.invariant.1)

@@ -1,12 +1,22 @@
--- `out_degree` meets its contract: the edges are counted by number.
-use Rattle.std.proofs.Common.{rules, tests, length}
+use Rattle.std.proofs.Common.{refl, ◌∙◌, arith}
+use Rattle.meaning.specs.Basics.{count}
 use Rattle.meaning.specs.Matching.{edge_leaves, out_degree}
-use Rattle.graph.specs.Hosts.{host_in}
-use Rattle.laws.specs.Ranges.{count-is}
+use Rattle.meaning.specs.Laws.Loops.{count_yes, count_no, count-end}
 use Rattle.graph.proofs.Graph.out_degree.Goals as goal
+use Rattle.graph.proofs.Graph.out_degree.Goals.{then-edge_leaves, else-edge_leaves}
+
+pub loop-x-init : goal.loop-x-init
+unfolding count
+loop-x-init c = (omega arith, refl)
+
+pub loop-x-preserved : goal.loop-x-preserved
+loop-x-preserved c =
+    let e = c.edge_leaves.ensures in
+    elim c.if-edge_leaves.branch [
+      | then-edge_leaves b ↦ (omega (arith, b.leaving-is, c.loop-x.invariant.0), b.leaving-is ∙ count_yes _ _ e b.if-edge_leaves.true _ c.loop-x.invariant.1)
+      | else-edge_leaves b ↦ (omega (arith, b.leaving-is, c.loop-x.invariant.0), b.leaving-is ∙ count_no _ _ e b.if-edge_leaves.false _ c.loop-x.invariant.1)
+    ]
 
 pub returns : goal.returns
 unfolding out_degree
-returns c =
-    let h = host_in c.args.self.now in
-    count-is (edge_leaves h c.args.s) (length h.edges) _ _ c.filter.ensures.source c.filter.ensures.closure c.edge_slots.ensures (λ x b f k. search (rules, tests)) c.count.ensures.ran
+returns c = rw (← c.edge_slots-x-end.ensures) (count-end _ _ _ (omega arith) _ c.loop-x.invariant.1)

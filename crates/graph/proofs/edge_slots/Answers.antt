@@ -1,6 +1,6 @@
 -- `edge_slots` meets its contract: the layout holds the length of a slot.
 use Rattle.graph.proofs.Slots.{edge-slots}
-use Rattle.graph.proofs.Graph.edge_slots.Goals as goal
+use Rattle.graph.proofs.edge_slots.Goals as goal
 
 pub returns : goal.returns
-returns c = edge-slots c.args.self.now.legal.sized c.args.self.now.edges.now
+returns c = edge-slots c.requires c.args.edges.now
