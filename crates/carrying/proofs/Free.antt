@@ -8,7 +8,7 @@ use Rattle.std.specs.Bool.{MatchBool}
 use Rattle.std.specs.List.{AllWithin, HoldsAt, range_with_len}
 use Rattle.std.proofs.Common.{subst}
 use Rattle.std.proofs.lemmas.List.FromFn.{length-range_with_len, get_or-range_with_len}
-use lib.ListN.{length, drop, length-drop}
+use lib.ListN.{length, drop, length-drop, get_or-eq_default}
 use lib.Seq.{get_or-drop}
 use Rattle.meaning.specs.Basics.{every}
 use Rattle.meaning.specs.Layout.{Slot, free, is_live, live_at, read_nodes, read_edges}
@@ -79,3 +79,9 @@ module _ (L : Layout) (nodes edges : List ℕ) where
   pub live-there : (t : Table) (x : ℕ) → live_in L nodes edges t x ≡ true → x < slots_in L nodes edges t
   live-there Nodes x = live_at_lt (read_nodes L nodes) x
   live-there Edges x = live_at_lt (read_edges L edges) x
+
+-- there is no live slot behind the last
+pub live-behind : (L : Layout) (nodes edges : List ℕ) (t : Table) (x : ℕ) → slots_in L nodes edges t ≤ x → live_in L nodes edges t x ≡ false
+unfolding is_live
+live-behind L nodes edges Nodes x h = ap is_live (get_or-eq_default (read_nodes L nodes) free {n = x} h)
+live-behind L nodes edges Edges x h = ap is_live (get_or-eq_default (read_edges L edges) free {n = x} h)

@@ -70,13 +70,17 @@ fn labels_fit(host: &Graph, which: Table, most: usize) -> bool
     (0..n).all(|x| atoms_in(host, which, x) <= most)
 }
 
-// Whether slot x of a table is there and live.
-fn is_live(host: &Graph, which: Table, x: usize) -> bool
+// Whether slot x of a table of n slots is there and live.
+fn is_live(host: &Graph, which: Table, n: usize, x: usize) -> bool
+    requires { n ≡ slots_of host.now which }
     ensures { result ≡ live_in host.now.layout host.now.nodes.now host.now.edges.now which x }
 {
+    if x >= n {
+        return false;
+    }
     match which {
-        Table::Nodes => slots::live_slot(host.nodes, host.layout.node, x),
-        Table::Edges => slots::live_slot(host.edges, host.layout.edge, x),
+        Table::Nodes => host.node_live(x),
+        Table::Edges => host.edge_live(x),
     }
 }
 
@@ -85,7 +89,7 @@ fn free_from(host: &Graph, which: Table, n: usize) -> bool
     ensures { result ≡ free_from_in host.now.layout host.now.nodes.now host.now.edges.now which n }
 {
     let end = host.slots_in(which);
-    (n..end).all(|x| !is_live(host, which, x))
+    (n..end).all(|x| !is_live(host, which, end, x))
 }
 
 // Whether a table fits in n slots whose labels have at most so many atoms.
@@ -165,14 +169,15 @@ fn in_hand(a: &[u8]) -> Label
     Label { len, atoms }
 }
 
-// Carries a node's slot, or frees it where there is no live one.
-fn carry_node(host: &Graph, to: Layout, x: usize, out: &mut [u8])
+// Carries a node's slot of a table of n, or frees it where there is no live one.
+fn carry_node(host: &Graph, to: Layout, n: usize, x: usize, out: &mut [u8])
     requires sized { Sized to }
+    requires n_value { n ≡ slots_of host.now Table.Nodes }
     requires x_in_bounds { x < length out.old / slot_length to Table.Nodes }
     requires x_len_bound { length (label_in host.now.layout host.now.nodes.now host.now.edges.now Table.Nodes x) ≤ to.atoms }
     ensures { out.new ≡ stored (slot_length to Table.Nodes) x (slot_carried host.now.layout to host.now.nodes.now host.now.edges.now Table.Nodes x) out.old }
 {
-    if is_live(host, Table::Nodes, x) {
+    if is_live(host, Table::Nodes, n, x) {
         let mark = host.node_mark(x);
         let root = host.node_root(x);
         let Label { len, atoms } = in_hand(host.node_label(x));
@@ -182,14 +187,15 @@ fn carry_node(host: &Graph, to: Layout, x: usize, out: &mut [u8])
     }
 }
 
-// Carries an edge's slot, or frees it where there is no live one.
-fn carry_edge(host: &Graph, to: Layout, x: usize, out: &mut [u8])
+// Carries an edge's slot likewise.
+fn carry_edge(host: &Graph, to: Layout, n: usize, x: usize, out: &mut [u8])
     requires sized { Sized to }
+    requires n_value { n ≡ slots_of host.now Table.Edges }
     requires x_in_bounds { x < length out.old / slot_length to Table.Edges }
     requires x_len_bound { length (label_in host.now.layout host.now.nodes.now host.now.edges.now Table.Edges x) ≤ to.atoms }
     ensures { out.new ≡ stored (slot_length to Table.Edges) x (slot_carried host.now.layout to host.now.nodes.now host.now.edges.now Table.Edges x) out.old }
 {
-    if is_live(host, Table::Edges, x) {
+    if is_live(host, Table::Edges, n, x) {
         let mark = host.edge_mark(x);
         let source = host.edge_source(x);
         let target = host.edge_target(x);
@@ -200,16 +206,17 @@ fn carry_edge(host: &Graph, to: Layout, x: usize, out: &mut [u8])
     }
 }
 
-// Carries slot x of a table.
-fn carry_slot(host: &Graph, to: Layout, which: Table, x: usize, out: &mut [u8])
+// Carries slot x of a table of n slots.
+fn carry_slot(host: &Graph, to: Layout, which: Table, n: usize, x: usize, out: &mut [u8])
     requires sized { Sized to }
+    requires n_value { n ≡ slots_of host.now which }
     requires x_in_bounds { x < length out.old / slot_length to which }
     requires x_len_bound { length (label_in host.now.layout host.now.nodes.now host.now.edges.now which x) ≤ to.atoms }
     ensures { out.new ≡ stored (slot_length to which) x (slot_carried host.now.layout to host.now.nodes.now host.now.edges.now which x) out.old }
 {
     match which {
-        Table::Nodes => carry_node(host, to, x, out),
-        Table::Edges => carry_edge(host, to, x, out),
+        Table::Nodes => carry_node(host, to, n, x, out),
+        Table::Edges => carry_edge(host, to, n, x, out),
     }
 }
 
@@ -220,8 +227,10 @@ fn carry_slots(host: &Graph, to: Layout, which: Table, n: usize, out: &mut [u8])
     requires atoms_value { labels_fit_in host.now.layout host.now.nodes.now host.now.edges.now which to.atoms ≡ true }
     ensures { out.new ≡ table_carried host.now.layout to host.now.nodes.now host.now.edges.now which n }
 {
+    // divided out once: what is asked of `host` between writes is asked anew
+    let there = host.slots_in(which);
     for x in 0..n {
-        carry_slot(host, to, which, x, out);
+        carry_slot(host, to, which, there, x, out);
     }
 }
 

@@ -11,6 +11,7 @@ carry_slot-requires c =
     let a = c.args in
     record {
       sized = c.requires.sized;
+      n_value = c.slots_in-there.ensures;
       x_in_bounds = rw c.loop-x.invariant.0 (so_far-room a.host.now.layout a.to a.host.now.nodes.now a.host.now.edges.now a.n a.out.now a.which c.requires.out_len c.requires.atoms_value c.loop-x.x (omega arith));
       x_len_bound = fit_at a.host.now.layout a.host.now.nodes.now a.host.now.edges.now a.to.atoms a.which c.requires.atoms_value c.loop-x.x;
     }
