@@ -57,7 +57,7 @@ pub fn read_field(bytes: &[u8], at: usize) -> Option<Result<Field, CutShort>>
 }
 
 // The fields of bytes, one after the other, from a place on. One that is cut short is the last.
-#[derive(Drop)]
+#[derive(Clone, Copy)]
 pub struct Fields<'a> {
     pub bytes: &'a [u8],
     pub place: usize,
@@ -81,6 +81,7 @@ impl Iterator for Fields<'_> {
 
     ghost remaining = { λ s. at_most (length s.bytes.now - s.place) };
 
+    #[inline(always)]
     fn next(&mut self) -> Option<Result<Field, CutShort>> {
         let found = read_field(self.bytes, self.place);
         match found {
