@@ -121,7 +121,7 @@ module _ (L : Layout) (bs nodes edges : List ℕ) where
     module _ (node_places edge_places : List ℕ) (g : GraphAt) where
       pub is-graph : ReadsGraph bs L.atoms node_places edge_places (Ok g) → (L.nodes ≤ length node_places) × (L.edges ≤ length edge_places)
           → Graph L bs node_places edge_places g
-      is-graph x h = record { listed = x.0; found = graph-found bs x.2; is = x.3; nodes_kept = h.0; edges_kept = h.1 }
+      is-graph x h = record { listed = x.0; found = graph-found bs x.1; is = x.2; nodes_kept = h.0; edges_kept = h.1 }
 
       -- A graph of which nothing is refused.
 

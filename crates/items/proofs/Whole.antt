@@ -64,13 +64,12 @@ module _ (bs : List ℕ) where
               graph-6 x = then bs _ o.0 (then bs _ n.1 (then bs _ p.0 (then bs _ m.1 (then bs _ q.0 (breaks bs _ x)))))
 
               pub graph-read : {fits : Bool} → Ends bs d (Ok tt) → fits ≡ both ns.fits es.fits
-                  → ReadsGraph bs most ps qs (Ok (record { nodes = ns.count; edges = es.count; fits = fits }))
+                  → ReadsGraph bs most ps qs (Ok (record { next = d; nodes = ns.count; edges = es.count; fits = fits }))
               unfolding graph labels_fit
               graph-read x f =
                   let i = n.2 in
                   let j = m.2 in (
                     _,
-                    d,
                     then bs _ o.0 (then bs _ n.1 (then bs _ p.0 (then bs _ m.1 (then bs _ q.0 (then bs _ x (done bs d _)))))),
                     record { nodes = i.count; edges = j.count; fits = f ∙ rw (i.fits, j.fits); nodes_at = i.places; edges_at = j.places },
                   )

@@ -126,5 +126,5 @@ module _ (bs : List ℕ) where
 
   abbrev pub ReadsGraph : ℕ → (node_places edge_places : List ℕ) → Result GraphAt BrokenAt → Type 0
   ReadsGraph most node_places edge_places (Ok r) =
-      (listed : Listed) × (end : ℕ) × Reads bs 0 graph end listed × IsGraph most node_places edge_places r listed
+      (listed : Listed) × Reads bs 0 graph r.next listed × IsGraph most node_places edge_places r listed
   ReadsGraph most node_places edge_places (Err b) = Breaks bs 0 graph b

@@ -177,9 +177,10 @@ fn read_end(text: &[u8], at: usize) -> Result<(), BrokenAt>
     }
 }
 
-// A graph that was read: how many nodes and edges it has, and whether all their labels can be held.
+// A graph that was read, with the place behind it: how many nodes and edges it has, and whether all their labels can be held.
 #[derive(Clone, Copy)]
 pub struct GraphAt {
+    pub next: usize,
     pub nodes: usize,
     pub edges: usize,
     pub fits: bool,
@@ -202,6 +203,7 @@ pub fn read_graph(
     let close = parsing::expect(text, edges.next, b']')?;
     read_end(text, close)?;
     Ok(GraphAt {
+        next: close,
         nodes: nodes.count,
         edges: edges.count,
         fits: nodes.fits && edges.fits,
