@@ -23,6 +23,9 @@ use Rattle.agreeing.specs.Trials.{next-new, next-old}
 use Rattle.agreeing.specs.Candidates.{Likely}
 use Rattle.matching.specs.Next.{Meets, NextLikely}
 
+pub clash : (a b : Bool) → a ≡ false → a ≡ b → b ≡ true → ⊥
+clash a b f e t = let z : ◌≡◌ {A = Bool} true false = sym t ∙ sym e ∙ f in let z : ◌≡◌ {A = ℕ} 0 1 = cc in omega arith
+
 -- the slots so far, with one more
 module _ (at : List ℕ) (i y j : ℕ) (room : i < length at) where
   slot-new : j ≡ i → node_slot (take i at ++ y ∷ []) j ≡ y
